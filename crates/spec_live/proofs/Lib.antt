@@ -12,6 +12,7 @@ pub mod SettingLaws
 pub mod Fewer
 pub mod HomeLaws
 pub mod RecyclingLaws
+pub mod Marking
 pub mod Standing
 pub mod Followers
 pub mod EditorLaws

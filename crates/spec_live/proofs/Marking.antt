@@ -1,6 +1,6 @@
 -- What changes becomes due: each change of the objects, whatever they are, leaves an object due or as it was.
-use Rattle.std.proofs.Common.{◌≡◌, ℕ, suc, List, [], ◌∷◌, ◌++◌, Option, Some, None, inl, inr, refl, sym, ◌∙◌, ap, subst, length, Bool, true, false, cond, eqb, not, ◌&&◌, ◌||◌, map}
-use Rattle.std.proofs.lemmas.Bool.{cases_eq, eqb-true, false≢true, and_parts, or_parts, not-true}
+use Rattle.std.proofs.Common.{◌≡◌, ℕ, List, [], ◌∷◌, ◌++◌, Option, Some, None, inl, inr, refl, sym, ◌∙◌, ap, subst, length, Bool, true, false, cond, eqb, not, ◌&&◌, map}
+use Rattle.std.proofs.lemmas.Bool.{cases_eq, eqb-true, false≢true, and_parts, or_parts}
 use Rattle.std.proofs.lemmas.Option.{slice_get-map}
 use Rattle.std.specs.List.{slice_get}
 use Rattle.std.specs.Option.{option_map, option_and_then, option_map_or}
@@ -19,8 +19,8 @@ use Rattle.spec_live.specs.Setting.{with_lines, lines_set}
 use Rattle.spec_live.specs.Recycling.{without_ties, is_tied, untie, untied, way_home, sent_home, gone_entry, is_exit_of, exit_gone, without_exits, exits_gone, vanished, taken_away, recycled}
 use Rattle.spec_live.specs.Marks.{unmarked, marked_from, change_told}
 use Rattle.spec_live.proofs.Lists.{get_changed_same, get_changed_other, get_more, get_last, read_more}
-use Rattle.spec_live.proofs.Readers.{kind_alike, place_alike, list_change, list_changed, list_named}
-use Rattle.spec_live.proofs.Savings.{object_relinked, list_relinked, saving_relinked, list_resaved}
+use Rattle.spec_live.proofs.Readers.{kind_alike, place_alike, list_change}
+use Rattle.spec_live.proofs.Savings.{object_relinked, list_relinked, saving_relinked}
 
 -- One change after the other.
 
@@ -65,26 +65,32 @@ entry_due e g h early = absurd (false≢true (sym early ∙ ap (λ s. is_due s) 
 entry_same : (e g : Entry) → g.saving ≡ e.saving → g.object ≡ e.object → is_due g.saving ≡ false → HasEntry e g
 entry_same e g s o early = record { early = ap (λ t. is_due t) (sym s) ∙ early; object = o }
 
+-- what the readers see in an entry that may be there
+abbrev saving_seen : Option Entry → Saving
+saving_seen o = option_map_or (λ (x : Entry). x.saving) o Due
+
+abbrev object_seen : Option Entry → Option Object
+object_seen o = option_map (λ (x : Entry). x.object) o
+
 -- where f changed what is there
 fields_at : (es fs : List Entry) (k : ℕ) (f : Entry → Entry) → KeepsEntry f → slice_get fs k ≡ option_map f (slice_get es k) → is_due (saving_in fs k) ≡ false → HasFields es fs k
 unfolding saving_in object_in
 fields_at es fs k f h e early =
-    let both : (is_due (option_map_or (λ (x : Entry). x.saving) (slice_get es k) Due) ≡ false) × (option_map (λ (x : Entry). x.object) (option_map f (slice_get es k)) ≡ option_map (λ (x : Entry). x.object) (slice_get es k)) =
-        by_cases (slice_get es k) (ap (λ o. is_due (option_map_or (λ (x : Entry). x.saving) o Due)) (sym e) ∙ early) in
-    record { early = both.0; object = ap (λ o. option_map (λ (x : Entry). x.object) o) e ∙ both.1 }
+    let late : is_due (saving_seen (option_map f (slice_get es k))) ≡ false = ap (λ o. is_due (saving_seen o)) (sym e) ∙ early in
+    record { early = saving_by (slice_get es k) late; object = ap (λ o. object_seen o) e ∙ object_by (slice_get es k) late }
   where
-    by_cases : (o : Option Entry) → is_due (option_map_or (λ (x : Entry). x.saving) (option_map f o) Due) ≡ false
-        → (is_due (option_map_or (λ (x : Entry). x.saving) o Due) ≡ false) × (option_map (λ (x : Entry). x.object) (option_map f o) ≡ option_map (λ (x : Entry). x.object) o)
-    by_cases None q = absurd (false≢true (sym q))
-    by_cases (Some x) q = let t : HasEntry x (f x) = h x q in (t.early, ap (λ z. Some z) t.object)
+    saving_by : (o : Option Entry) → is_due (saving_seen (option_map f o)) ≡ false → is_due (saving_seen o) ≡ false
+    saving_by None late = late
+    saving_by (Some x) late = (h x late).early
+
+    object_by : (o : Option Entry) → is_due (saving_seen (option_map f o)) ≡ false → object_seen (option_map f o) ≡ object_seen o
+    object_by None late = refl
+    object_by (Some x) late = ap (λ z. Some z) (h x late).object
 
 -- where nothing changed
 fields_kept : (es fs : List Entry) (k : ℕ) → slice_get fs k ≡ slice_get es k → is_due (saving_in fs k) ≡ false → HasFields es fs k
 unfolding saving_in object_in
-fields_kept es fs k e early = record {
-  early = ap (λ o. is_due (option_map_or (λ (x : Entry). x.saving) o Due)) (sym e) ∙ early;
-  object = ap (λ o. option_map (λ (x : Entry). x.object) o) e;
-}
+fields_kept es fs k e early = record { early = ap (λ o. is_due (saving_seen o)) (sym e) ∙ early; object = ap (λ o. object_seen o) e }
 
 fields_mapped : (f : Entry → Entry) (es : List Entry) → KeepsEntry f → KeepsFields es (map f es)
 fields_mapped f es h = λ k early. fields_at es (map f es) k f h (slice_get-map f es k) early
@@ -219,19 +225,24 @@ links_decoded a b h =
     let lists : (is_number a.content b.content ≡ true) × (is_number a.exit b.exit ≡ true) = and_parts _ _ both.0 in
     links_same b a (sym (number_same a.content b.content lists.0)) (sym (number_same a.exit b.exit lists.1)) (sym (number_same a.next b.next both.1))
 
-not_due : (b : Bool) (s : Saving) → is_due (cond (not b) Due s) ≡ false → (b ≡ true) × (is_due s ≡ false)
-not_due true s h = (refl, h)
-not_due false s h = absurd (false≢true (sym h))
+same_by : (b : Bool) (s : Saving) → is_due (cond (not b) Due s) ≡ false → b ≡ true
+same_by true s h = refl
+same_by false s h = absurd (false≢true (sym h))
+
+undue_by : (b : Bool) (s : Saving) → is_due (cond (not b) Due s) ≡ false → is_due s ≡ false
+undue_by true s h = h
+undue_by false s h = absurd (false≢true (sym h))
 
 marked_relinked : (es fs : List Entry) → KeepsFields es fs → Marked es (relinked es fs)
 marked_relinked es fs fields = λ k early.
-    let both : (same_links (links_in es k) (links_in fs k) ≡ true) × (is_due (saving_in fs k) ≡ false) =
-        not_due (same_links (links_in es k) (links_in fs k)) (saving_in fs k) (ap (λ s. is_due s) (sym (saving_relinked es fs k)) ∙ early) in
-    let a : HasFields es fs k = fields k both.1 in
+    let a : Links = links_in es k in
+    let b : Links = links_in fs k in
+    let late : is_due (cond (not (same_links a b)) Due (saving_in fs k)) ≡ false = ap (λ s. is_due s) (sym (saving_relinked es fs k)) ∙ early in
+    let was : HasFields es fs k = fields k (undue_by (same_links a b) (saving_in fs k) late) in
     record {
-      early = a.early;
-      object = object_relinked es fs k ∙ a.object;
-      links = links_alike fs (relinked es fs) k (object_relinked es fs k) (λ v p. list_relinked v es fs p) ∙ links_decoded (links_in es k) (links_in fs k) both.0;
+      early = was.early;
+      object = object_relinked es fs k ∙ was.object;
+      links = links_alike fs (relinked es fs) k (object_relinked es fs k) (λ v p. list_relinked v es fs p) ∙ links_decoded a b (same_by (same_links a b) (saving_in fs k) late);
     }
 
 -- Moving.
