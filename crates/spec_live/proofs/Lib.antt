@@ -13,6 +13,7 @@ pub mod Fewer
 pub mod HomeLaws
 pub mod RecyclingLaws
 pub mod Dues
+pub mod Marking
 pub mod Standing
 pub mod Followers
 pub mod EditorLaws
