@@ -12,8 +12,9 @@ pub mod SettingLaws
 pub mod Fewer
 pub mod HomeLaws
 pub mod RecyclingLaws
-pub mod Marking
+pub mod Dues
 pub mod Standing
+pub mod Marking
 pub mod Followers
 pub mod EditorLaws
 pub mod Keeping

@@ -1,12 +1,8 @@
 -- What the readers of the objects give where the marks of objects change.
-use Rattle.std.proofs.Common.{◌≡◌, ℕ, ◌+◌, ◌<◌, zero, suc, List, [], ◌∷◌, Option, Some, None, refl, sym, ◌∙◌, ap, length, arith, Bool, true, false, cond, not, map}
+use Rattle.std.proofs.Common.{◌≡◌, ℕ, ◌+◌, ◌<◌, zero, suc, List, [], ◌∷◌, Option, Some, None, refl, ◌∙◌, ap, length, arith, Bool, true, false, cond, not}
 use Rattle.std.proofs.lemmas.Option.{slice_get-map}
 use Rattle.std.specs.List.{slice_get}
 use Rattle.std.specs.Option.{option_map, option_and_then, option_map_or}
-use Rattle.muck_model.specs.declared.dbref.Flags.{Flags}
-use Rattle.muck_model.specs.declared.dbref.Kind.{Kind}
-use Rattle.spec_live.specs.declared.object.Object.{Object}
-use Rattle.spec_live.specs.declared.mark.Mark.{Mark}
 use Rattle.spec_live.specs.declared.saving.Saving.{Saving}
 use Rattle.spec_live.specs.declared.saving.Saving.TheVariants.{Due}
 use Rattle.spec_live.specs.Objects.{Entry, object_in, list_of, list_in, mark_in, kind_in, flags_in, place_in, due}
