@@ -1,5 +1,6 @@
 pub mod Chains
 pub mod Lists
+pub mod Savings
 pub mod Readers
 pub mod KindLaws
 pub mod Orders
@@ -11,6 +12,9 @@ pub mod SettingLaws
 pub mod Fewer
 pub mod HomeLaws
 pub mod RecyclingLaws
+pub mod Dues
+pub mod Marking
+pub mod Resaved
 pub mod Standing
 pub mod Followers
 pub mod EditorLaws
