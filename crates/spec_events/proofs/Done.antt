@@ -56,7 +56,7 @@ use Rattle.spec_events.proofs.Typed.{MayRetune, typed_retunes, waited_open}
 use Rattle.spec_events.proofs.Endings.{Lasting, lasting_same, lasting_both, lasting_changed, lasting_without, lasting_up, lasting_after, process_number, IsTold, told_settled, processes_remain}
 use Rattle.spec_events.proofs.Lapses.{IsLapsing, marks_lapse, by_lapse, steady_may, lasting_lapse}
 use Rattle.spec_events.proofs.Killed.{lasting_left}
-use Rattle.spec_events.proofs.Login.{screen_at_login, marked_at_login, told_notes}
+use Rattle.spec_events.proofs.Login.{screen_at_login, told_notes}
 
 -- whether a world is dead, the dump that runs in it, and the second
 abbrev pub state_of : World → Bool × Still
@@ -463,10 +463,10 @@ going_quietly w v q = record {
 many_alike : (es fs : List Entry) → map without_props fs ≡ map without_props es → length fs ≡ length es
 many_alike es fs e = sym (length_map without_props fs) ∙ ap (λ (os : List Entry). length os) e ∙ length_map without_props es
 
-pub going_live : (d : ℕ) (f : Change) → Seating d f → (w : World) → Marked w.live.objects (f w.live).objects → Going w (on_live f w)
-going_live d f p w marked = record {
+pub going_live : (d : ℕ) (f : Change) → Seating d f → (w : World) → Going w (on_live f w)
+going_live d f p w = record {
   no_fewer = as_many w.live.objects (f w.live).objects (many_alike w.live.objects (f w.live).objects (p.law w.live).objects);
-  marked = marked;
+  marked = (p.law w.live).marked;
   numbers = (p.law w.live).numbers;
   tuned = in_range_as w.live (f w.live) (p.law w.live).tune;
   dead = refl;
@@ -488,9 +488,9 @@ going_resaved f w marked = record {
 
 line_going : (d : ℕ) (w : World) (taker : Option ℤ) (player : Option Dbref) (editor : Option EditState) (line : List ℕ) (lines : List (List ℕ)) → player_in d w.live.board ≡ player →
     Going w (line_for taker player editor d line (on_live (waits d lines) w))
-unfolding followed waits
+unfolding followed
 line_going d w (Some pid) player editor line lines e = going_quietly w _ (given_quietly d pid line lines w)
-line_going d w None None editor line lines e = going_live d (waits d lines ▸ at_login d line) (seating_line d line lines) w (marked_at_login d line (waits d lines w.live))
+line_going d w None None editor line lines e = going_live d (waits d lines ▸ at_login d line) (seating_line d line lines) w
 line_going d w None (Some player) None line lines e = going_open _ _ w _ (open_in_world d player line lines w e)
 line_going d w None (Some player) (Some s) line lines e = going_open _ _ w _ (open_in_editor d player s line lines w)
 

@@ -4,11 +4,9 @@ use Rattle.std.specs.Prelude.{codes, map, slice_get}
 use Rattle.std.specs.Option.{option_and_then}
 use Rattle.muck_model.specs.declared.dbref.Dbref.{Dbref}
 use Rattle.spec_live.specs.Objects.{Entry, mark_in}
-use Rattle.spec_live.specs.Saving.{Marked}
 use Rattle.spec_live.specs.Boards.{leaving_one}
 use Rattle.spec_live.specs.Lives.{Live, Change, followed, reading, either, ◌▸◌, tell, leave, enter}
 use Rattle.spec_live.proofs.Keeping.{Keeps, keeps_followed}
-use Rattle.spec_live.proofs.Marking.{marked_itself, marked_as}
 use Rattle.spec_rights.specs.declared.act.Actor.{Actor}
 use Rattle.spec_rights.specs.Licence.{Licensed, nobody}
 use Rattle.spec_rights.proofs.Licences.{Quiet, Stays, Always, itself, ends_stays, licensed, stays_behind, whole_ends}
@@ -78,15 +76,6 @@ screen_at_login d line w =
     at false true connects name word = screen_quiet d _ (quiet_who_shown d) w
     at false false true name word = screen_connecting d name word w
     at false false false name word = screen_quiet d (tell d welcome) (quiet_tell d welcome) w
-
--- what changed is due
-screen_marked : (d : ℕ) (w v : Live) → Screen d w v → Marked w.objects v.objects
-unfolding enter
-screen_marked d w v (inl same) = marked_as w.objects w.objects v.objects same.objects (marked_itself w.objects)
-screen_marked d w v (inr found) = found.1.marked
-
-pub marked_at_login : (d : ℕ) (line : List ℕ) (w : Live) → Marked w.objects (at_login d line w).objects
-marked_at_login d line w = screen_marked d w (at_login d line w) (screen_at_login d line w)
 
 -- Where notes alone differ, what is to be told is the same.
 

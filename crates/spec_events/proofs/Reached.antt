@@ -16,7 +16,7 @@ use Rattle.spec_live.specs.Output.{bytes_of}
 use Rattle.spec_live.specs.Connections.{Connection, has_number, placed, without, newcomer, connections_most, holds, lined}
 use Rattle.spec_live.specs.Boards.{player_in, opened, closed, line_added, bytes_taken, first_tune, early_board}
 use Rattle.spec_live.specs.Lives.{Live, Change, followed, reading, on_board}
-use Rattle.spec_live.proofs.Marking.{marked_itself, marked_stored, marked_failed}
+use Rattle.spec_live.proofs.Marking.{marked_stored, marked_failed}
 use Rattle.spec_admin.specs.declared.word.Parameter.TheVariants.{InstrSlice, PreemptUnits, M1Units, M2Units, ProcessLimit, PlayerProcesses, MpiCommands, DumpInterval}
 use Rattle.spec_admin.specs.Parameters.{IsInRange}
 use Rattle.spec_commands.specs.Talk.{welcome, parted, gone_away}
@@ -124,11 +124,11 @@ pub rising-happened : (event : Event) (party : ℕ) (w : World) → is_allowed w
 unfolding opened line_added bytes_taken
 rising-happened (Opened d) party w l h =
     rising-placed (newcomer d welcome) w.live.board.connections (no_connection d w (party == 0) w.stopping (nat_lt (length w.live.board.connections) connections_most) l) h
-rising-happened (Input d line) party w l h = going-rises w _ (going_live d (on_board (line_added d line)) (seating_one d (lined line) (λ c. refl)) w (marked_itself w.live.objects)) h
+rising-happened (Input d line) party w l h = going-rises w _ (going_live d (on_board (line_added d line)) (seating_one d (lined line) (λ c. refl)) w) h
 rising-happened (Closed d) party w l h = rising-gone_away d w.live h
 rising-happened (Exec d) party w l h = going-rises w _ (done_going d w (connection d w) refl) h
 rising-happened (Slice pid) party w l h = going-rises w _ (sliced_going pid w) h
-rising-happened (Take d n) party w l h = going-rises w _ (going_live d (on_board (bytes_taken d n)) (seating_one d _ (λ c. refl)) w (marked_itself w.live.objects)) h
+rising-happened (Take d n) party w l h = going-rises w _ (going_live d (on_board (bytes_taken d n)) (seating_one d _ (λ c. refl)) w) h
 rising-happened (Stored k) party w l h = going-rises w _ (stored-going k w) h
 rising-happened (DumpFailed k) party w l h = going-rises w _ (failed-going w) h
 rising-happened event party w l h = h

@@ -11,7 +11,6 @@ use Rattle.spec_live.specs.Connections.{Connection, has_number, placed, without,
 use Rattle.spec_live.specs.Saving.{done, due_again}
 use Rattle.spec_live.specs.Boards.{player_in, opened, closed, line_added, bytes_taken}
 use Rattle.spec_live.specs.Lives.{Live, followed, reading, on_board}
-use Rattle.spec_live.proofs.Marking.{marked_itself}
 use Rattle.spec_commands.specs.Talk.{welcome, parted, gone_away}
 use Rattle.spec_commands.specs.inner.Rising.{IsAbove, IsRising}
 use Rattle.spec_commands.proofs.Numbered.{numbers, seating_quiet, seating_one}
@@ -188,12 +187,12 @@ match_happened : (event : Event) (party : ℕ) (w : World) (ts : List Talk) → 
 unfolding opened line_added bytes_taken
 match_happened (Opened d) party w ts h m = match_opened w.live.board.connections ts (newcomer d welcome) m
 match_happened (Input d line) party w ts h m =
-    match_changed _ _ ts d (heard line) (λ t. refl) (λ t. refl) (going_live d (on_board (line_added d line)) (seating_one d (lined line) (λ c. refl)) w (marked_itself w.live.objects)).numbers m
+    match_changed _ _ ts d (heard line) (λ t. refl) (λ t. refl) (going_live d (on_board (line_added d line)) (seating_one d (lined line) (λ c. refl)) w).numbers m
 match_happened (Closed d) party w ts h m = match_closed d w w.live ts h m
 match_happened (Exec d) party w ts h m = match_same _ _ ts (done_going d w (connection d w) refl).numbers m
 match_happened (Slice pid) party w ts h m = match_same _ _ ts (sliced_going pid w).numbers m
 match_happened (Take d n) party w ts h m =
-    match_changed _ _ ts d (given_out _ n) (λ t. refl) (λ t. refl) (going_live d (on_board (bytes_taken d n)) (seating_one d _ (λ c. refl)) w (marked_itself w.live.objects)).numbers m
+    match_changed _ _ ts d (given_out _ n) (λ t. refl) (λ t. refl) (going_live d (on_board (bytes_taken d n)) (seating_one d _ (λ c. refl)) w).numbers m
 match_happened (Stored k) party w ts h m = match_same _ _ ts (told_numbers (askers_of w.dumps) (dump_stored k) (on_live (resaved done) w)) m
 match_happened (DumpFailed k) party w ts h m = match_same _ _ ts (told_numbers (askers_of w.dumps) dump_failed (on_live (resaved due_again) w)) m
 match_happened event party w ts h m = m
