@@ -1,6 +1,6 @@
 -- Dumps by the marks of the objects.
 use Rattle.std.proofs.Common.{◌≡◌, ℕ, ◌≤◌, Bool, true, false, List, [], ◌∷◌, ◌++◌, length, take, refl, sym, ap, ◌∙◌, subst, arith, Option, Some, None, Result, Ok, Err, OnOk}
-use Rattle.std.specs.Prelude.{slice_get, if◌then◌else◌}
+use Rattle.std.specs.Prelude.{if◌then◌else◌}
 use Rattle.std.proofs.lemmas.List.{take-append-le}
 use Rattle.muck_model.specs.declared.event.Entry.{Entry}
 use Rattle.muck_model.specs.declared.event.Event.TheVariants.{Cut}
@@ -26,7 +26,7 @@ use Rattle.spec_events.specs.Logged.{is_cut}
 use Rattle.spec_dumps.specs.Fronts.{cut_behind, last_cut, at_cut}
 use Rattle.spec_dumps.specs.inner.Holding.{Quietly}
 use Rattle.spec_dumps.proofs.Fronts.{last_cut_short, at_cut_quiet}
-use Rattle.spec_dumps.proofs.Undue.{undue_as_cut}
+use Rattle.spec_dumps.proofs.Undue.{kept_undue}
 use Rattle.muck_dumping.specs.declared.parts.Pending.{Pending}
 use Rattle.muck_dumping.specs.inner.Dumps.{by, ending_event}
 use Rattle.muck_dumping.specs.inner.Between.{IsBatchOf, IsBatchOfWorld, IsBatchAtCut, HoldsThese, GoesByMarks, base_in}
@@ -62,7 +62,7 @@ base_marked marks o x h is on goes_on goes = ap base_in is ∙ ap (λ b. if b th
 -- of which it keeps what isn't due
 pub keeps_undue : (base : List Stored) (h : History) → base ≡ persist (at_cut h.start h.entries).live.objects → KeepsUndue base (now h).live.objects
 unfolding now
-keeps_undue base h is = λ k undue. ap (λ (os : List Stored). slice_get os k) is ∙ undue_as_cut h.start h.entries k undue
+keeps_undue base h is = kept_undue h.start h.entries base is
 
 -- The batch of a world is that of the world behind its Cut, in which only the marks differ.
 
