@@ -11,10 +11,10 @@ use Rattle.muck_model.specs.declared.dbref.Kind.TheVariants.{Room, Thing, Player
 use Rattle.spec_live.specs.declared.object.Object.{Object}
 use Rattle.spec_live.specs.Flags.{no_flags}
 use Rattle.spec_live.specs.Chain.{Member, IsApart, has, without}
-use Rattle.spec_live.specs.Objects.{Entry, dbref_of, nothing, home, same, index_of, is_exit, is_player, is_garbage, may_stand, garbage, object_in, list_of, list_in, mark_in, kind_in, flags_in, place_in, owner_in, home_in, is_vehicle_in, fits_in, path_in, on_object}
+use Rattle.spec_live.specs.Objects.{Entry, dbref_of, nothing, home, same, index_of, is_exit, is_player, is_garbage, may_stand, garbage, object_in, list_of, list_in, mark_in, kind_in, flags_in, place_in, owner_in, home_in, is_vehicle_in, fits_in, path_in}
 use Rattle.spec_live.specs.Moving.{moved}
 use Rattle.spec_live.specs.Setting.{may_link, may_live}
-use Rattle.spec_live.specs.Recycling.{without_ties, untied, wished_home, may_go, way_home, sent_home}
+use Rattle.spec_live.specs.Recycling.{without_ties, untie, untied, wished_home, may_go, way_home, sent_home}
 use Rattle.spec_live.specs.Consistent.{HasLink, HasHome, IsTied, IsOrdered, IsConsistent, StandsIn, MayMove}
 use Rattle.spec_live.proofs.Chains.{member_later, member_none, without_first, apart_first}
 use Rattle.spec_live.proofs.Lists.{length_map, put_other, has_not}
@@ -28,32 +28,32 @@ use Rattle.spec_live.proofs.Checks.{index_only}
 
 pub object_untied : (d k : ℕ) (es : List Entry) → object_in (untied d es) k ≡ option_map (without_ties d) (object_in es k)
 unfolding object_in untied
-object_untied d k es = rw (slice_get-map (on_object (without_ties d)) es k) (by_cases (slice_get es k))
+object_untied d k es = rw (slice_get-map (untie d) es k) (by_cases (slice_get es k))
   where
-    by_cases : (o : Option Entry) → option_map (λ (e : Entry). e.object) (option_map (on_object (without_ties d)) o) ≡ option_map (without_ties d) (option_map (λ (e : Entry). e.object) o)
+    by_cases : (o : Option Entry) → option_map (λ (e : Entry). e.object) (option_map (untie d) o) ≡ option_map (without_ties d) (option_map (λ (e : Entry). e.object) o)
     by_cases None = refl
     by_cases (Some e) = refl
 
 pub list_untied : (v : Bool) (d k : ℕ) (es : List Entry) → list_in v (untied d es) k ≡ list_in v es k
 unfolding list_in untied
-list_untied v d k es = rw (slice_get-map (on_object (without_ties d)) es k) (by_cases v (slice_get es k))
+list_untied v d k es = rw (slice_get-map (untie d) es k) (by_cases v (slice_get es k))
   where
-    by_cases : (v : Bool) (o : Option Entry) → option_map_or (list_of v) (option_map (on_object (without_ties d)) o) [] ≡ option_map_or (list_of v) o []
+    by_cases : (v : Bool) (o : Option Entry) → option_map_or (list_of v) (option_map (untie d) o) [] ≡ option_map_or (list_of v) o []
     by_cases v None = refl
     by_cases true (Some e) = refl
     by_cases false (Some e) = refl
 
 pub mark_untied : (d k : ℕ) (es : List Entry) → mark_in (untied d es) k ≡ mark_in es k
 unfolding mark_in untied
-mark_untied d k es = rw (slice_get-map (on_object (without_ties d)) es k) (by_cases (slice_get es k))
+mark_untied d k es = rw (slice_get-map (untie d) es k) (by_cases (slice_get es k))
   where
-    by_cases : (o : Option Entry) → option_and_then (λ (e : Entry). e.mark) (option_map (on_object (without_ties d)) o) ≡ option_and_then (λ (e : Entry). e.mark) o
+    by_cases : (o : Option Entry) → option_and_then (λ (e : Entry). e.mark) (option_map (untie d) o) ≡ option_and_then (λ (e : Entry). e.mark) o
     by_cases None = refl
     by_cases (Some e) = refl
 
 pub length_untied : (d : ℕ) (es : List Entry) → length (untied d es) ≡ length es
 unfolding untied
-length_untied d es = length_map (on_object (without_ties d)) es
+length_untied d es = length_map (untie d) es
 
 pub kind_untied : (d k : ℕ) (es : List Entry) → kind_in (untied d es) k ≡ kind_in es k
 unfolding kind_in

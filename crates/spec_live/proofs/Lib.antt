@@ -1,5 +1,6 @@
 pub mod Chains
 pub mod Lists
+pub mod Savings
 pub mod Readers
 pub mod KindLaws
 pub mod Orders

@@ -9,34 +9,40 @@ use Rattle.muck_model.specs.declared.dbref.Kind.{Kind}
 use Rattle.muck_model.specs.declared.dbref.Kind.TheVariants.{Garbage}
 use Rattle.spec_live.specs.declared.object.Object.{Object}
 use Rattle.spec_live.specs.declared.mark.Mark.{Mark}
+use Rattle.spec_live.specs.declared.saving.Saving.{Saving}
+use Rattle.spec_live.specs.declared.saving.Saving.TheVariants.{Due}
 use Rattle.spec_live.specs.Chain.{without, put_at}
 use Rattle.spec_live.specs.Flags.{no_flags}
 use Rattle.spec_live.specs.Objects.{Entry, index_of, object_in, list_of, list_in, mark_in, kind_in, flags_in, place_in, fits_in, is_vehicle_in, is_exit, changed_at, on_object, with_object}
-use Rattle.spec_live.specs.Moving.{left_out, put_first, with_place, moved}
+use Rattle.spec_live.specs.Moving.{left_out, put_first, with_place, set_down, moved}
+use Rattle.spec_live.specs.Saving.{saving_in}
 use Rattle.spec_live.proofs.Lists.{length_map, get_changed_same, get_changed_other, length_changed, some_at, same_place, put_same, put_other}
+use Rattle.spec_live.proofs.Savings.{length_relinked, object_relinked, list_relinked, mark_relinked}
 
 -- Two lists of entries that every reader sees alike.
 
-entry_same : (a b : Entry) → a.object ≡ b.object → a.contents ≡ b.contents → a.exits ≡ b.exits → a.mark ≡ b.mark → a ≡ b
-entry_same a b o c x m =
-    let make : Object → List ℕ → List ℕ → Option Mark → Entry = λ o c x m. record { object = o; contents = c; exits = x; mark = m } in
-    ap (λ t. make t a.contents a.exits a.mark) o ∙ ap (λ t. make b.object t a.exits a.mark) c ∙ ap (λ t. make b.object b.contents t a.mark) x ∙ ap (λ t. make b.object b.contents b.exits t) m
+entry_same : (a b : Entry) → a.object ≡ b.object → a.contents ≡ b.contents → a.exits ≡ b.exits → a.mark ≡ b.mark → a.saving ≡ b.saving → a ≡ b
+entry_same a b o c x m s =
+    let make : Object → List ℕ → List ℕ → Option Mark → Saving → Entry = λ o c x m s. record { object = o; contents = c; exits = x; mark = m; saving = s } in
+    ap (λ t. make t a.contents a.exits a.mark a.saving) o ∙ ap (λ t. make b.object t a.exits a.mark a.saving) c ∙ ap (λ t. make b.object b.contents t a.mark a.saving) x
+    ∙ ap (λ t. make b.object b.contents b.exits t a.saving) m ∙ ap (λ t. make b.object b.contents b.exits b.mark t) s
 
 list_ext : (es fs : List Entry) → length es ≡ length fs → ((k : ℕ) → option_map (λ (e : Entry). e.object) (slice_get es k) ≡ option_map (λ (e : Entry). e.object) (slice_get fs k))
     → ((v : Bool) (k : ℕ) → option_map_or (list_of v) (slice_get es k) [] ≡ option_map_or (list_of v) (slice_get fs k) [])
-    → ((k : ℕ) → option_and_then (λ (e : Entry). e.mark) (slice_get es k) ≡ option_and_then (λ (e : Entry). e.mark) (slice_get fs k)) → es ≡ fs
-list_ext [] [] n o l m = refl
-list_ext [] (f ∷ fs) n o l m = absurd (omega arith)
-list_ext (e ∷ es) [] n o l m = absurd (omega arith)
-list_ext (e ∷ es) (f ∷ fs) n o l m =
-    let head : e ≡ f = entry_same e f (cc (o 0)) (l false 0) (l true 0) (m 0) in
-    let rest : es ≡ fs = list_ext es fs (omega arith) (λ k. o (suc k)) (λ v k. l v (suc k)) (λ k. m (suc k)) in
+    → ((k : ℕ) → option_and_then (λ (e : Entry). e.mark) (slice_get es k) ≡ option_and_then (λ (e : Entry). e.mark) (slice_get fs k))
+    → ((k : ℕ) → option_map_or (λ (e : Entry). e.saving) (slice_get es k) Due ≡ option_map_or (λ (e : Entry). e.saving) (slice_get fs k) Due) → es ≡ fs
+list_ext [] [] n o l m s = refl
+list_ext [] (f ∷ fs) n o l m s = absurd (omega arith)
+list_ext (e ∷ es) [] n o l m s = absurd (omega arith)
+list_ext (e ∷ es) (f ∷ fs) n o l m s =
+    let head : e ≡ f = entry_same e f (cc (o 0)) (l false 0) (l true 0) (m 0) (s 0) in
+    let rest : es ≡ fs = list_ext es fs (omega arith) (λ k. o (suc k)) (λ v k. l v (suc k)) (λ k. m (suc k)) (λ k. s (suc k)) in
     cc
 
 pub entries_ext : (es fs : List Entry) → length es ≡ length fs → ((k : ℕ) → object_in es k ≡ object_in fs k) → ((v : Bool) (k : ℕ) → list_in v es k ≡ list_in v fs k)
-    → ((k : ℕ) → mark_in es k ≡ mark_in fs k) → es ≡ fs
-unfolding object_in list_in mark_in
-entries_ext es fs n o l m = list_ext es fs n o l m
+    → ((k : ℕ) → mark_in es k ≡ mark_in fs k) → ((k : ℕ) → saving_in es k ≡ saving_in fs k) → es ≡ fs
+unfolding object_in list_in mark_in saving_in
+entries_ext es fs n o l m s = list_ext es fs n o l m s
 
 -- What isn't there.
 
@@ -269,15 +275,15 @@ list_put w v d to k es lt = elim (same_place v w k to) [
     by_cases h None = refl
     by_cases h (Some e) = put_list_other w v d e h
 
--- What `moved` changes.
+-- An object set down in front of a list, without the marks of what is linked otherwise then.
 
-pub length_moved : (es : List Entry) (d to : ℕ) → length (moved d to es) ≡ length es
-unfolding moved
-length_moved es d to = length_changed (changed_at to (put_first (is_exit (kind_in es d)) d) (map (left_out d) es)) d (on_object (with_place to)) ∙ length_changed (map (left_out d) es) to (put_first (is_exit (kind_in es d)) d) ∙ length_map (left_out d) es
+pub length_down : (es : List Entry) (d to : ℕ) → length (set_down d to es) ≡ length es
+unfolding set_down
+length_down es d to = length_changed (changed_at to (put_first (is_exit (kind_in es d)) d) (map (left_out d) es)) d (on_object (with_place to)) ∙ length_changed (map (left_out d) es) to (put_first (is_exit (kind_in es d)) d) ∙ length_map (left_out d) es
 
-pub list_moved : (v : Bool) (es : List Entry) (d to k : ℕ) → to < length es → list_in v (moved d to es) k ≡ put_at (is_exit (kind_in es d)) to d v k (without d (list_in v es k))
-unfolding moved
-list_moved v es d to k lt =
+pub list_down : (v : Bool) (es : List Entry) (d to k : ℕ) → to < length es → list_in v (set_down d to es) k ≡ put_at (is_exit (kind_in es d)) to d v k (without d (list_in v es k))
+unfolding set_down
+list_down v es d to k lt =
     let m : List Entry = map (left_out d) es in
     list_changed v d k (with_place to) (changed_at to (put_first (is_exit (kind_in es d)) d) m)
     ∙ list_put (is_exit (kind_in es d)) v d to k m (omega (arith, length_map (left_out d) es))
@@ -286,21 +292,43 @@ list_moved v es d to k lt =
 object_under : (d to k : ℕ) (w : Bool) (es : List Entry) → object_in (changed_at to (put_first w d) (map (left_out d) es)) k ≡ object_in es k
 object_under d to k w es = object_change to k (put_first w d) (map (left_out d) es) (put_object w d) ∙ object_left d k es
 
-pub object_moved : (es : List Entry) (d to : ℕ) → object_in (moved d to es) d ≡ option_map (with_place to) (object_in es d)
-unfolding moved
-object_moved es d to = object_changed d (with_place to) (changed_at to (put_first (is_exit (kind_in es d)) d) (map (left_out d) es)) ∙ ap (λ (o : Option Object). option_map (with_place to) o) (object_under d to d (is_exit (kind_in es d)) es)
+pub object_down : (es : List Entry) (d to : ℕ) → object_in (set_down d to es) d ≡ option_map (with_place to) (object_in es d)
+unfolding set_down
+object_down es d to = object_changed d (with_place to) (changed_at to (put_first (is_exit (kind_in es d)) d) (map (left_out d) es)) ∙ ap (λ (o : Option Object). option_map (with_place to) o) (object_under d to d (is_exit (kind_in es d)) es)
 
-pub object_unmoved : (es : List Entry) (d to k : ℕ) → (k ≡ d → ⊥) → object_in (moved d to es) k ≡ object_in es k
-unfolding moved
-object_unmoved es d to k ne = object_unchanged d k (with_place to) (changed_at to (put_first (is_exit (kind_in es d)) d) (map (left_out d) es)) ne ∙ object_under d to k (is_exit (kind_in es d)) es
+pub object_not_down : (es : List Entry) (d to k : ℕ) → (k ≡ d → ⊥) → object_in (set_down d to es) k ≡ object_in es k
+unfolding set_down
+object_not_down es d to k ne = object_unchanged d k (with_place to) (changed_at to (put_first (is_exit (kind_in es d)) d) (map (left_out d) es)) ne ∙ object_under d to k (is_exit (kind_in es d)) es
 
-pub mark_moved : (es : List Entry) (d to k : ℕ) → mark_in (moved d to es) k ≡ mark_in es k
-unfolding moved
-mark_moved es d to k =
+pub mark_down : (es : List Entry) (d to k : ℕ) → mark_in (set_down d to es) k ≡ mark_in es k
+unfolding set_down
+mark_down es d to k =
     let m : List Entry = map (left_out d) es in
     mark_changed d k (with_place to) (changed_at to (put_first (is_exit (kind_in es d)) d) m)
     ∙ mark_change to k (put_first (is_exit (kind_in es d)) d) m (put_mark (is_exit (kind_in es d)) d)
     ∙ mark_left d k es
+
+-- What `moved` changes.
+
+pub length_moved : (es : List Entry) (d to : ℕ) → length (moved d to es) ≡ length es
+unfolding moved
+length_moved es d to = length_relinked es (set_down d to es) ∙ length_down es d to
+
+pub list_moved : (v : Bool) (es : List Entry) (d to k : ℕ) → to < length es → list_in v (moved d to es) k ≡ put_at (is_exit (kind_in es d)) to d v k (without d (list_in v es k))
+unfolding moved
+list_moved v es d to k lt = list_relinked v es (set_down d to es) k ∙ list_down v es d to k lt
+
+pub object_moved : (es : List Entry) (d to : ℕ) → object_in (moved d to es) d ≡ option_map (with_place to) (object_in es d)
+unfolding moved
+object_moved es d to = object_relinked es (set_down d to es) d ∙ object_down es d to
+
+pub object_unmoved : (es : List Entry) (d to k : ℕ) → (k ≡ d → ⊥) → object_in (moved d to es) k ≡ object_in es k
+unfolding moved
+object_unmoved es d to k ne = object_relinked es (set_down d to es) k ∙ object_not_down es d to k ne
+
+pub mark_moved : (es : List Entry) (d to k : ℕ) → mark_in (moved d to es) k ≡ mark_in es k
+unfolding moved
+mark_moved es d to k = mark_relinked es (set_down d to es) k ∙ mark_down es d to k
 
 pub place_moved : (es : List Entry) (d to : ℕ) → d < length es → place_in (moved d to es) d ≡ Some to
 unfolding place_in

@@ -9,14 +9,17 @@ use Rattle.muck_model.specs.declared.dbref.Dbref.{Dbref}
 use Rattle.muck_model.specs.declared.dbref.Kind.{Kind}
 use Rattle.spec_live.specs.declared.object.Object.{Object}
 use Rattle.spec_live.specs.Chain.{Member, IsApart, without}
-use Rattle.spec_live.specs.Objects.{Entry, dbref_of, same, index_of, is_exit, is_player, may_stand, garbage, object_in, list_of, list_in, kind_in, place_in, fits_in, is_vehicle_in}
+use Rattle.spec_live.specs.Objects.{Entry, dbref_of, same, index_of, is_exit, is_player, may_stand, garbage, object_in, list_of, list_in, mark_in, kind_in, place_in, fits_in, is_vehicle_in}
 use Rattle.spec_live.specs.Moving.{left_out}
-use Rattle.spec_live.specs.Recycling.{untied, sent_home, gone_entry, is_exit_of, exit_gone, without_exits, exits_gone, vanished, recycled, recycle_check}
+use Rattle.spec_live.specs.Recycling.{untied, sent_home, gone_entry, is_exit_of, exit_gone, without_exits, exits_gone, vanished, taken_away, recycled, recycle_check}
+use Rattle.spec_live.specs.Saving.{relinked}
 use Rattle.spec_live.specs.Consistent.{StandsIn, IsOrdered, IsConsistent}
 use Rattle.spec_live.proofs.Chains.{without_gone, without_member, member_without}
 use Rattle.spec_live.proofs.Lists.{length_map, length_changed, get_changed_same, same_place, apart_without}
 use Rattle.spec_live.proofs.KindLaws.{none_in_exit, only_exit, player_no_exit, linked_no_exit, home_no_exit}
-use Rattle.spec_live.proofs.Readers.{object_change, list_change, object_elsewhere, list_elsewhere, object_left, list_left, kind_is, place_is, kind_alike}
+use Rattle.spec_live.proofs.Readers.{object_change, list_change, object_elsewhere, list_elsewhere, object_left, list_left, kind_is, place_is, kind_alike, place_alike}
+use Rattle.spec_live.proofs.Savings.{length_relinked, object_relinked, list_relinked, mark_relinked}
+use Rattle.spec_live.proofs.Ties.{consistent_seen}
 use Rattle.spec_live.proofs.Checks.{Passed, checked_ok, index_only}
 use Rattle.spec_live.proofs.Fewer.{IsFewer, IsUnspoken, whether, consistent_fewer}
 use Rattle.spec_live.proofs.HomeLaws.{IsUntied, is_untied, not_nothing, ordered_untied, IsSent, is_sent, consistent_untied, consistent_sent_home, list_untied, kind_untied, kind_sent_home}
@@ -286,6 +289,30 @@ unspoken_vanished es d mortal u = record {
 pub consistent_vanished : (es : List Entry) (d : ℕ) → (d ≡ 0 → ⊥) → is_player (kind_in es d) ≡ false → ((v : Bool) → list_in v es d ≡ []) → IsUntied d es → IsConsistent es → IsConsistent (vanished d es)
 consistent_vanished es d low mortal empty u c = consistent_fewer es (vanished d es) (λ k. eqb k d) (fewer_vanished es d low empty c.ordered) (unspoken_vanished es d mortal u) c
 
+-- The exits of an object go, and then it does: the marks aside.
+
+pub length_taken : (es : List Entry) (d : ℕ) → length (taken_away d es) ≡ length es
+unfolding taken_away
+length_taken es d = length_relinked es (vanished d (exits_gone d es)) ∙ length_vanished (exits_gone d es) d ∙ length_exits_gone d es
+
+pub object_taken : (es : List Entry) (d k : ℕ) → object_in (taken_away d es) k ≡ object_in (vanished d (exits_gone d es)) k
+unfolding taken_away
+object_taken es d k = object_relinked es (vanished d (exits_gone d es)) k
+
+pub list_taken : (v : Bool) (es : List Entry) (d k : ℕ) → list_in v (taken_away d es) k ≡ list_in v (vanished d (exits_gone d es)) k
+unfolding taken_away
+list_taken v es d k = list_relinked v es (vanished d (exits_gone d es)) k
+
+pub mark_taken : (es : List Entry) (d k : ℕ) → mark_in (taken_away d es) k ≡ mark_in (vanished d (exits_gone d es)) k
+unfolding taken_away
+mark_taken es d k = mark_relinked es (vanished d (exits_gone d es)) k
+
+pub kind_taken : (es : List Entry) (d k : ℕ) → kind_in (taken_away d es) k ≡ kind_in (vanished d (exits_gone d es)) k
+kind_taken es d k = kind_alike (vanished d (exits_gone d es)) (taken_away d es) k (object_taken es d k)
+
+pub place_taken : (es : List Entry) (d k : ℕ) → place_in (taken_away d es) k ≡ place_in (vanished d (exits_gone d es)) k
+place_taken es d k = place_alike (vanished d (exits_gone d es)) (taken_away d es) k (object_taken es d k)
+
 -- All steps.
 
 -- what the steps before the last leave
@@ -301,15 +328,19 @@ loosened es d low c =
 consistent_emptied : (es : List Entry) (d : ℕ) → (d ≡ 0 → ⊥) → IsConsistent es → IsConsistent (sent_home (list_in false es d) (untied d es))
 consistent_emptied es d low c = consistent_sent_home (untied d es) d (list_in false es d) (consistent_untied es d c) (is_untied es d low) low (list_untied false d d es)
 
+-- marks change neither objects nor lists
+pub consistent_relinked : (before es : List Entry) → IsConsistent es → IsConsistent (relinked before es)
+consistent_relinked before es c = consistent_seen es (relinked before es) (length_relinked before es) (object_relinked before es) (λ v k. list_relinked v before es k) c
+
 consistent_gone : (es : List Entry) (d : ℕ) → (d ≡ 0 → ⊥) → is_player (kind_in es d) ≡ false → IsConsistent es → IsConsistent (recycled d es)
-unfolding recycled
+unfolding recycled taken_away
 consistent_gone es d low mortal c =
     let emptied : List Entry = sent_home (list_in false es d) (untied d es) in
     let before : IsConsistent emptied = consistent_emptied es d low c in
     let loose : IsLoose (exits_gone d emptied) d = loosened es d low c.ordered in
-    consistent_vanished (exits_gone d emptied) d low
+    consistent_relinked emptied (vanished d (exits_gone d emptied)) (consistent_vanished (exits_gone d emptied) d low
     (ap (λ z. is_player z) (kind_exits_gone emptied d before.ordered ∙ kind_sent_home (untied d es) (list_in false es d) d ∙ kind_untied d d es) ∙ mortal) loose.empty loose.untied
-    (consistent_exits_gone emptied d before)
+    (consistent_exits_gone emptied d before))
 
 pub recycle_checked : (d : Dbref) (es : List Entry) (n : ℕ) → recycle_check d es ≡ Ok n → (n ≡ 0 → ⊥) × (is_player (kind_in es n) ≡ false)
 unfolding recycle_check

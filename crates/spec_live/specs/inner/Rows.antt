@@ -1,18 +1,21 @@
 -- Worked examples, which the checker computes.
-use Rattle.std.specs.Prelude.{◌≡◌, ℕ, true, false, List, [], ◌∷◌, ◌++◌, refl, codes, Option, Some, None, Ok, Err, replicate}
+use Rattle.std.specs.Prelude.{◌≡◌, ℕ, true, false, List, [], ◌∷◌, ◌++◌, map, refl, codes, Option, Some, None, Ok, Err, replicate}
 use Rattle.std.specs.Option.{option_map}
 use Rattle.muck_model.specs.declared.dbref.Dbref.{Dbref}
 use Rattle.muck_model.specs.declared.dbref.Kind.{Kind}
 use Rattle.muck_model.specs.declared.dbref.Kind.TheVariants.{Room, Thing, Exit, Player, Program, Garbage}
 use Rattle.spec_live.specs.declared.object.Object.{Object}
+use Rattle.spec_live.specs.declared.saving.Saving.TheVariants.{Done, Due}
+use Rattle.spec_live.specs.declared.saving.Saving.{Saving}
 use Rattle.spec_live.specs.declared.fault.DbFault.TheVariants.{NoSuchObject, WouldLoop, WrongKind}
 use Rattle.spec_live.specs.Flags.{no_flags, vehicle}
-use Rattle.spec_live.specs.Chain.{walk, has, without}
+use Rattle.spec_live.specs.Chain.{walk, has, without, follower}
 use Rattle.spec_live.specs.Objects.{Entry, dbref_of, nothing, object_in, list_in, kind_in, place_in, path_in, fits_in, flags_in, is_vehicle_in, number_in, owner_in, home_in, changed_at, plain, garbage}
-use Rattle.spec_live.specs.Moving.{moved, judged, move_check}
+use Rattle.spec_live.specs.Moving.{set_down, moved, judged, move_check}
+use Rattle.spec_live.specs.Saving.{next_in, links_in, due_from, relinked}
 use Rattle.spec_live.specs.Making.{free_in, objects_most, may_make, make_judged, owner_judged, create_check}
 use Rattle.spec_live.specs.Setting.{checked, holds_player, keeps_seats, flags_check}
-use Rattle.spec_live.specs.Recycling.{untied, wished_home, may_go, way_home, sent_home, exits_gone, vanished, gone_entry, recycled}
+use Rattle.spec_live.specs.Recycling.{untied, wished_home, may_go, way_home, sent_home, exits_gone, vanished, taken_away, gone_entry, recycled}
 use Rattle.spec_live.specs.Start.{room_zero, player_one}
 use Rattle.spec_live.specs.Output.{Output, notice, lines_bytes, sent_lines, queue_most, newest, line_sent, lines_taken, notice_taken, taken}
 
@@ -29,7 +32,7 @@ abbrev pub with_seats : Object → Object
 with_seats o = record o { flags = record { 0 = vehicle } }
 
 abbrev pub holding : List ℕ → List ℕ → Object → Entry
-holding contents exits o = record { object = o; contents = contents; exits = exits; mark = None }
+holding contents exits o = record { object = o; contents = contents; exits = exits; mark = None; saving = Done }
 
 abbrev pub link_in : List Entry → ℕ → Option Dbref
 link_in es k = option_map (λ o. o.link) (object_in es k)
@@ -76,6 +79,10 @@ bag_world =
     holding (4 ∷ []) [] (made Thing (dbref_of 0) (dbref_of 0) nothing) ∷
     holding [] [] (made Thing (dbref_of 3) (dbref_of 0) nothing) ∷ []
 
+-- how the objects stand to the dumps
+abbrev pub savings : List Entry → List Saving
+savings es = map (λ e. e.saving) es
+
 -- Output.
 
 -- a line of 12 bytes with its end
@@ -90,6 +97,10 @@ pub record Rows : Type 0 where
   pub recycled_den_row : den_gone (recycled 2 den_world) ≡ (Garbage, Some 0, Some nothing, 3 ∷ 1 ∷ [])
   pub recycled_car_row : lists_of (recycled 2 car_world) ≡ (7 ∷ 5 ∷ 1 ∷ [], [], 6 ∷ [], 3 ∷ 4 ∷ [])
   pub recycled_ties_row : car_gone (recycled 2 car_world) ≡ (Garbage, Garbage, Some 0, None)
+  -- `#1` still stands last in Room Zero, and so it isn't due
+  pub recycled_due_row : savings (recycled 2 den_world) ≡ Due ∷ Done ∷ Due ∷ Due ∷ Due ∷ []
+  -- `#1` goes from the end of Room Zero to the front of the car: what stood before it is due with it, and nothing else
+  pub moved_due_row : savings (moved 1 2 car_world) ≡ Done ∷ Due ∷ Due ∷ Done ∷ Done ∷ Done ∷ Done ∷ Done ∷ Done ∷ []
   pub move_loop_row : move_check (dbref_of 3) (dbref_of 4) bag_world ≡ Err WouldLoop
   pub move_itself_row : move_check (dbref_of 3) (dbref_of 3) bag_world ≡ Err WouldLoop
   pub move_nowhere_row : move_check (dbref_of 3) (dbref_of 99999) bag_world ≡ Err NoSuchObject
@@ -116,5 +127,5 @@ pub record Rows : Type 0 where
   pub sent_lines_row : sent_lines (codes "one" ++ 13 ∷ codes "two") ≡ codes "one" ∷ codes "two" ∷ []
 
 pub rows : Rows
-unfolding recycled untied vanished exits_gone sent_home way_home wished_home may_go gone_entry garbage moved changed_at kind_in object_in list_in place_in path_in fits_in flags_in is_vehicle_in home_in owner_in walk has without room_zero player_one move_check judged number_in create_check owner_judged make_judged may_make free_in objects_most flags_check checked keeps_seats holds_player newest lines_bytes line_sent queue_most taken notice_taken notice lines_taken sent_lines
-rows = record { recycled_den_row = refl; recycled_car_row = refl; recycled_ties_row = refl; move_loop_row = refl; move_itself_row = refl; move_nowhere_row = refl; move_garbage_row = refl; move_room_zero_row = refl; move_player_row = refl; move_into_car_row = refl; create_row = refl; create_owned_row = refl; flags_seat_row = refl; newest_row = refl; full_row = refl; notice_taken_row = refl; line_taken_row = refl; sent_lines_row = refl }
+unfolding recycled taken_away relinked due_from links_in next_in follower set_down untied vanished exits_gone sent_home way_home wished_home may_go gone_entry garbage moved changed_at kind_in object_in list_in place_in path_in fits_in flags_in is_vehicle_in home_in owner_in walk has without room_zero player_one move_check judged number_in create_check owner_judged make_judged may_make free_in objects_most flags_check checked keeps_seats holds_player newest lines_bytes line_sent queue_most taken notice_taken notice lines_taken sent_lines
+rows = record { recycled_den_row = refl; recycled_car_row = refl; recycled_ties_row = refl; recycled_due_row = refl; moved_due_row = refl; move_loop_row = refl; move_itself_row = refl; move_nowhere_row = refl; move_garbage_row = refl; move_room_zero_row = refl; move_player_row = refl; move_into_car_row = refl; create_row = refl; create_owned_row = refl; flags_seat_row = refl; newest_row = refl; full_row = refl; notice_taken_row = refl; line_taken_row = refl; sent_lines_row = refl }
