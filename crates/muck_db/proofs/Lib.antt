@@ -1,6 +1,7 @@
 pub mod Tables
-pub mod Linked
 pub mod Readers
+pub mod Leads
+pub mod Linked
 pub mod Digests
 pub mod LimitLaws
 pub mod Bridge
