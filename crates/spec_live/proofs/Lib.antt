@@ -12,6 +12,8 @@ pub mod SettingLaws
 pub mod Fewer
 pub mod HomeLaws
 pub mod RecyclingLaws
+pub mod Dues
+pub mod Marking
 pub mod Standing
 pub mod Followers
 pub mod EditorLaws
