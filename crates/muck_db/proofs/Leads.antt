@@ -1,12 +1,16 @@
 -- What leads to a number: lists that begin with it, and what it stands behind.
-use Rattle.std.proofs.Common.{◌≡◌, ◌⊎◌, ℕ, List, [], ◌∷◌, Option, Some, None, inl, inr, refl, sym, ◌∙◌, ap, Bool, true, false}
+use Rattle.std.proofs.Common.{◌≡◌, ◌⊎◌, ℕ, List, [], ◌∷◌, Option, Some, None, inl, inr, refl, sym, ◌∙◌, ap, subst, Bool, true, false, not, cond}
 use Rattle.std.proofs.lemmas.Bool.{cases_eq, ne_eqb, eq-eqb}
 use Rattle.std.specs.Option.{option_and_then}
+use Rattle.spec_live.specs.declared.saving.Saving.{Saving}
+use Rattle.spec_live.specs.declared.saving.Saving.TheVariants.{Due}
 use Rattle.spec_live.specs.Chain.{Member, IsApart, follower, without, put_at}
 use Rattle.spec_live.specs.Objects.{Entry, is_exit, kind_in, place_in, list_in}
-use Rattle.spec_live.specs.Saving.{Links, front, next_in, links_in}
+use Rattle.spec_live.specs.Saving.{Links, front, next_in, links_in, saving_in, same_links, relinked}
 use Rattle.spec_live.proofs.Chains.{without_gone}
 use Rattle.spec_live.proofs.Lists.{same_place, put_same, put_other}
+use Rattle.spec_live.proofs.Savings.{saving_relinked}
+use Rattle.spec_live.proofs.Dues.{same_equal, saving_linked}
 use Rattle.muck_db.specs.inner.Slots.{LeadsTo}
 
 -- What a list leads to is in it.
@@ -194,3 +198,31 @@ led_as_before d es fs k w h =
     ap (λ c. make c (front (list_in true fs k)) (next_in fs k)) (w.fronts false ∙ front_without d (list_in false es k) (λ q. h (inl q)))
     ∙ ap (λ x. make (front (list_in false es k)) x (next_in fs k)) (w.fronts true ∙ front_without d (list_in true es k) (λ q. h (inr (inl q))))
     ∙ ap (λ n. make (front (list_in false es k)) (front (list_in true es k)) n) (w.next ∙ next_stays d es k w.other (λ q. h (inr (inr q))))
+
+-- The marks of a world that is relinked.
+
+-- what is due stays so
+pub relinked_due : (es fs : List Entry) (k : ℕ) → saving_in fs k ≡ Due → saving_in (relinked es fs) k ≡ Due
+relinked_due es fs k h = saving_relinked es fs k ∙ by_cases (not (same_links (links_in es k) (links_in fs k)))
+  where
+    by_cases : (b : Bool) → cond b Due (saving_in fs k) ≡ Due
+    by_cases true = refl
+    by_cases false = h
+
+-- what led to d is due
+relinked_led : (d : ℕ) (es fs : List Entry) (k : ℕ) → IsWithout d es fs k → LeadsTo d (links_in es k) → saving_in (relinked es fs) k ≡ Due
+relinked_led d es fs k w h = saving_relinked es fs k ∙ by_cases (same_links (links_in es k) (links_in fs k)) refl
+  where
+    by_cases : (b : Bool) → same_links (links_in es k) (links_in fs k) ≡ b → cond (not b) Due (saving_in fs k) ≡ Due
+    by_cases false e = refl
+    by_cases true e =
+        let L : Links → Type 0 = λ l. LeadsTo d l in
+        absurd (led_nowhere d es fs k w (subst L (same_equal (links_in es k) (links_in fs k) e) h))
+
+-- what is due where it led to d, and otherwise has its mark as it was, is marked so
+pub saving_without : (d : ℕ) (es fs : List Entry) (k : ℕ) (s : Saving) → IsWithout d es fs k → saving_in fs k ≡ saving_in es k → (LeadsTo d (links_in es k) → s ≡ Due) → ((LeadsTo d (links_in es k) → ⊥) → s ≡ saving_in es k)
+    → s ≡ saving_in (relinked es fs) k
+saving_without d es fs k s w kept is_due same = elim (leads_cases d (links_in es k)) [
+  | inl h ↦ is_due h ∙ sym (relinked_led d es fs k w h)
+  | inr h ↦ same h ∙ sym (saving_linked es fs k (led_as_before d es fs k w h) ∙ kept)
+]
