@@ -18,5 +18,6 @@ pub mod Settings
 pub mod Cutting
 pub mod Spelled
 pub mod Keeping
+pub mod Dumping
 pub mod Stocking
 pub mod Loading

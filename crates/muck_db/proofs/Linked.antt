@@ -1,13 +1,12 @@
 -- Taking out and putting in front, as wholes.
 use Rattle.std.proofs.Common.{◌≡◌, ◌⊎◌, ℕ, ◌<◌, List, [], ◌∷◌, Option, Some, None, inl, inr, refl, sym, ◌∙◌, ap, subst, length, arith, Bool, true, false}
-use Rattle.std.proofs.lemmas.Bool.{cases_eq, ne_eqb}
+use Rattle.std.proofs.lemmas.Bool.{cases_eq, ne_eqb, eq-eqb}
 use Rattle.std.specs.Option.{option_and_then}
 use Rattle.spec_live.specs.declared.saving.Saving.TheVariants.{Due}
 use Rattle.spec_live.specs.Chain.{IsChain, Ends, Member, IsApart, follower, without, put_at}
 use Rattle.spec_live.specs.Objects.{Entry, changed_at, is_exit, kind_in, place_in, list_in}
 use Rattle.spec_live.specs.Saving.{front, next_in, links_in}
 use Rattle.spec_live.proofs.Chains.{chain_frame, chain_below, chain_apart, chain_without_first, chain_without, without_same}
-use Rattle.spec_live.proofs.Followers.{behind}
 use Rattle.spec_live.proofs.Lists.{same_place, put_same, put_other, length_changed}
 use Rattle.muck_db.specs.declared.slot.Slot.{Slot}
 use Rattle.muck_db.specs.inner.Slots.{next_at, first_at, list_at, saving_at, with_next, with_first, entries_of, LeadsTo, Stands, HasChains, IsUnlinked, IsLinked}
@@ -58,13 +57,17 @@ same_list slots h v w q p d here there =
 list_apart : (slots : List Slot) → HasChains slots → (v : Bool) (q : ℕ) → IsApart (list_at v slots q)
 list_apart slots h v q = chain_apart (length slots) (next_at slots) (first_at v slots q) (list_at v slots q) (chain_at slots h v q)
 
--- a number in a chain leads to what stands behind it
-chain_follower : (n : ℕ) (f : ℕ → Option ℕ) (s : Option ℕ) (xs : List ℕ) (x : ℕ) → IsChain n f s xs → Member x xs → follower x xs ≡ f x
+-- behind a number of a chain stands what it leads to
+pub follower_is : (n : ℕ) (f : ℕ → Option ℕ) (s : Option ℕ) (xs : List ℕ) (d : ℕ) → IsChain n f s xs → Member d xs → follower d xs ≡ f d
 unfolding IsChain Member follower
-chain_follower n f s [] x h m = elim m [ ]
-chain_follower n f s (y ∷ ys) x h m = elim (cases_eq y x) [
-  | inl e ↦ ap (λ z. follower z (y ∷ ys)) (sym e) ∙ sym (behind n f y ys h.2) ∙ ap f e
-  | inr ne ↦ rw (ne_eqb y x ne) (chain_follower n f (f y) ys x h.2 (elim m [ inl q ↦ absurd (ne (sym q)) | inr q ↦ q ]))
+follower_is n f s [] d h m = elim m [ ]
+follower_is n f s (x ∷ []) d h m = elim (cases_eq x d) [
+  | inl e ↦ rw (eq-eqb x d e) (sym h.2 ∙ ap f e)
+  | inr ne ↦ elim m [ inl q ↦ absurd (ne (sym q)) | inr q ↦ elim q [ ] ]
+]
+follower_is n f s (x ∷ y ∷ ys) d h m = elim (cases_eq x d) [
+  | inl e ↦ rw (eq-eqb x d e) (sym h.2.0 ∙ ap f e)
+  | inr ne ↦ rw (ne_eqb x d ne) (follower_is n f (f x) (y ∷ ys) d h.2 (elim m [ inl q ↦ absurd (ne (sym q)) | inr q ↦ q ]))
 ]
 
 next_of : (slots : List Slot) (k p : ℕ) → place_at slots k ≡ Some p → next_in (entries_of slots) k ≡ follower k (list_in (is_exit (kind_in (entries_of slots) k)) (entries_of slots) p)
@@ -78,7 +81,7 @@ next_standing slots h w p i m =
     next_of slots i p t.place
     ∙ ap (λ b. follower i (list_in b (entries_of slots) p)) (is_exit-entries_of slots i ∙ t.kind)
     ∙ ap (λ l. follower i l) (list_in-entries_of w slots p)
-    ∙ chain_follower (length slots) (next_at slots) (first_at w slots p) (list_at w slots p) i (chain_at slots h w p) m
+    ∙ follower_is (length slots) (next_at slots) (first_at w slots p) (list_at w slots p) i (chain_at slots h w p) m
 
 -- a list of k begins with d
 record Begins (slots : List Slot) (d k : ℕ) : Type 0 where
@@ -196,7 +199,7 @@ unlinked_later w p d i old h here before leads first = record {
   same_objects = λ k. object-with_next old i k (next_at old d);
   same_marks = λ k. mark-with_next old i k (next_at old d);
   due = λ k. led_due d i k old (changed_at i (with_next (next_at old d)) old)
-      (later_leads old h w p d i k here (λ e. first (sym (list_begins old h w p) ∙ e)) (chain_follower (length old) (next_at old) (first_at w old p) (list_at w old p) i (chain_at old h w p) before ∙ leads))
+      (later_leads old h w p d i k here (λ e. first (sym (list_begins old h w p) ∙ e)) (follower_is (length old) (next_at old) (first_at w old p) (list_at w old p) i (chain_at old h w p) before ∙ leads))
       (saving_due old i (with_next (next_at old d)) (λ s. refl));
   same_savings = λ k. led_same d i k old (changed_at i (with_next (next_at old d)) old) (leads_next old i d (next_standing old h w p i before ∙ leads)) (saving_other old i k (with_next (next_at old d)));
   chains = λ v q. elim (same_place v w q p) [

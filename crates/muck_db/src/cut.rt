@@ -6,13 +6,12 @@ ghost use Rattle.muck_model.specs.Bytes.{lines_most};
 ghost use Rattle.muck_prop.specs.Store.{IsKept};
 ghost use Rattle.muck_codec.specs.inner.Stored.{AreLines, AreProperties, IsStored};
 ghost use Rattle.spec_live.specs.Objects.{garbage, list_in, object_in};
-ghost use Rattle.spec_live.specs.Saving.{saving_in};
 ghost use Rattle.muck_store.specs.inner.Changes.{LeavesOut};
 ghost use Rattle.muck_store.specs.Forms.{first_of, link_of, next_in, persist, properties_of};
 ghost use Rattle.muck_db.specs.inner.Kept.{MayHold, stored_at};
 ghost use Rattle.muck_db.specs.inner.Dumps.{MayLook, passes};
 ghost use Rattle.muck_db.specs.inner.Limits.{IsWithinLimits};
-ghost use Rattle.muck_db.specs.inner.Slots.{entries_of, HasOrder};
+ghost use Rattle.muck_db.specs.inner.Slots.{saving_at, entries_of, HasOrder};
 
 use crate::kept::is_kept;
 use crate::links::{dbref_of, first_of, next_of, place_of};
@@ -170,7 +169,7 @@ pub enum Extent {
 // Whether a dump may leave out a number without a look at its object.
 fn is_passed(extent: Extent, slots: &Vec<Slot>, k: u32) -> bool
     requires { k < length slots.now.items }
-    ensures { result ≡ passes extent (saving_in (entries_of slots.now.items) k) }
+    ensures { result ≡ passes extent (saving_at slots.now.items k) }
 {
     match extent {
         Extent::WhatIsDue => !is_due(slots, k),
