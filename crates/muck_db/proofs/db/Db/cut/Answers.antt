@@ -15,7 +15,7 @@ pub records_of-requires-clause-limits : goal.records_of-requires-clause-limits
 records_of-requires-clause-limits c = c.self.invariant.sound.limits
 
 pub records_of-requires-clause-may : goal.records_of-requires-clause-may
-records_of-requires-clause-may c = subst (λ (es : List Entry). KeepsUndue c.args.base.now es) (sym c.self.view_is) c.requires
+records_of-requires-clause-may c = subst (λ (es : List Entry). KeepsUndue c.args.base.now es) (sym c.self.view_is) c.requires.kept
 
 pub pass-requires : goal.pass-requires
 pass-requires c = omega (arith, length-entries_of c.self.inside.slots.items, c.self.invariant.sound.world.ordered.few)
