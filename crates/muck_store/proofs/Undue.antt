@@ -1,17 +1,16 @@
 -- What is stored of objects that aren't due, and of a world in which only the change marks differ.
-use Rattle.std.proofs.Common.{◌≡◌, ℕ, suc, List, [], ◌∷◌, Option, Some, None, refl, sym, ◌∙◌, ap, map}
+use Rattle.std.proofs.Common.{◌≡◌, ℕ, suc, List, [], ◌∷◌, Option, Some, None, refl, sym, ◌∙◌, ap, map, true, false}
 use Rattle.std.specs.List.{slice_get}
-use Rattle.std.specs.Option.{option_map, option_and_then}
+use Rattle.std.specs.Option.{option_map}
 use Rattle.spec_live.specs.declared.object.Object.{Object}
 use Rattle.spec_live.specs.declared.saving.Saving.{Saving}
-use Rattle.spec_live.specs.Chain.{follower}
-use Rattle.spec_live.specs.Objects.{Entry, dbref_of, is_exit, object_in, list_of, list_in, kind_in, place_in}
+use Rattle.spec_live.specs.Objects.{Entry, dbref_of, object_in, list_in}
 use Rattle.spec_live.specs.Saving.{Links, links_in, on_saving, all_saving, IsAsBefore, Marked}
-use Rattle.spec_live.proofs.Savings.{list_resaved, kind_resaved, place_resaved}
+use Rattle.spec_live.proofs.Dues.{links_resaved}
 use Rattle.muck_codec.specs.declared.stored.Stored.{Stored}
 use Rattle.muck_store.specs.Forms.{properties_of, link_of, first_of, next_in, stored_of, stored_from, persist}
 use Rattle.muck_store.specs.inner.Changes.{KeepsUndue}
-use Rattle.muck_store.proofs.StoredForms.{front, get_persist, object_at_entry, list_there}
+use Rattle.muck_store.proofs.StoredForms.{front, get_persist, list_there}
 
 -- The stored form of an object is made of its fields and its links.
 
@@ -70,16 +69,8 @@ undue_kept base es fs kept marked k undue = let same : IsAsBefore es fs k = mark
 -- Change marks alone differ.
 
 next_resaved : (f : Saving → Saving) (es : List Entry) (k : ℕ) → next_in (all_saving f es) k ≡ next_in es k
-unfolding next_in
-next_resaved f es k =
-    let fs : List Entry = all_saving f es in
-    ap (λ o. option_and_then (λ p. follower k (list_in (is_exit (kind_in fs k)) fs p)) o) (place_resaved f k es)
-    ∙ ap (λ z. option_and_then (λ p. follower k (list_in (is_exit z) fs p)) (place_in es k)) (kind_resaved f k es)
-    ∙ by_cases (place_in es k)
-  where
-    by_cases : (o : Option ℕ) → option_and_then (λ p. follower k (list_in (is_exit (kind_in es k)) (all_saving f es) p)) o ≡ option_and_then (λ p. follower k (list_in (is_exit (kind_in es k)) es p)) o
-    by_cases None = refl
-    by_cases (Some p) = ap (follower k) (list_resaved (is_exit (kind_in es k)) f p es)
+unfolding links_in
+next_resaved f es k = ap (λ l. l.next) (links_resaved f k es)
 
 from_resaved : (f : Saving → Saving) (es : List Entry) (k : ℕ) (rest : List Entry) → stored_from (all_saving f es) k (map (on_saving f) rest) ≡ stored_from es k rest
 unfolding stored_from stored_of

@@ -6,8 +6,9 @@ use Rattle.std.proofs.lemmas.Bool.{cases_eq, or_left}
 use Rattle.std.proofs.lemmas.Option.{slice_get-map}
 use Rattle.spec_live.specs.declared.object.Object.{Object}
 use Rattle.spec_live.specs.Objects.{Entry, dbref_of, is_exit, list_of, list_in, kind_in, object_at, changed_at}
-use Rattle.spec_live.specs.Moving.{left_out, put_first, with_place, moved}
+use Rattle.spec_live.specs.Moving.{left_out, put_first, with_place, set_down, moved}
 use Rattle.spec_live.proofs.Lists.{get_changed_same}
+use Rattle.spec_live.proofs.Savings.{list_relinked}
 use Rattle.spec_live.proofs.Readers.{list_elsewhere, list_changed, list_left}
 use Rattle.spec_rights.specs.Licence.{Judge, place_open, Reordered, as_before, leaves, empties, comes, front_open, SameLists}
 use Rattle.spec_rights.proofs.Lookups.{Row}
@@ -64,12 +65,12 @@ put_kept may xs true false d h e r = r
 put_kept may xs false true d h e r = r
 
 pub reordered_moved : (may : ℕ → Bool) (xs : List ℕ) (v : Bool) (d to k : ℕ) (es : List Entry) → (k ≡ to → may d ≡ true) → Reordered may xs (list_in v es k) → Reordered may xs (list_in v (moved d to es) k)
-unfolding moved
+unfolding moved set_down
 reordered_moved may xs v d to k es h r =
     let m : List Entry = map (left_out d) es in
     let w : Bool = is_exit (kind_in es d) in
     let Q : List ℕ → Type 0 = λ l. Reordered may xs l in
-    subst Q (sym (list_changed v d k (with_place to) (changed_at to (put_first w d) m))) (reordered_one may xs v to k (put_first w d) m (λ e x. put_kept may xs w v d (h e) x) (reordered_left may xs v d k es r))
+    subst Q (sym (list_relinked v es (set_down d to es) k ∙ list_changed v d k (with_place to) (changed_at to (put_first w d) m))) (reordered_one may xs v to k (put_first w d) m (λ e x. put_kept may xs w v d (h e) x) (reordered_left may xs v d k es r))
 
 -- All lists.
 

@@ -6,8 +6,10 @@ use Rattle.muck_model.specs.declared.dbref.Dbref.{Dbref}
 use Rattle.spec_live.specs.declared.object.Object.{Object}
 use Rattle.spec_live.specs.Objects.{Entry, dbref_of, nothing, home, same, mark_in, number_in, object_at}
 use Rattle.spec_live.specs.Setting.{with_home}
+use Rattle.spec_live.specs.Saving.{Marked}
 use Rattle.spec_live.specs.Moving.{moved, with_place}
 use Rattle.spec_live.specs.Lives.{Live}
+use Rattle.spec_live.proofs.Marking.{marked_itself, marked_moved}
 use Rattle.spec_live.proofs.Readers.{object_moved, object_unmoved, mark_moved, length_moved}
 use Rattle.spec_rights.specs.declared.act.Actor.{Actor}
 use Rattle.spec_rights.specs.declared.act.Act.{Act}
@@ -60,12 +62,18 @@ many_moved es None q = refl
 many_moved es (Some m) None = refl
 many_moved es (Some m) (Some t) = length_moved es m t
 
+marked_came : (es : List Entry) (p q : Option ℕ) → Marked es (moved_at p q es)
+marked_came es None q = marked_itself es
+marked_came es (Some m) None = marked_itself es
+marked_came es (Some m) (Some t) = marked_moved m t es
+
 -- to a place that is there
 stay_moved : (j : Judge) (x to : Dbref) (w : Live) → ((t : ℕ) → number_in w.objects to ≡ Some t → place_open j x to ≡ true) → Stay j w (moved_to x to w)
 unfolding moved_to
 stay_moved j x to w h = stay_objects j w (moved_to x to w) refl (λ n. rows_moved j x to w.objects h n (number_in w.objects x) (number_in w.objects to) refl refl) (lists_came j x to w.objects h (number_in w.objects x) (number_in w.objects to) refl refl)
     (λ n. inl (marks_came n w.objects (number_in w.objects x) (number_in w.objects to)))
     (as_many w.objects (moved_at (number_in w.objects x) (number_in w.objects to) w.objects) (many_moved w.objects (number_in w.objects x) (number_in w.objects to)))
+    (marked_came w.objects (number_in w.objects x) (number_in w.objects to))
 
 -- what may be moved freely
 pub stays_free : (a : Actor) (free : Freedom) (given : Option Act) (x to : Dbref) → free.moves x ≡ true → Stays a free given (moved_to x to)

@@ -14,9 +14,9 @@ use Rattle.spec_live.specs.declared.object.Object.{Object}
 use Rattle.std.specs.FinMap.{get}
 use Rattle.spec_live.specs.Flags.{has_flag, wizard}
 use Rattle.spec_live.specs.Chain.{Member}
-use Rattle.spec_live.specs.Objects.{Entry, dbref_of, nothing, same, index_of, is_exit, is_player, is_garbage, object_in, list_of, list_in, mark_in, kind_in, owner_in, home_in, number_in, object_at, changed_at, on_object, garbage}
+use Rattle.spec_live.specs.Objects.{Entry, dbref_of, nothing, same, index_of, is_exit, is_player, is_garbage, object_in, list_of, list_in, mark_in, kind_in, owner_in, home_in, number_in, object_at, changed_at, garbage}
 use Rattle.spec_live.specs.Moving.{left_out, moved, with_place}
-use Rattle.spec_live.specs.Recycling.{untied, exits_gone, vanished, without_exits, without_ties, wished_home, may_go, way_home, sent_home, gone_entry, is_exit_of, exit_gone, recycled, recycle_check}
+use Rattle.spec_live.specs.Recycling.{untied, exits_gone, vanished, without_exits, without_ties, untie, wished_home, may_go, way_home, sent_home, gone_entry, is_exit_of, exit_gone, taken_away, recycled, recycle_check}
 use Rattle.spec_live.specs.declared.fault.DbFault.{DbFault}
 use Rattle.spec_live.specs.declared.fault.DbFault.TheVariants.{NoSuchObject, WrongKind}
 use Rattle.spec_live.specs.Setting.{checked}
@@ -24,6 +24,8 @@ use Rattle.spec_live.specs.Lives.{Live}
 use Rattle.spec_live.specs.Seen.{listed_in}
 use Rattle.spec_live.proofs.Lists.{get_changed_same}
 use Rattle.spec_live.proofs.Readers.{object_elsewhere, object_left, object_moved, object_unmoved, kind_is, mark_elsewhere, mark_left, mark_moved}
+use Rattle.spec_live.proofs.Marking.{marked_itself, marked_recycled}
+use Rattle.spec_live.proofs.Savings.{object_relinked, list_relinked, mark_relinked, length_relinked}
 use Rattle.spec_rights.specs.declared.act.Actor.{Actor}
 use Rattle.spec_rights.specs.declared.act.Act.TheVariants.{Recycle}
 use Rattle.spec_rights.specs.Levels.{is_player_at}
@@ -170,9 +172,9 @@ all_home a free d es (y ∷ ys) h fs r = all_home a free d es ys (λ z m. h z (i
 -- Losing ties.
 untied_rows : (j : Judge) (d : ℕ) (es : List Entry) → Rows j d es (untied d es)
 unfolding object_in untied
-untied_rows j d es n = rw (slice_get-map (on_object (without_ties d)) es n) (by_cases (slice_get es n))
+untied_rows j d es n = rw (slice_get-map (untie d) es n) (by_cases (slice_get es n))
   where
-    by_cases : (q : Option Entry) → Row (Homeward j d n) (option_map (λ (e : Entry). e.object) q) (option_map (λ (e : Entry). e.object) (option_map (on_object (without_ties d)) q))
+    by_cases : (q : Option Entry) → Row (Homeward j d n) (option_map (λ (e : Entry). e.object) q) (option_map (λ (e : Entry). e.object) (option_map (untie d) q))
     by_cases None = tt
     by_cases (Some e) = record { place = e.object.place; same = refl; way = inl refl }
 
@@ -214,17 +216,18 @@ gone_at d es = rw (get_changed_same es d (λ (e : Entry). gone_entry)) (by_cases
 
 recycled_there : (d n : ℕ) (es : List Entry) → (n ≡ d → ⊥) →
     object_in (recycled d es) n ≡ option_map (λ (p : Object). cond (is_exit_of d p) garbage p) (object_in (sent_home (list_in false es d) (untied d es)) n)
-unfolding recycled vanished exits_gone
+unfolding recycled taken_away vanished exits_gone
 recycled_there d n es ne =
     let em : List Entry = sent_home (list_in false es d) (untied d es) in
     let lost : List Entry = changed_at d without_exits (map (exit_gone d) em) in
-    object_elsewhere d n (λ (e : Entry). gone_entry) (map (left_out d) lost) ne ∙ object_left d n lost ∙ object_elsewhere d n without_exits (map (exit_gone d) em) ne ∙ exits_at d n em
+    object_relinked em (vanished d (exits_gone d em)) n ∙ object_elsewhere d n (λ (e : Entry). gone_entry) (map (left_out d) lost) ne ∙ object_left d n lost ∙ object_elsewhere d n without_exits (map (exit_gone d) em) ne ∙ exits_at d n em
 
 recycled_here : (d : ℕ) (es : List Entry) → (q : Option Object) × (object_in (recycled d es) d ≡ option_map (λ (p : Object). garbage) q)
-unfolding recycled vanished
+unfolding recycled taken_away vanished
 recycled_here d es =
-    let lost : List Entry = exits_gone d (sent_home (list_in false es d) (untied d es)) in
-    (object_in (map (left_out d) lost) d, gone_at d (map (left_out d) lost))
+    let home : List Entry = sent_home (list_in false es d) (untied d es) in
+    let lost : List Entry = exits_gone d home in
+    (object_in (map (left_out d) lost) d, object_relinked home (vanished d lost) d ∙ gone_at d (map (left_out d) lost))
 
 -- What differs where an object is still there.
 
@@ -345,7 +348,7 @@ without_kept may xs true e r = empties r
 without_kept may xs false e r = r
 
 lists_recycled : (a : Actor) (free : Freedom) (d : ℕ) (es : List Entry) → number_in es (dbref_of d) ≡ Some d → SameLists (judged a free d es) es (recycled d es)
-unfolding recycled vanished exits_gone
+unfolding recycled taken_away vanished exits_gone
 lists_recycled a free d es there v k =
     let j : Judge = judged a free d es in
     let may : ℕ → Bool = front_open j es k in
@@ -359,7 +362,8 @@ lists_recycled a free d es there v k =
     let sent : Q (list_in v home k) = lists_home a free d es (list_in false es d) (contents_emptied a free d es there) loose (untied_rows j d es) xs v k first in
     let second : Q (list_in v lost k) = reordered_all may xs v k (exit_gone d) home (λ e r. exit_kept may xs v (is_exit_of d e.object) e r) sent in
     let third : Q (list_in v apart k) = reordered_one may xs v d k without_exits lost (λ q e r. without_kept may xs v e r) second in
-    reordered_one may xs v d k (λ (e : Entry). gone_entry) (map (left_out d) apart) (λ q e r. exit_kept may xs v true e r) (reordered_left may xs v d k apart third)
+    let gone : Q (list_in v (vanished d apart) k) = reordered_one may xs v d k (λ (e : Entry). gone_entry) (map (left_out d) apart) (λ q e r. exit_kept may xs v true e r) (reordered_left may xs v d k apart third) in
+    subst Q (sym (list_relinked v home (vanished d apart) k)) gone
 
 -- What is to be told: what is gone, of which nothing is there any more.
 
@@ -386,15 +390,15 @@ exit_silent d None = inl refl
 exit_silent d (Some e) = elim (is_exit_of d e.object) as (λ b. Silent (Some e) (Some (cond b gone_entry e))) [ true ↦ inr refl | false ↦ inl refl ]
 
 mark_kept : (d n : ℕ) (es : List Entry) (o : Object) → object_at (dbref_of n) (recycled d es) ≡ Some o → mark_in (recycled d es) n ≡ mark_in es n
-unfolding recycled vanished exits_gone mark_in object_in
+unfolding recycled taken_away vanished exits_gone mark_in object_in
 mark_kept d n es o e = elim (cases_eq n d) [
   | inl k ↦ absurd (none-some o (sym (ap (λ m. object_at (dbref_of m) (recycled d es)) k ∙ lost_at d es) ∙ e))
   | inr k ↦
       let home : List Entry = sent_home (list_in false es d) (untied d es) in
       let lost : List Entry = map (exit_gone d) home in
       let apart : List Entry = changed_at d without_exits lost in
-      let object : object_in (recycled d es) n ≡ object_in lost n = object_elsewhere d n (λ (e : Entry). gone_entry) (map (left_out d) apart) k ∙ object_left d n apart ∙ object_elsewhere d n without_exits lost k in
-      let mark : mark_in (recycled d es) n ≡ mark_in lost n = mark_elsewhere d n (λ (e : Entry). gone_entry) (map (left_out d) apart) k ∙ mark_left d n apart ∙ mark_elsewhere d n without_exits lost k in
+      let object : object_in (recycled d es) n ≡ object_in lost n = object_relinked home (vanished d apart) n ∙ object_elsewhere d n (λ (e : Entry). gone_entry) (map (left_out d) apart) k ∙ object_left d n apart ∙ object_elsewhere d n without_exits lost k in
+      let mark : mark_in (recycled d es) n ≡ mark_in lost n = mark_relinked home (vanished d apart) n ∙ mark_elsewhere d n (λ (e : Entry). gone_entry) (map (left_out d) apart) k ∙ mark_left d n apart ∙ mark_elsewhere d n without_exits lost k in
       let before : mark_in home n ≡ mark_in es n = mark_home (list_in false es d) (untied d es) n ∙ mark_untied d n es in
       let there : option_and_then alive (object_in lost n) ≡ Some o = ap (λ q. option_and_then alive q) (sym object) ∙ sym (seen_at (recycled d es) n) ∙ e in
       let S : Option Entry → Type 0 = λ q. Silent (slice_get home n) q in
@@ -413,10 +417,10 @@ marks_recycled j d es n = at (object_at (dbref_of n) (recycled d es)) refl
 
 -- There are as many numbers as there were.
 many_recycled : (d : ℕ) (es : List Entry) → length (recycled d es) ≡ length es
-unfolding recycled
+unfolding recycled taken_away
 many_recycled d es =
     let home : List Entry = sent_home (list_in false es d) (untied d es) in
-    length_vanished (exits_gone d home) d ∙ length_exits_gone d home ∙ length_sent_home (untied d es) (list_in false es d) ∙ length_untied d es
+    length_relinked home (vanished d (exits_gone d home)) ∙ length_vanished (exits_gone d home) d ∙ length_exits_gone d home ∙ length_sent_home (untied d es) (list_in false es d) ∙ length_untied d es
 
 -- The whole change.
 
@@ -429,6 +433,7 @@ nothing_recycled a free w = record {
     vanished = λ x e. absurd (cc);
     objects = λ n. same_differs n (object_at (dbref_of n) w.objects);
     no_fewer = as_many w.objects w.objects refl;
+    marked = marked_itself w.objects;
     lists = lists_itself (judge a free w.objects) w.objects;
     connections = ties_itself a w.board.connections;
     tune = inl refl;
@@ -474,6 +479,7 @@ there a free x w h d e t =
         vanished = λ y f. let same : y ≡ dbref_of d = cc in ap (λ z. object_at z (recycled d w.objects)) same ∙ lost_at d w.objects;
         objects = differs_recycled a free d w.objects (ap (number_in w.objects) (sym known) ∙ e) k.0;
         no_fewer = as_many w.objects (recycled d w.objects) (many_recycled d w.objects);
+        marked = marked_recycled d w.objects;
         lists = lists_recycled a free d w.objects (ap (number_in w.objects) (sym known) ∙ e);
         connections = ties_itself a w.board.connections;
         tune = inl refl;

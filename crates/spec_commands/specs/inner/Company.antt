@@ -2,6 +2,7 @@
 use Rattle.std.specs.Prelude.{ℕ, ◌+◌, false, List, [], ◌∷◌, codes, Option, Some, None}
 use Rattle.muck_model.specs.declared.dbref.Dbref.{Dbref}
 use Rattle.spec_live.specs.declared.object.Object.{Object}
+use Rattle.spec_live.specs.declared.saving.Saving.TheVariants.{Done}
 use Rattle.spec_live.specs.Objects.{Entry, dbref_of}
 use Rattle.spec_live.specs.Flags.{no_flags}
 use Rattle.spec_live.specs.Start.{room_zero, player_one}
@@ -21,12 +22,12 @@ held objects connections = record { objects = objects; board = record (early_boa
 abbrev pub player_two : Object
 player_two = record player_one { name = codes "Two"; owner = dbref_of 2; flags = no_flags }
 
--- One and Two stand in Room Zero
+-- One and Two stand in Room Zero, as a dump has them
 abbrev pub both_there : List Entry
 both_there =
-    record { object = room_zero; contents = 2 ∷ 1 ∷ []; exits = []; mark = None } ∷
-    record { object = player_one; contents = []; exits = []; mark = None } ∷
-    record { object = player_two; contents = []; exits = []; mark = None } ∷ []
+    record { object = room_zero; contents = 2 ∷ 1 ∷ []; exits = []; mark = None; saving = Done } ∷
+    record { object = player_one; contents = []; exits = []; mark = None; saving = Done } ∷
+    record { object = player_two; contents = []; exits = []; mark = None; saving = Done } ∷ []
 
 -- and these players are connected, on the connections from d on
 abbrev pub seats : ℕ → List ℕ → List Connection

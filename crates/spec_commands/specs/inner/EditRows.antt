@@ -6,6 +6,7 @@ use Rattle.muck_model.specs.declared.dbref.Kind.TheVariants.{Program}
 use Rattle.muck_model.specs.declared.edit.EditState.{EditState}
 use Rattle.muck_model.specs.Decimal.{decimal_of}
 use Rattle.spec_live.specs.declared.object.Object.{Object}
+use Rattle.spec_live.specs.declared.saving.Saving.TheVariants.{Done}
 use Rattle.spec_live.specs.Objects.{dbref_of, object_in, object_at, number_in, kind_in, changed_at}
 use Rattle.spec_live.specs.Start.{player_one}
 use Rattle.spec_live.specs.Output.{sent_lines, queue_most, lines_bytes, line_sent, lines_sent, sent}
@@ -28,7 +29,7 @@ abbrev pub program_three : ℕ → Object
 program_three owner = record player_one { kind = Program; name = codes "ed"; owner = dbref_of owner; lines = codes "old" ∷ [] }
 
 abbrev pub desk : ℕ → Live
-desk owner = record (company (1 ∷ [])) { objects = both_there ++ record { object = program_three owner; contents = []; exits = []; mark = None } ∷ [] }
+desk owner = record (company (1 ∷ [])) { objects = both_there ++ record { object = program_three owner; contents = []; exits = []; mark = None; saving = Done } ∷ [] }
 
 abbrev pub opened_on : List (List ℕ) → EditState
 opened_on lines = record { program = dbref_of 3; lines = lines; inserting = None }
@@ -70,7 +71,7 @@ EditRows =
     ≡ ((entering ∷ exiting ∷ codes " . " ∷ []) ∷ [], Some (codes " . " ∷ codes "Q" ∷ []), Compile))
     -- who may not edit keeps nothing, and leaves all the same
     × (after_typing two 1 [] (codes "c" ∷ []) ≡ ((codes "Permission denied (P16)." ∷ []) ∷ [], Some (codes "old" ∷ []), Stay))
-    -- lines that are the source already change nothing, not even that it was changed
+    -- lines that are the source already change nothing, not even that it was changed or is due for a dump
     × ((typed_in one (codes "c" ∷ codes "q" ∷ []) (desk 1, opened_on (codes "old" ∷ []), Stay)).0.objects ≡ (desk 1).objects)
     × (after_typing two 2 [] (codes "q" ∷ codes "l" ∷ []) ≡ ((codes "Permission denied (P22)." ∷ editor_exited ∷ []) ∷ [], Some (codes "old" ∷ []), Left))
 
