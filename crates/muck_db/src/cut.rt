@@ -178,13 +178,7 @@ fn is_passed(extent: Extent, slots: &Vec<Slot>, k: u32) -> bool
 }
 
 // Whether a number is left out: it isn't looked at, or its object is kept so. It is compared in place with what is kept, which takes no memory.
-fn is_left_out(
-    extent: Extent,
-    base: &[Stored],
-    slots: &Vec<Slot>,
-    k: u32,
-    object: &Object,
-) -> bool
+fn is_left_out(extent: Extent, base: &[Stored], slots: &Vec<Slot>, k: u32, object: &Object) -> bool
     requires order { HasOrder slots.now.items }
     requires known { k < length slots.now.items }
     requires object { object_in (entries_of slots.now.items) k ≡ Some object.now }

@@ -183,12 +183,7 @@ impl Db {
     /// what is tuned. Each record has a spelling. What isn't due has to be kept as it is, and isn't looked at; what is due
     /// is compared with what is kept, and copied where it differs. Then it is pending, until the dump was stored or
     /// failed. Where memory is wanted nothing changes.
-    pub fn cut(
-        &mut self,
-        alloc: Global,
-        base: &[Stored],
-        tune: &Tune,
-    ) -> Result<Batch, NoMemory>
+    pub fn cut(&mut self, alloc: Global, base: &[Stored], tune: &Tune) -> Result<Batch, NoMemory>
         requires kept { KeepsUndue base.now self.old }
         ensures records { IfOk result (λ batch. LeavesOut base.now (persist self.old) batch.records) }
         ensures storable { IfOk result (λ batch. All IsStored batch.records) }
@@ -205,12 +200,7 @@ impl Db {
     }
 
     /// The same of a dump that looks at every object, whatever is kept.
-    pub fn full(
-        &mut self,
-        alloc: Global,
-        base: &[Stored],
-        tune: &Tune,
-    ) -> Result<Batch, NoMemory>
+    pub fn full(&mut self, alloc: Global, base: &[Stored], tune: &Tune) -> Result<Batch, NoMemory>
         ensures records { IfOk result (λ batch. LeavesOut base.now (persist self.old) batch.records) }
         ensures storable { IfOk result (λ batch. All IsStored batch.records) }
         ensures tune { IfOk result (λ batch. batch.tune ≡ tune.now) }
