@@ -1,6 +1,5 @@
 -- What a dump hands to the log, of a table.
-use Rattle.std.proofs.Common.{◌≡◌, ℕ, ◌<◌, List, [], ◌∷◌, Option, Some, None, inl, inr, refl, sym, ◌∙◌, ap, length, map, arith, Bool, true, false}
-use Rattle.std.proofs.lemmas.Bool.{cases_eq, ne_eqb, eq-eqb}
+use Rattle.std.proofs.Common.{◌≡◌, ℕ, ◌<◌, List, [], ◌∷◌, Option, Some, None, inl, inr, refl, ◌∙◌, ap, length, map, arith, Bool, true, false}
 use Rattle.std.proofs.lemmas.Option.{slice_get_cases}
 use Rattle.std.specs.List.{slice_get}
 use Rattle.std.specs.Option.{option_map, option_map_or, option_and_then}
@@ -9,7 +8,7 @@ use Rattle.muck_model.specs.declared.dbref.Dbref.{Dbref}
 use Rattle.muck_prop.specs.Store.{PropMap, behind}
 use Rattle.muck_prop.specs.declared.value.PropValue.{PropValue}
 use Rattle.spec_live.specs.declared.object.Object.{Object}
-use Rattle.spec_live.specs.Chain.{walk, follower, IsChain, Ends, Member}
+use Rattle.spec_live.specs.Chain.{walk, follower, Ends}
 use Rattle.spec_live.specs.Objects.{Entry, dbref_of, garbage, is_exit, kind_in, place_in, list_of, list_in, object_in}
 use Rattle.spec_live.proofs.Chains.{walk_none, walk_next}
 use Rattle.muck_codec.specs.declared.stored.Stored.{Stored}
@@ -19,7 +18,7 @@ use Rattle.muck_db.specs.inner.Slots.{shown, object_at, kept_at, next_at, first_
 use Rattle.muck_db.specs.inner.Shown.{dbref_at}
 use Rattle.muck_db.specs.inner.Kept.{property_at}
 use Rattle.muck_db.proofs.Readers.{object_in-entries_of, list_in-entries_of, place_in-entries_of}
-use Rattle.muck_db.proofs.Linked.{chain_at}
+use Rattle.muck_db.proofs.Linked.{chain_at, follower_is}
 use Rattle.muck_db.proofs.Bridge.{order_chains}
 use Rattle.muck_db.proofs.Showing.{place_standing}
 
@@ -42,19 +41,6 @@ first_walk n f (Some x) h = ap (λ (l : List ℕ). first_of l) (walk_next n f (S
 pub first_stored : (slots : List Slot) → HasOrder slots → (v : Bool) (k : ℕ) → first_of (list_in v (entries_of slots) k) ≡ dbref_at (first_at v slots k)
 unfolding list_at
 first_stored slots s v k = ap (λ (l : List ℕ). first_of l) (list_in-entries_of v slots k) ∙ first_walk (length slots) (next_at slots) (first_at v slots k) (s.ends v k)
-
--- behind a number of a chain stands what it leads to
-follower_is : (n : ℕ) (f : ℕ → Option ℕ) (s : Option ℕ) (xs : List ℕ) (d : ℕ) → IsChain n f s xs → Member d xs → follower d xs ≡ f d
-unfolding IsChain Member follower
-follower_is n f s [] d h m = elim m [ ]
-follower_is n f s (x ∷ []) d h m = elim (cases_eq x d) [
-  | inl e ↦ rw (eq-eqb x d e) (sym h.2 ∙ ap f e)
-  | inr ne ↦ elim m [ inl q ↦ absurd (ne (sym q)) | inr q ↦ elim q [ ] ]
-]
-follower_is n f s (x ∷ y ∷ ys) d h m = elim (cases_eq x d) [
-  | inl e ↦ rw (eq-eqb x d e) (sym h.2.0 ∙ ap f e)
-  | inr ne ↦ rw (ne_eqb x d ne) (follower_is n f (f x) (y ∷ ys) d h.2 (elim m [ inl q ↦ absurd (ne (sym q)) | inr q ↦ q ]))
-]
 
 next_placed : (es : List Entry) (k p : ℕ) → place_in es k ≡ Some p → next_in es k ≡ follower k (list_in (is_exit (kind_in es k)) es p)
 unfolding next_in
