@@ -1,5 +1,5 @@
 -- A world never has fewer objects than it had: what is recycled stays at its number as garbage.
-use Rattle.std.proofs.Common.{◌≡◌, ℕ, ◌≤◌, zero, suc, List, [], ◌∷◌, length, take, refl, ap, arith}
+use Rattle.std.proofs.Common.{ℕ, ◌≤◌, zero, suc, List, [], ◌∷◌, length, take, refl, ap, arith}
 use Rattle.muck_model.specs.declared.event.Entry.{Entry}
 use Rattle.muck_model.specs.declared.event.Event.{Event}
 use Rattle.muck_model.specs.declared.event.Event.TheVariants.{Closed, Exec, Slice, Cut, Stored, DumpFailed}

@@ -45,8 +45,7 @@ gone_away_untouched d w =
 dump_licensed : (f : Saving → Saving) (ds : List ℕ) (text : List ℕ) (w : World) → DumpLicensed f w (on_live (told_each ds text) (on_live (resaved f) w))
 dump_licensed f ds text w =
     let u : World = on_live (resaved f) w in
-    let s = (quiet_told_each ds text).law u.live in
-    (
+    let s = (quiet_told_each ds text).law u.live in (
       record { objects = s.objects; tune = s.tune },
       none_ends w (on_live (told_each ds text) u) refl,
       leavers_ties (λ c. false) w.live.board.connections (told_each ds text u.live).board.connections s.ties,
