@@ -17,3 +17,4 @@ pub mod StoredTree
 pub mod Marking
 pub mod Tying
 pub mod Walking
+pub mod Undue

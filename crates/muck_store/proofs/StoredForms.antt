@@ -11,6 +11,7 @@ use Rattle.spec_live.specs.declared.object.Object.{Object}
 use Rattle.spec_live.specs.Flags.{has_flag, no_flags, vehicle}
 use Rattle.spec_live.specs.Chain.{follower}
 use Rattle.spec_live.specs.Objects.{Entry, dbref_of, index_at, index_of, same, is_exit, is_garbage, object_in, list_of, list_in, kind_in, flags_in, place_in, is_vehicle_in}
+pub use Rattle.spec_live.specs.Saving.{front}
 use Rattle.spec_live.specs.Consistent.{StandsIn}
 use Rattle.spec_live.proofs.Readers.{kind_past}
 use Rattle.muck_codec.specs.declared.stored.Stored.{Stored}
@@ -118,10 +119,6 @@ pub next_follows : (es : List Entry) (v : Bool) (p d : ℕ) → StandsIn es v p 
 next_follows es v p d s = next_persist es d ∙ next_listed es v p d s
 
 -- Where a list begins.
-
-abbrev pub front : List ℕ → Option ℕ
-front [] = None
-front (x ∷ xs) = Some x
 
 index_first : (xs : List ℕ) → index_of (first_of xs) ≡ front xs
 index_first [] = refl

@@ -10,6 +10,7 @@ use Rattle.muck_model.specs.declared.dbref.Kind.TheVariants.{Thing, Player}
 use Rattle.muck_model.proofs.Dbrefs.{same_eq}
 use Rattle.muck_prop.proofs.Maps.{entries_are}
 use Rattle.spec_live.specs.declared.object.Object.{Object}
+use Rattle.spec_live.specs.declared.saving.Saving.TheVariants.{Due}
 use Rattle.spec_live.specs.Chain.{Member, follower}
 use Rattle.spec_live.specs.Objects.{Entry, dbref_of, index_of, nothing, home, same, is_room, is_exit, is_player, is_garbage, garbage, may_stand, list_of, list_in, kind_in, place_in, is_vehicle_in, fits_in}
 use Rattle.spec_live.specs.Setting.{may_link, may_live}
@@ -145,7 +146,7 @@ chains_persist es c k e at =
 
 -- what is stored of an object with these lists, behind which this one stands
 abbrev form : ℕ → Object → List ℕ → List ℕ → Option ℕ → Stored
-form k o contents exits next = record (stored_of [] k (record { object = o; contents = contents; exits = exits; mark = None })) { next = link_of next }
+form k o contents exits next = record (stored_of [] k (record { object = o; contents = contents; exits = exits; mark = None; saving = Due })) { next = link_of next }
 
 no_properties : properties_of garbage.props ≡ []
 unfolding garbage IsStrictlySortedBy

@@ -10,7 +10,7 @@ use Rattle.spec_live.specs.declared.object.Object.{Object}
 use Rattle.spec_live.specs.declared.saving.Saving.TheVariants.{Due}
 use Rattle.spec_live.specs.Chain.{walk}
 use Rattle.spec_live.specs.Objects.{Entry, dbref_of, index_of, nothing}
-pub use Rattle.spec_live.specs.Saving.{next_in}
+unfoldable pub use Rattle.spec_live.specs.Saving.{next_in}
 use Rattle.muck_codec.specs.declared.stored.Stored.{Stored}
 use Rattle.muck_codec.specs.declared.stored.Property.{Property}
 use Rattle.muck_codec.specs.declared.stored.Batch.{Batch}

@@ -10,3 +10,4 @@ pub mod Remounting
 pub mod Begun
 pub mod Idle
 pub mod Covering
+pub mod Undue

@@ -18,7 +18,7 @@ use Rattle.spec_live.proofs.Savings.{object_relinked, list_relinked, saving_reli
 use Rattle.spec_live.proofs.Readers.{kind_alike, place_alike}
 use Rattle.spec_live.proofs.RecyclingLaws.{is_exit_at}
 
-abbrev saving_seen : Option Entry → Saving
+abbrev pub saving_seen : Option Entry → Saving
 saving_seen o = option_map_or (λ (e : Entry). e.saving) o Due
 
 pub saving_past : (es : List Entry) (k : ℕ) → length es ≤ k → saving_in es k ≡ Due
@@ -84,7 +84,7 @@ saving_left d k es = saving_mapped (left_out d) (λ o. false) es k (λ e. refl) 
 
 -- A move.
 
-put_due : (w : Bool) (d : ℕ) (e : Entry) → (put_first w d e).saving ≡ Due
+pub put_due : (w : Bool) (d : ℕ) (e : Entry) → (put_first w d e).saving ≡ Due
 put_due true d e = refl
 put_due false d e = refl
 

@@ -1,26 +1,26 @@
 -- What changes becomes due: each change of the objects, whatever they are, leaves an object due or as it was.
-use Rattle.std.proofs.Common.{◌≡◌, ℕ, List, [], ◌∷◌, ◌++◌, Option, Some, None, inl, inr, refl, sym, ◌∙◌, ap, subst, length, Bool, true, false, cond, eqb, not, ◌&&◌, map}
-use Rattle.std.proofs.lemmas.Bool.{cases_eq, eqb-true, false≢true, and_parts, or_parts}
+use Rattle.std.proofs.Common.{◌≡◌, ℕ, List, [], ◌∷◌, ◌++◌, Option, Some, None, inl, inr, refl, sym, ◌∙◌, ap, subst, length, Bool, true, false, cond, eqb, not, map}
+use Rattle.std.proofs.lemmas.Bool.{cases_eq, false≢true, or_parts}
 use Rattle.std.proofs.lemmas.Option.{slice_get-map}
 use Rattle.std.specs.List.{slice_get}
-use Rattle.std.specs.Option.{option_map, option_and_then, option_map_or}
+use Rattle.std.specs.Option.{option_map, option_map_or}
 use Rattle.muck_model.specs.declared.dbref.Dbref.{Dbref}
 use Rattle.muck_model.specs.declared.dbref.Kind.{Kind}
 use Rattle.spec_live.specs.declared.object.Object.{Object}
 use Rattle.spec_live.specs.declared.mark.Mark.{Mark}
 use Rattle.spec_live.specs.declared.saving.Saving.{Saving}
 use Rattle.spec_live.specs.declared.saving.Saving.TheVariants.{Done, Pending, Due}
-use Rattle.spec_live.specs.Chain.{follower}
-use Rattle.spec_live.specs.Objects.{Entry, dbref_of, same, is_exit, object_in, list_of, list_in, kind_in, place_in, changed_at, on_object, with_object}
-use Rattle.spec_live.specs.Saving.{saving_in, is_due, Links, front, next_in, links_in, is_number, same_links, relinked, done, due_again, on_saving, all_saving, IsAsBefore, Marked}
+use Rattle.spec_live.specs.Objects.{Entry, dbref_of, same, is_exit, object_in, list_of, list_in, kind_in, changed_at, on_object, with_object}
+use Rattle.spec_live.specs.Saving.{saving_in, is_due, Links, links_in, same_links, relinked, done, due_again, on_saving, all_saving, IsAsBefore, Marked}
 use Rattle.spec_live.specs.Moving.{left_out, put_first, with_place, set_down, moved}
 use Rattle.spec_live.specs.Making.{blank_entry, grown, new_object, created}
 use Rattle.spec_live.specs.Setting.{with_lines, lines_set}
 use Rattle.spec_live.specs.Recycling.{without_ties, is_tied, untie, untied, way_home, sent_home, gone_entry, is_exit_of, exit_gone, without_exits, exits_gone, vanished, taken_away, recycled}
 use Rattle.spec_live.specs.Marks.{unmarked, marked_from, change_told}
 use Rattle.spec_live.proofs.Lists.{get_changed_same, get_changed_other, get_more, get_last, read_more}
-use Rattle.spec_live.proofs.Readers.{kind_alike, place_alike, list_change}
-use Rattle.spec_live.proofs.Savings.{object_relinked, list_relinked, saving_relinked}
+use Rattle.spec_live.proofs.Readers.{list_change}
+use Rattle.spec_live.proofs.Savings.{object_relinked, saving_relinked}
+use Rattle.spec_live.proofs.Dues.{saving_seen, put_due, links_alike, links_relinked, same_equal}
 
 -- One change after the other.
 
@@ -65,10 +65,7 @@ entry_due e g h early = absurd (false≢true (sym early ∙ ap (λ s. is_due s) 
 entry_same : (e g : Entry) → g.saving ≡ e.saving → g.object ≡ e.object → is_due g.saving ≡ false → HasEntry e g
 entry_same e g s o early = record { early = ap (λ t. is_due t) (sym s) ∙ early; object = o }
 
--- what the readers see in an entry that may be there
-abbrev saving_seen : Option Entry → Saving
-saving_seen o = option_map_or (λ (x : Entry). x.saving) o Due
-
+-- what a reader sees in an entry that may be there
 abbrev object_seen : Option Entry → Option Object
 object_seen o = option_map (λ (x : Entry). x.object) o
 
@@ -105,23 +102,6 @@ fields_changed n f es h = λ k early. elim (cases_eq k n) [
 
 abbrev KeepsLists : List Entry → List Entry → Type 0
 KeepsLists es fs = (v : Bool) (p : ℕ) → list_in v fs p ≡ list_in v es p
-
-links_same : (a b : Links) → a.content ≡ b.content → a.exit ≡ b.exit → a.next ≡ b.next → a ≡ b
-links_same a b c x n =
-    let make : Option ℕ → Option ℕ → Option ℕ → Links = λ c x n. record { content = c; exit = x; next = n } in
-    ap (λ t. make t a.exit a.next) c ∙ ap (λ t. make b.content t a.next) x ∙ ap (λ t. make b.content b.exit t) n
-
-next_alike : (es fs : List Entry) (k : ℕ) → object_in fs k ≡ object_in es k → KeepsLists es fs → next_in fs k ≡ next_in es k
-unfolding next_in
-next_alike es fs k o lists = rw (kind_alike es fs k o, place_alike es fs k o) (by_cases (is_exit (kind_in es k)) (place_in es k))
-  where
-    by_cases : (v : Bool) (a : Option ℕ) → option_and_then (λ p. follower k (list_in v fs p)) a ≡ option_and_then (λ p. follower k (list_in v es p)) a
-    by_cases v None = refl
-    by_cases v (Some p) = ap (λ xs. follower k xs) (lists v p)
-
-links_alike : (es fs : List Entry) (k : ℕ) → object_in fs k ≡ object_in es k → KeepsLists es fs → links_in fs k ≡ links_in es k
-unfolding links_in
-links_alike es fs k o lists = links_same (links_in fs k) (links_in es k) (ap (λ xs. front xs) (lists false k)) (ap (λ xs. front xs) (lists true k)) (next_alike es fs k o lists)
 
 marked_listed : (es fs : List Entry) → KeepsFields es fs → KeepsLists es fs → Marked es fs
 marked_listed es fs fields lists = λ k early.
@@ -213,18 +193,6 @@ marked_failed es = marked_mapped (on_saving due_again) es (λ e early. record { 
 
 -- What is linked otherwise is due.
 
-number_same : (a b : Option ℕ) → is_number a b ≡ true → a ≡ b
-number_same None None h = refl
-number_same (Some m) (Some n) h = ap (λ z. Some z) (eqb-true m n h)
-number_same None (Some n) h = absurd (false≢true h)
-number_same (Some m) None h = absurd (false≢true h)
-
-links_decoded : (a b : Links) → same_links a b ≡ true → b ≡ a
-links_decoded a b h =
-    let both : ((is_number a.content b.content && is_number a.exit b.exit) ≡ true) × (is_number a.next b.next ≡ true) = and_parts _ _ h in
-    let lists : (is_number a.content b.content ≡ true) × (is_number a.exit b.exit ≡ true) = and_parts _ _ both.0 in
-    links_same b a (sym (number_same a.content b.content lists.0)) (sym (number_same a.exit b.exit lists.1)) (sym (number_same a.next b.next both.1))
-
 same_by : (b : Bool) (s : Saving) → is_due (cond (not b) Due s) ≡ false → b ≡ true
 same_by true s h = refl
 same_by false s h = absurd (false≢true (sym h))
@@ -242,14 +210,10 @@ marked_relinked es fs fields = λ k early.
     record {
       early = was.early;
       object = object_relinked es fs k ∙ was.object;
-      links = links_alike fs (relinked es fs) k (object_relinked es fs k) (λ v p. list_relinked v es fs p) ∙ links_decoded a b (same_by (same_links a b) (saving_in fs k) late);
+      links = links_relinked es fs k ∙ sym (same_equal a b (same_by (same_links a b) (saving_in fs k) late));
     }
 
 -- Moving.
-
-put_due : (w : Bool) (d : ℕ) (e : Entry) → (put_first w d e).saving ≡ Due
-put_due true d e = refl
-put_due false d e = refl
 
 fields_left : (d : ℕ) (es : List Entry) → KeepsFields es (map (left_out d) es)
 fields_left d es = fields_mapped (left_out d) es (λ e. entry_same e (left_out d e) refl refl)
