@@ -1,28 +1,33 @@
 -- From the table to its entries and back.
-use Rattle.std.proofs.Common.{◌≡◌, ℕ, ◌<◌, ◌≤◌, zero, suc, List, [], ◌∷◌, Option, Some, None, ◌⊎◌, inl, inr, refl, sym, ◌∙◌, ap, subst, length, arith, Bool, false, map}
-use Rattle.std.proofs.lemmas.Bool.{cases_eq}
+use Rattle.std.proofs.Common.{◌≡◌, ℕ, ◌<◌, ◌≤◌, zero, suc, List, [], ◌∷◌, Option, Some, None, ◌⊎◌, inl, inr, refl, sym, ◌∙◌, ap, subst, length, arith, Bool, true, false, cond, eqb, ◌||◌, map}
+use Rattle.std.proofs.lemmas.Bool.{cases_eq, ne_eqb, eq-eqb}
 use Rattle.std.specs.List.{slice_get}
-use Rattle.std.specs.Option.{option_map, option_map_or}
+use Rattle.std.specs.Option.{option_map, option_map_or, option_and_then}
 use Rattle.muck_model.specs.declared.dbref.Dbref.{Dbref}
 use Rattle.spec_live.specs.declared.object.Object.{Object}
-use Rattle.spec_live.specs.Chain.{walk, IsChain, Ends, Member, without, put_at}
-use Rattle.spec_live.specs.Objects.{Entry, dbref_of, list_in, place_in, path_in, number_in, changed_at, is_garbage, object_in, object_at, kind_in, fits_in, is_vehicle_in}
-use Rattle.spec_live.specs.Moving.{moved, with_place}
+use Rattle.spec_live.specs.declared.saving.Saving.{Saving}
+use Rattle.spec_live.specs.declared.saving.Saving.TheVariants.{Due}
+use Rattle.spec_live.specs.Chain.{walk, IsChain, Ends, Member, follower, without, put_at}
+use Rattle.spec_live.specs.Objects.{Entry, dbref_of, list_in, place_in, path_in, number_in, changed_at, is_exit, is_garbage, object_in, object_at, kind_in, fits_in, is_vehicle_in}
+use Rattle.spec_live.specs.Moving.{set_down, moved, with_place}
+use Rattle.spec_live.specs.Saving.{front, next_in, links_in, saving_in}
 use Rattle.spec_live.specs.Consistent.{MayMove, IsOrdered, IsConsistent, StandsIn}
 use Rattle.spec_live.specs.Seen.{listed_in}
 use Rattle.spec_live.proofs.Chains.{ends_from, walk_is, walk_next, walk_none, member_none, without_same}
-use Rattle.spec_live.proofs.Lists.{length_changed, length_map}
+use Rattle.spec_live.proofs.Lists.{length_changed, length_map, put_other}
+use Rattle.spec_live.proofs.Dues.{saving_down}
 use Rattle.spec_live.proofs.KindLaws.{standing_alive}
 use Rattle.spec_live.proofs.Orders.{ordered_moved, list_short}
-use Rattle.spec_live.proofs.Readers.{entries_ext, length_moved, list_moved, object_moved, object_unmoved, mark_moved, kind_moved}
+use Rattle.spec_live.proofs.Readers.{entries_ext, kind_alike, place_alike, object_not_down, list_down, length_moved, list_moved, object_moved, object_unmoved, mark_moved, kind_moved}
 use Rattle.muck_db.specs.declared.slot.Slot.{Slot}
-use Rattle.muck_db.specs.inner.Slots.{next_at, first_at, place_at, kind_at, path_at, is_exit_at, list_at, on_slot, dbrefs_from, entries_of, HasChains, HasOrder, IsSound, IsKept, IsUnlinked, IsLinked}
+use Rattle.muck_db.specs.inner.Slots.{next_at, first_at, place_at, kind_at, path_at, is_exit_at, list_at, saving_at, on_slot, dbrefs_from, entries_of, LeadsTo, HasChains, HasOrder, IsSound, IsKept, IsUnlinked, IsLinked}
 use Rattle.muck_db.specs.inner.Limits.{IsWithinLimits}
 use Rattle.spec_live.proofs.Ties.{consistent_moved}
 use Rattle.muck_db.proofs.LimitLaws.{limits_moved}
-use Rattle.muck_db.proofs.Tables.{first-on_slot, next-on_slot, mark-on_slot, object-on_slot_same, object-on_slot_other}
-use Rattle.muck_db.proofs.Linked.{chain_at, chain_over}
-use Rattle.muck_db.proofs.Readers.{length-entries_of, object_in-entries_of, list_in-entries_of, place_in-entries_of, is_exit-entries_of, kind_in-entries_of, flags_in-entries_of, home_in-entries_of, owner_in-entries_of, mark_in-entries_of}
+use Rattle.muck_db.proofs.Tables.{first-on_slot, next-on_slot, mark-on_slot, object-on_slot_same, object-on_slot_other, saving_other}
+use Rattle.muck_db.proofs.Leads.{relinked_due, IsWithout, next_without, saving_without, follower_put}
+use Rattle.muck_db.proofs.Linked.{chain_at, chain_over, led_from}
+use Rattle.muck_db.proofs.Readers.{length-entries_of, object_in-entries_of, list_in-entries_of, place_in-entries_of, is_exit-entries_of, kind_in-entries_of, flags_in-entries_of, home_in-entries_of, owner_in-entries_of, mark_in-entries_of, saving_in-entries_of}
 
 pub walk_same : (k : ℕ) (f g : ℕ → Option ℕ) (s : Option ℕ) → ((x : ℕ) → g x ≡ f x) → walk k g s ≡ walk k f s
 unfolding walk
@@ -77,6 +82,8 @@ unlinked_none d slots h none = record {
   same_length = refl;
   same_objects = λ k. refl;
   same_marks = λ k. refl;
+  due = λ k leads. let m : (v : Bool) × (q : ℕ) × Member d (list_at v slots q) = led_from slots d k leads in absurd (cc ((h.stands m.0 m.1 d m.2).place, none));
+  same_savings = λ k leads. refl;
   chains = λ v p. chain_over _ _ _ _ _ _ _ _ refl refl (without_same d (list_at v slots p) (λ m. absurd (cc ((h.stands v p d m).place, none)))) (λ x m. refl) (chain_at slots h v p);
 }
 
@@ -90,6 +97,60 @@ chain_on_slot n f old mid new v p xs is_new h =
 pub placed_chain : (d : ℕ) (f : Object → Object) (old mid new : List Slot) → IsUnlinked d old mid → new ≡ changed_at d (on_slot f) mid
     → (v : Bool) (p : ℕ) → IsChain (length new) (next_at new) (first_at v new p) (without d (list_at v old p))
 placed_chain d f old mid new u is_new v p = chain_on_slot d f old mid new v p (without d (list_at v old p)) is_new (u.chains v p)
+
+-- The marks behind a move.
+
+moved_here : (es : List Entry) (d to : ℕ) → saving_in (moved d to es) d ≡ Due
+unfolding moved
+moved_here es d to = relinked_due es (set_down d to es) d (saving_down es d to d ∙ rw (eq-eqb d d refl) refl)
+
+moved_there : (es : List Entry) (d to : ℕ) → saving_in (moved d to es) to ≡ Due
+unfolding moved
+moved_there es d to = relinked_due es (set_down d to es) to (saving_down es d to to ∙ rw (eq-eqb to to refl) (either (eqb to d)))
+  where
+    either : (b : Bool) → cond (b || true) Due (saving_in es to) ≡ Due
+    either true = refl
+    either false = refl
+
+next_down : (es : List Entry) (d to k : ℕ) → to < length es → (k ≡ d → ⊥) → next_in (set_down d to es) k ≡ next_without d es k
+unfolding next_in next_without
+next_down es d to k lt other =
+    let fs : List Entry = set_down d to es in
+    let same : object_in fs k ≡ object_in es k = object_not_down es d to k other in
+    rw (place_alike es fs k same, kind_alike es fs k same) (by_cases (place_in es k))
+  where
+    by_cases : (o : Option ℕ) → option_and_then (λ p. follower k (list_in (is_exit (kind_in es k)) (set_down d to es) p)) o ≡ option_and_then (λ p. follower k (without d (list_in (is_exit (kind_in es k)) es p))) o
+    by_cases None = refl
+    by_cases (Some p) =
+        let v : Bool = is_exit (kind_in es k) in
+        ap (λ l. follower k l) (list_down v es d to p lt) ∙ follower_put (is_exit (kind_in es d)) v d to p k (without d (list_in v es p)) other
+
+down_without : (es : List Entry) (d to k : ℕ) → to < length es → (k ≡ d → ⊥) → (k ≡ to → ⊥) → IsWithout d es (set_down d to es) k
+down_without es d to k lt other elsewhere = record {
+  other = other;
+  fronts = λ v. ap front (list_down v es d to k lt ∙ put_other (is_exit (kind_in es d)) to d v k (without d (list_in v es k)) (λ a. elsewhere));
+  next = next_down es d to k lt other;
+}
+
+down_same : (es : List Entry) (d to k : ℕ) → (k ≡ d → ⊥) → (k ≡ to → ⊥) → saving_in (set_down d to es) k ≡ saving_in es k
+down_same es d to k other elsewhere = saving_down es d to k ∙ rw (ne_eqb k d other, ne_eqb k to elsewhere) refl
+
+moved_else : (es : List Entry) (d to k : ℕ) (s : Saving) → to < length es → (k ≡ d → ⊥) → (k ≡ to → ⊥) → (LeadsTo d (links_in es k) → s ≡ Due) → ((LeadsTo d (links_in es k) → ⊥) → s ≡ saving_in es k) → s ≡ saving_in (moved d to es) k
+unfolding moved
+moved_else es d to k s lt other elsewhere is_due same = saving_without d es (set_down d to es) k s (down_without es d to k lt other elsewhere) (down_same es d to k other elsewhere) is_due same
+
+saving_placed : (d to : ℕ) (w : Bool) (old mid placed new : List Slot) → to < length old → IsUnlinked d old mid → placed ≡ changed_at d (on_slot (with_place to)) mid → IsLinked w to d placed new
+    → (k : ℕ) → saving_at new k ≡ saving_in (moved d to (entries_of old)) k
+saving_placed d to w old mid placed new lt u is_placed l k = elim (cases_eq k d) [
+  | inl e ↦ ap (λ z. saving_at new z) e ∙ l.due ∙ sym (ap (λ z. saving_in (moved d to (entries_of old)) z) e ∙ moved_here (entries_of old) d to)
+  | inr other ↦ elim (cases_eq k to) [
+    | inl e ↦ ap (λ z. saving_at new z) e ∙ l.place_due ∙ sym (ap (λ z. saving_in (moved d to (entries_of old)) z) e ∙ moved_there (entries_of old) d to)
+    | inr elsewhere ↦
+        let since : saving_at new k ≡ saving_at mid k = l.same_savings k other elsewhere ∙ ap (λ (z : List Slot). saving_at z k) is_placed ∙ saving_other mid d k (on_slot (with_place to)) other in
+        moved_else (entries_of old) d to k (saving_at new k) (omega (arith, lt, length-entries_of old)) other elsewhere
+        (λ h. since ∙ u.due k h) (λ h. since ∙ u.same_savings k h ∙ sym (saving_in-entries_of old k))
+  ]
+]
 
 -- the three steps make the move
 pub entries_moved : (d to : ℕ) (w : Bool) (old mid placed new : List Slot) → is_exit_at old d ≡ w → to < length old → is_garbage (kind_at mid d) ≡ false → IsUnlinked d old mid → placed ≡ changed_at d (on_slot (with_place to)) mid → IsLinked w to d placed new
@@ -106,6 +167,7 @@ entries_moved d to w old mid placed new exit lt alive u is_placed l =
     ∙ ap (λ t. put_at w to d v k t) (list_is v placed k (without d (list_at v old k)) (placed_chain d (with_place to) old mid placed u is_placed v k))
     ∙ sym (rw (is_exit-entries_of old d, exit, list_in-entries_of v old k) at (list_moved v (entries_of old) d to k (omega (arith, length-entries_of old)))))
     (λ k. mark_in-entries_of new k ∙ l.same_marks k ∙ rw is_placed (mark-on_slot mid d k (with_place to)) ∙ u.same_marks k ∙ sym (mark_in-entries_of old k) ∙ sym (mark_moved (entries_of old) d to k))
+    (λ k. saving_in-entries_of new k ∙ saving_placed d to w old mid placed new lt u is_placed l k)
 
 pub order_moved : (d to : ℕ) (w : Bool) (old placed new : List Slot) → HasOrder old → MayMove (entries_of old) d to → IsLinked w to d placed new → entries_of new ≡ moved d to (entries_of old) → HasOrder new
 order_moved d to w old placed new s may l is = record {

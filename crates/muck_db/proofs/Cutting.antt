@@ -19,7 +19,7 @@ use Rattle.muck_db.specs.inner.Slots.{shown, object_at, kept_at, next_at, first_
 use Rattle.muck_db.specs.inner.Shown.{dbref_at}
 use Rattle.muck_db.specs.inner.Kept.{property_at}
 use Rattle.muck_db.proofs.Readers.{object_in-entries_of, list_in-entries_of, place_in-entries_of}
-use Rattle.muck_db.proofs.Linked.{chain_at}
+use Rattle.muck_db.proofs.Linked.{chain_at, follower_is}
 use Rattle.muck_db.proofs.Bridge.{order_chains}
 use Rattle.muck_db.proofs.Showing.{place_standing}
 
@@ -42,19 +42,6 @@ first_walk n f (Some x) h = ap (λ (l : List ℕ). first_of l) (walk_next n f (S
 pub first_stored : (slots : List Slot) → HasOrder slots → (v : Bool) (k : ℕ) → first_of (list_in v (entries_of slots) k) ≡ dbref_at (first_at v slots k)
 unfolding list_at
 first_stored slots s v k = ap (λ (l : List ℕ). first_of l) (list_in-entries_of v slots k) ∙ first_walk (length slots) (next_at slots) (first_at v slots k) (s.ends v k)
-
--- behind a number of a chain stands what it leads to
-follower_is : (n : ℕ) (f : ℕ → Option ℕ) (s : Option ℕ) (xs : List ℕ) (d : ℕ) → IsChain n f s xs → Member d xs → follower d xs ≡ f d
-unfolding IsChain Member follower
-follower_is n f s [] d h m = elim m [ ]
-follower_is n f s (x ∷ []) d h m = elim (cases_eq x d) [
-  | inl e ↦ rw (eq-eqb x d e) (sym h.2 ∙ ap f e)
-  | inr ne ↦ elim m [ inl q ↦ absurd (ne (sym q)) | inr q ↦ elim q [ ] ]
-]
-follower_is n f s (x ∷ y ∷ ys) d h m = elim (cases_eq x d) [
-  | inl e ↦ rw (eq-eqb x d e) (sym h.2.0 ∙ ap f e)
-  | inr ne ↦ rw (ne_eqb x d ne) (follower_is n f (f x) (y ∷ ys) d h.2 (elim m [ inl q ↦ absurd (ne (sym q)) | inr q ↦ q ]))
-]
 
 next_placed : (es : List Entry) (k p : ℕ) → place_in es k ≡ Some p → next_in es k ≡ follower k (list_in (is_exit (kind_in es k)) es p)
 unfolding next_in

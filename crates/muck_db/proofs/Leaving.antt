@@ -1,34 +1,40 @@
 -- The steps of recycling, from the table to its entries.
 use Rattle.std.proofs.Common.{◌≡◌, ℕ, ◌<◌, List, [], ◌∷◌, Option, Some, None, Result, Ok, inl, inr, refl, sym, ◌∙◌, ap, subst, length, arith, Bool, true, false, cond, map}
 use Rattle.muck_model.proofs.Dbrefs.{eq_same}
-use Rattle.std.proofs.lemmas.Bool.{cases_eq, false≢true, and_parts}
+use Rattle.std.proofs.lemmas.Bool.{cases_eq, ne_eqb, eq-eqb, false≢true, and_parts}
 use Rattle.std.proofs.lemmas.Option.{slice_get-map}
 use Rattle.std.specs.List.{slice_get}
 use Rattle.std.specs.Option.{option_map, option_and_then, option_map_or}
 use Rattle.muck_model.specs.declared.dbref.Dbref.{Dbref}
+use Rattle.muck_model.specs.declared.dbref.Kind.{Kind}
 use Rattle.spec_live.specs.declared.fault.DbFault.{DbFault}
 use Rattle.spec_live.specs.declared.object.Object.{Object}
 use Rattle.spec_live.specs.declared.mark.Mark.TheVariants.{Gone}
-use Rattle.spec_live.specs.Chain.{walk, IsChain, Ends, Member, without}
-use Rattle.spec_live.specs.Objects.{Entry, dbref_of, index_of, same, is_exit, changed_at, garbage, on_object, list_of, object_in, list_in, mark_in, kind_in, fits_in, is_vehicle_in}
+use Rattle.spec_live.specs.declared.saving.Saving.{Saving}
+use Rattle.spec_live.specs.declared.saving.Saving.TheVariants.{Due}
+use Rattle.spec_live.specs.Chain.{walk, IsChain, Ends, Member, follower, without}
+use Rattle.spec_live.specs.Objects.{Entry, dbref_of, index_of, same, is_exit, may_stand, changed_at, garbage, list_of, object_in, list_in, mark_in, kind_in, place_in, fits_in, is_vehicle_in}
+use Rattle.spec_live.specs.Saving.{front, next_in, links_in, saving_in}
 use Rattle.spec_live.specs.Moving.{left_out, moved, Does}
-use Rattle.spec_live.specs.Recycling.{without_ties, untied, way_home, sent_home, gone_entry, is_exit_of, exit_gone, without_exits, exits_gone, vanished, recycled, recycle_check}
-use Rattle.spec_live.specs.Consistent.{IsOrdered, IsConsistent, MayMove}
+use Rattle.spec_live.specs.Recycling.{untie, untied, way_home, sent_home, gone_entry, is_exit_of, exit_gone, without_exits, exits_gone, vanished, taken_away, recycled, recycle_check}
+use Rattle.spec_live.specs.Consistent.{StandsIn, IsOrdered, IsConsistent, MayMove}
 use Rattle.spec_live.proofs.Chains.{ends_from, walk_none, walk_next, without_gone, without_member}
 use Rattle.spec_live.proofs.Lists.{length_map, length_changed, get_changed_same, get_changed_other, some_at}
-use Rattle.spec_live.proofs.Readers.{entries_ext}
-use Rattle.spec_live.proofs.KindLaws.{place_alive}
+use Rattle.spec_live.proofs.Readers.{entries_ext, kind_alike, place_alike}
+use Rattle.spec_live.proofs.KindLaws.{place_alive, only_exit, none_in_exit}
 use Rattle.spec_live.proofs.Checks.{alive_known}
 use Rattle.spec_live.proofs.HomeLaws.{IsUntied, is_untied, ordered_untied, list_untied, length_untied, length_sent_home, HomeStep, home_step}
-use Rattle.spec_live.proofs.RecyclingLaws.{consistent_recycled}
+use Rattle.spec_live.proofs.RecyclingLaws.{is_exit_at, exit_stands, stands_exit, length_taken, object_taken, list_taken, mark_taken, consistent_recycled}
+use Rattle.spec_live.proofs.Dues.{saving_exits, saving_vanished}
 use Rattle.muck_db.specs.declared.slot.Slot.{Slot}
-use Rattle.muck_db.specs.inner.Slots.{shown, object_at, next_at, first_of, first_at, mark_at, place_at, list_at, on_slot, new_slot, wiped, exit_wiped, entry_of, entries_of, Stands, HasOrder, IsSound, IsKept, IsUnlinked}
+use Rattle.muck_db.specs.inner.Slots.{shown, object_at, next_at, first_of, first_at, mark_at, place_at, list_at, saving_at, untied_slot, new_slot, wiped, exit_wiped, entry_of, entries_of, LeadsTo, Stands, HasOrder, IsSound, IsKept, IsUnlinked}
 use Rattle.muck_db.specs.inner.Limits.{IsWithinLimits}
 use Rattle.muck_db.proofs.LimitLaws.{limits_recycled}
-use Rattle.muck_db.proofs.Readers.{length-entries_of, object_in-entries_of, list_in-entries_of, mark_in-entries_of}
+use Rattle.muck_db.proofs.Readers.{length-entries_of, object_in-entries_of, list_in-entries_of, mark_in-entries_of, saving_in-entries_of}
+use Rattle.muck_db.proofs.Leads.{relinked_due, IsWithout, next_without, saving_without}
 use Rattle.muck_db.proofs.Linked.{chain_over}
 use Rattle.muck_db.proofs.Bridge.{list_is, ends_none, order_chains}
-use Rattle.muck_db.proofs.Writes.{entries_mapped, ends_mapped, on_slot_first}
+use Rattle.muck_db.proofs.Writes.{entries_mapped, ends_mapped}
 
 pub fits_within : (slots : List Slot) (x to : ℕ) → fits_in (entries_of slots) x to ≡ true → to < length slots
 unfolding fits_in
@@ -38,11 +44,11 @@ fits_within slots x to h =
 
 -- Nothing is tied to d any more.
 
-untied_entry : (d : ℕ) (slots : List Slot) (s : Slot) → entry_of slots (on_slot (without_ties d) s) ≡ on_object (without_ties d) (entry_of slots s)
-unfolding entry_of garbage
+untied_entry : (d : ℕ) (slots : List Slot) (s : Slot) → entry_of slots (untied_slot d s) ≡ untie d (entry_of slots s)
+unfolding entry_of untied_slot garbage
 untied_entry d slots s = by_cases s.object refl
   where
-    by_cases : (o : Option Object) → s.object ≡ o → entry_of slots (on_slot (without_ties d) s) ≡ on_object (without_ties d) (entry_of slots s)
+    by_cases : (o : Option Object) → s.object ≡ o → entry_of slots (untied_slot d s) ≡ untie d (entry_of slots s)
     by_cases None e = rw e refl
     by_cases (Some o) e = rw e refl
 
@@ -52,11 +58,20 @@ pub record Untied (d : ℕ) (old new : List Slot) : Type 0 where
   pub free : IsUntied d (entries_of new)
   pub sent : sent_home (list_in false (entries_of new) d) (entries_of new) ≡ sent_home (list_in false (entries_of old) d) (untied d (entries_of old))
 
-entries_untied : (d : ℕ) (old new : List Slot) → new ≡ map (on_slot (without_ties d)) old → entries_of new ≡ untied d (entries_of old)
-unfolding untied
-entries_untied d old new is = ap (λ (z : List Slot). entries_of z) is ∙ entries_mapped (on_slot (without_ties d)) (on_object (without_ties d)) old (λ s. refl) (untied_entry d old)
+untied_next : (d : ℕ) (s : Slot) → (untied_slot d s).next ≡ s.next
+unfolding untied_slot
+untied_next d s = refl
 
-pub untied_table : (d : ℕ) (old new : List Slot) → HasOrder old → (d ≡ 0 → ⊥) → new ≡ map (on_slot (without_ties d)) old → Untied d old new
+untied_first : (d : ℕ) (v : Bool) (s : Slot) → first_of v (untied_slot d s) ≡ first_of v s
+unfolding untied_slot
+untied_first d true s = refl
+untied_first d false s = refl
+
+entries_untied : (d : ℕ) (old new : List Slot) → new ≡ map (untied_slot d) old → entries_of new ≡ untied d (entries_of old)
+unfolding untied
+entries_untied d old new is = ap (λ (z : List Slot). entries_of z) is ∙ entries_mapped (untied_slot d) (untie d) old (untied_next d) (untied_entry d old)
+
+pub untied_table : (d : ℕ) (old new : List Slot) → HasOrder old → (d ≡ 0 → ⊥) → new ≡ map (untied_slot d) old → Untied d old new
 untied_table d old new order low is =
     let es : List Entry = entries_of old in
     let entries : entries_of new ≡ untied d es = entries_untied d old new is in
@@ -64,8 +79,8 @@ untied_table d old new order low is =
     let U : List Entry → Type 0 = λ z. IsUntied d z in
     let S : List Entry → Type 0 = λ z. sent_home (list_in false z d) z ≡ sent_home (list_in false es d) (untied d es) in
     record {
-      order = record { ends = ends_mapped (on_slot (without_ties d)) old new is (λ s. refl) (on_slot_first (without_ties d)) order.ends; ordered = subst O (sym entries) (ordered_untied es d order.ordered) };
-      same_length = ap (λ (z : List Slot). length z) is ∙ length_map (on_slot (without_ties d)) old;
+      order = record { ends = ends_mapped (untied_slot d) old new is (untied_next d) (untied_first d) order.ends; ordered = subst O (sym entries) (ordered_untied es d order.ordered) };
+      same_length = ap (λ (z : List Slot). length z) is ∙ length_map (untied_slot d) old;
       free = subst U (sym entries) (is_untied es d low);
       sent = subst S (sym entries) (ap (λ l. sent_home l (untied d es)) (list_untied false d d es));
     }
@@ -330,16 +345,120 @@ wiped_here : (d : ℕ) (mid left new : List Slot) → d < length mid → left �
 unfolding object_at mark_at
 wiped_here d mid left new lt l n = (ap (λ (o : Option Slot). option_map shown o) (get_wiped d mid left new lt l n), ap (λ (o : Option Slot). option_and_then (λ (s : Slot). s.mark) o) (get_wiped d mid left new lt l n))
 
-length_gone : (d : ℕ) (es : List Entry) → length (vanished d (exits_gone d es)) ≡ length es
-unfolding vanished exits_gone
-length_gone d es =
-    let xs : List Entry = changed_at d without_exits (map (exit_gone d) es) in
-    length_changed (map (left_out d) xs) d (λ e. gone_entry) ∙ length_map (left_out d) xs ∙ length_changed (map (exit_gone d) es) d without_exits ∙ length_map (exit_gone d) es
+-- The marks of what is left.
 
-pub entries_vanished : (d : ℕ) (old mid left new : List Slot) → HasOrder old → d < length old → IsUnlinked d old mid → left ≡ map (exit_wiped d) mid → new ≡ changed_at d wiped left
-    → entries_of new ≡ vanished d (exits_gone d (entries_of old))
+wiped_saving : (d : ℕ) (s : Slot) (b : Bool) → is_exit_of d (shown s) ≡ b → (exit_wiped d s).saving ≡ cond b Due s.saving
+wiped_saving d s true h = ap (λ (z : Slot). z.saving) (wiped_is d s h)
+wiped_saving d s false h = ap (λ (z : Slot). z.saving) (unwiped_is d s h)
+
+saving_kept_at : (d k : ℕ) (mid left new : List Slot) → (k ≡ d → ⊥) → left ≡ map (exit_wiped d) mid → new ≡ changed_at d wiped left → saving_at new k ≡ cond (exit_at d mid k) Due (saving_at mid k)
+unfolding saving_at exit_at object_at
+saving_kept_at d k mid left new ne l n = ap (λ (o : Option Slot). option_map_or (λ (s : Slot). s.saving) o Due) (get_other d k mid left new ne l n) ∙ by_cases (slice_get mid k)
+  where
+    by_cases : (o : Option Slot) → option_map_or (λ (s : Slot). s.saving) (option_map (exit_wiped d) o) Due ≡ cond (option_map_or (is_exit_of d) (option_map shown o) false) Due (option_map_or (λ (s : Slot). s.saving) o Due)
+    by_cases None = refl
+    by_cases (Some s) = wiped_saving d s (is_exit_of d (shown s)) refl
+
+saving_left : (d k : ℕ) (es : List Entry) → (k ≡ d → ⊥) → saving_in (vanished d (exits_gone d es)) k ≡ cond (exit_in d es k) Due (saving_in es k)
+unfolding exit_in is_exit_at
+saving_left d k es ne = saving_vanished (exits_gone d es) d k ∙ rw (ne_eqb k d ne) (saving_exits d k es)
+
+exit_stands_in : (d k : ℕ) (es : List Entry) → exit_in d es k ≡ true → StandsIn es true d k
+unfolding exit_in is_exit_at
+exit_stands_in d k es h = exit_stands d es k h
+
+stands_exit_in : (d k : ℕ) (es : List Entry) → StandsIn es true d k → exit_in d es k ≡ true
+unfolding exit_in is_exit_at
+stands_exit_in d k es h = stands_exit d es k h
+
+-- nothing stands in an exit
+place_stays : (d k p : ℕ) (es : List Entry) → IsOrdered es → place_in es k ≡ Some p → exit_in d es p ≡ false
+unfolding fits_in
+place_stays d k p es c place = whether (exit_in d es p) (exit_in d es p ≡ false)
+    (λ h. let P : Kind → Type 0 = λ z. may_stand (kind_in es k) z (is_vehicle_in es p) ≡ true in
+    absurd (none_in_exit (kind_in es k) (is_vehicle_in es p) (subst P (only_exit (kind_in es p) (exit_stands_in d p es h).kind) (c.kinds k p place))))
+    (λ h. h)
+
+no_member : (x : ℕ) (xs : List ℕ) → xs ≡ [] → Member x xs → ⊥
+unfolding Member
+no_member x xs e m = let P : List ℕ → Type 0 = λ l. Member x l in subst P e m
+
+-- what stands in d, in which nothing is but exits, is one of them
+place_other : (d k p : ℕ) (es : List Entry) → IsOrdered es → list_in false es d ≡ [] → exit_in d es k ≡ false → place_in es k ≡ Some p → p ≡ d → ⊥
+place_other d k p es c empty stays place e =
+    let here : place_in es k ≡ Some d = place ∙ ap (λ z. Some z) e in
+    whether (is_exit (kind_in es k)) ⊥
+    (λ h. false≢true (sym stays ∙ stands_exit_in d k es (record { place = here; kind = h })))
+    (λ h. no_member k (list_in false es d) empty (c.listed false d k (record { place = here; kind = h })))
+
+left_object_same : (d : ℕ) (o : Option Object) → option_map_or (is_exit_of d) o false ≡ false → option_map (left_object d) o ≡ o
+unfolding left_object
+left_object_same d None h = refl
+left_object_same d (Some o) h = ap (λ b. Some (cond b garbage o)) h
+
+object_stays_in : (d k : ℕ) (es : List Entry) → (k ≡ d → ⊥) → exit_in d es k ≡ false → object_in (vanished d (exits_gone d es)) k ≡ object_in es k
+unfolding exit_in
+object_stays_in d k es ne stays = object_left_in d k es ne ∙ left_object_same d (object_in es k) stays
+
+list_stays_in : (v : Bool) (d k : ℕ) (es : List Entry) → (k ≡ d → ⊥) → exit_in d es k ≡ false → list_in v (vanished d (exits_gone d es)) k ≡ without d (list_in v es k)
+list_stays_in v d k es ne stays = list_left_in v d k es ne ∙ ap (λ b. cond b [] (without d (list_in v es k))) stays
+
+next_left : (d k : ℕ) (es : List Entry) → IsOrdered es → list_in false es d ≡ [] → (k ≡ d → ⊥) → exit_in d es k ≡ false → next_in (vanished d (exits_gone d es)) k ≡ next_without d es k
+unfolding next_in next_without
+next_left d k es c empty ne stays =
+    let fs : List Entry = vanished d (exits_gone d es) in
+    let same : object_in fs k ≡ object_in es k = object_stays_in d k es ne stays in
+    rw (place_alike es fs k same, kind_alike es fs k same) (by_cases (place_in es k) refl)
+  where
+    by_cases : (o : Option ℕ) → place_in es k ≡ o
+        → option_and_then (λ p. follower k (list_in (is_exit (kind_in es k)) (vanished d (exits_gone d es)) p)) o ≡ option_and_then (λ p. follower k (without d (list_in (is_exit (kind_in es k)) es p))) o
+    by_cases None e = refl
+    by_cases (Some p) e = ap (λ l. follower k l) (list_stays_in (is_exit (kind_in es k)) d p es (place_other d k p es c empty stays e) (place_stays d k p es c e))
+
+left_without : (d k : ℕ) (es : List Entry) → IsOrdered es → list_in false es d ≡ [] → (k ≡ d → ⊥) → exit_in d es k ≡ false → IsWithout d es (vanished d (exits_gone d es)) k
+left_without d k es c empty ne stays = record {
+  other = ne;
+  fronts = λ v. ap front (list_stays_in v d k es ne stays);
+  next = next_left d k es c empty ne stays;
+}
+
+taken_here : (d : ℕ) (es : List Entry) → saving_in (taken_away d es) d ≡ Due
+unfolding taken_away
+taken_here d es = relinked_due es (vanished d (exits_gone d es)) d (saving_vanished (exits_gone d es) d d ∙ rw (eq-eqb d d refl) refl)
+
+taken_exit : (d k : ℕ) (es : List Entry) → (k ≡ d → ⊥) → exit_in d es k ≡ true → saving_in (taken_away d es) k ≡ Due
+unfolding taken_away
+taken_exit d k es ne h = relinked_due es (vanished d (exits_gone d es)) k (saving_left d k es ne ∙ rw h refl)
+
+taken_else : (d k : ℕ) (es : List Entry) (s : Saving) → IsOrdered es → list_in false es d ≡ [] → (k ≡ d → ⊥) → exit_in d es k ≡ false
+    → (LeadsTo d (links_in es k) → s ≡ Due) → ((LeadsTo d (links_in es k) → ⊥) → s ≡ saving_in es k) → s ≡ saving_in (taken_away d es) k
+unfolding taken_away
+taken_else d k es s c empty ne stays is_due same =
+    saving_without d es (vanished d (exits_gone d es)) k s (left_without d k es c empty ne stays) (saving_left d k es ne ∙ ap (λ b. cond b Due (saving_in es k)) stays) is_due same
+
+wiped_due : (d : ℕ) (mid left new : List Slot) → d < length mid → left ≡ map (exit_wiped d) mid → new ≡ changed_at d wiped left → saving_at new d ≡ Due
+unfolding saving_at
+wiped_due d mid left new lt l n = ap (λ (o : Option Slot). option_map_or (λ (s : Slot). s.saving) o Due) (get_wiped d mid left new lt l n)
+
+saving_taken : (d : ℕ) (old mid left new : List Slot) → HasOrder old → list_in false (entries_of old) d ≡ [] → d < length old → IsUnlinked d old mid → left ≡ map (exit_wiped d) mid → new ≡ changed_at d wiped left
+    → (k : ℕ) → saving_at new k ≡ saving_in (taken_away d (entries_of old)) k
+saving_taken d old mid left new s empty lt u l n k =
+    let es : List Entry = entries_of old in
+    elim (cases_eq k d) [
+      | inl e ↦ ap (λ z. saving_at new z) e ∙ wiped_due d mid left new (omega (arith, lt, u.same_length)) l n ∙ sym (ap (λ z. saving_in (taken_away d es) z) e ∙ taken_here d es)
+      | inr ne ↦
+          let exit : exit_at d mid k ≡ exit_in d es k = exit_same d k old mid u ∙ sym (exit_bridge d k old) in
+          let kept : saving_at new k ≡ cond (exit_in d es k) Due (saving_at mid k) = saving_kept_at d k mid left new ne l n ∙ ap (λ b. cond b Due (saving_at mid k)) exit in
+          whether (exit_in d es k) (saving_at new k ≡ saving_in (taken_away d es) k)
+          (λ h. kept ∙ ap (λ b. cond b Due (saving_at mid k)) h ∙ sym (taken_exit d k es ne h))
+          (λ h. let since : saving_at new k ≡ saving_at mid k = kept ∙ ap (λ b. cond b Due (saving_at mid k)) h in
+          taken_else d k es (saving_at new k) s.ordered empty ne h (λ q. since ∙ u.due k q) (λ q. since ∙ u.same_savings k q ∙ sym (saving_in-entries_of old k)))
+    ]
+
+pub entries_vanished : (d : ℕ) (old mid left new : List Slot) → HasOrder old → list_in false (entries_of old) d ≡ [] → d < length old → IsUnlinked d old mid → left ≡ map (exit_wiped d) mid → new ≡ changed_at d wiped left
+    → entries_of new ≡ taken_away d (entries_of old)
 unfolding left_list
-entries_vanished d old mid left new s lt u l n =
+entries_vanished d old mid left new s empty lt u l n =
     let es : List Entry = entries_of old in
     let known : d < length es = omega (arith, lt, length-entries_of old) in
     let within : d < length mid = omega (arith, lt, u.same_length) in
@@ -347,29 +466,30 @@ entries_vanished d old mid left new s lt u l n =
     let gone : (object_in (vanished d (exits_gone d es)) d ≡ Some garbage) × (mark_in (vanished d (exits_gone d es)) d ≡ Some Gone) × ((v : Bool) → list_in v (vanished d (exits_gone d es)) d ≡ []) = gone_here d es known in
     let here : (object_at new d ≡ Some garbage) × (mark_at new d ≡ Some Gone) = wiped_here d mid left new within l n in
     let exits : (k : ℕ) → exit_at d mid k ≡ exit_in d es k = λ k. exit_same d k old mid u ∙ sym (exit_bridge d k old) in
-    entries_ext (entries_of new) (vanished d (exits_gone d es))
-    (length-entries_of new ∙ same_length ∙ sym (length-entries_of old) ∙ sym (length_gone d es))
-    (λ k. object_in-entries_of new k ∙ elim (cases_eq k d) [
+    entries_ext (entries_of new) (taken_away d es)
+    (length-entries_of new ∙ same_length ∙ sym (length-entries_of old) ∙ sym (length_taken es d))
+    (λ k. object_in-entries_of new k ∙ (elim (cases_eq k d) [
       | inl e ↦ ap (λ z. object_at new z) e ∙ here.0 ∙ sym gone.0 ∙ ap (λ z. object_in (vanished d (exits_gone d es)) z) (sym e)
       | inr ne ↦ object_kept_at d k mid left new ne l n ∙ ap (λ (o : Option Object). option_map (left_object d) o) (u.same_objects k ∙ sym (object_in-entries_of old k)) ∙ sym (object_left_in d k es ne)
-    ])
-    (λ v k. list_in-entries_of v new k ∙ elim (cases_eq k d) [
+    ]) ∙ sym (object_taken es d k))
+    (λ v k. list_in-entries_of v new k ∙ (elim (cases_eq k d) [
       | inl e ↦ ap (λ z. list_at v new z) e ∙ list_is v new d [] (chain_empty (length new) (next_at new) (first_at v new d) (first_here v d mid left new within l n)) ∙ sym (gone.2 v) ∙ ap (λ z. list_in v (vanished d (exits_gone d es)) z) (sym e)
       | inr ne ↦ list_is v new k (left_list d old v k) (chain_left v d k old mid left new s u l n ne)
           ∙ ap (λ b. cond b [] (without d (list_at v old k))) (sym (exit_bridge d k old))
           ∙ ap (λ z. cond (exit_in d es k) [] (without d z)) (sym (list_in-entries_of v old k))
           ∙ sym (list_left_in v d k es ne)
-    ])
-    (λ k. mark_in-entries_of new k ∙ elim (cases_eq k d) [
+    ]) ∙ sym (list_taken v es d k))
+    (λ k. mark_in-entries_of new k ∙ (elim (cases_eq k d) [
       | inl e ↦ ap (λ z. mark_at new z) e ∙ here.1 ∙ sym gone.1 ∙ ap (λ z. mark_in (vanished d (exits_gone d es)) z) (sym e)
       | inr ne ↦ mark_kept_at d k mid left new ne l n ∙ ap (λ b. cond b (Some Gone) (mark_at mid k)) (exits k) ∙ ap (λ z. cond (exit_in d es k) (Some Gone) z) (u.same_marks k ∙ sym (mark_in-entries_of old k)) ∙ sym (mark_left_in d k es ne)
-    ])
+    ]) ∙ sym (mark_taken es d k))
+    (λ k. saving_in-entries_of new k ∙ saving_taken d old mid left new s empty lt u l n k)
 
 -- All steps.
 
-pub recycled_from : (d : ℕ) (old mid new : List Slot) → entries_of mid ≡ sent_home (list_in false (entries_of old) d) (untied d (entries_of old)) → entries_of new ≡ vanished d (exits_gone d (entries_of mid)) → entries_of new ≡ recycled d (entries_of old)
+pub recycled_from : (d : ℕ) (old mid new : List Slot) → entries_of mid ≡ sent_home (list_in false (entries_of old) d) (untied d (entries_of old)) → entries_of new ≡ taken_away d (entries_of mid) → entries_of new ≡ recycled d (entries_of old)
 unfolding recycled
-recycled_from d old mid new e f = f ∙ ap (λ (z : List Entry). vanished d (exits_gone d z)) e
+recycled_from d old mid new e f = f ∙ ap (λ (z : List Entry). taken_away d z) e
 
 pub length_cleared : (d : ℕ) (old mid : List Slot) → d < length old → entries_of mid ≡ sent_home (list_in false (entries_of old) d) (untied d (entries_of old)) → d < length mid
 length_cleared d old mid lt e = omega (

@@ -1,6 +1,7 @@
 pub mod Tables
-pub mod Linked
 pub mod Readers
+pub mod Leads
+pub mod Linked
 pub mod Digests
 pub mod LimitLaws
 pub mod Bridge
@@ -17,5 +18,6 @@ pub mod Settings
 pub mod Cutting
 pub mod Spelled
 pub mod Keeping
+pub mod Dumping
 pub mod Stocking
 pub mod Loading

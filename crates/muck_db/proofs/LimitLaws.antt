@@ -13,16 +13,19 @@ use Rattle.muck_model.specs.declared.dbref.Kind.{Kind}
 use Rattle.muck_prop.specs.declared.value.PropValue.{PropValue}
 use Rattle.spec_live.specs.declared.object.Object.{Object}
 use Rattle.spec_live.specs.declared.mark.Mark.{Mark}
+use Rattle.spec_live.specs.declared.saving.Saving.{Saving}
 use Rattle.spec_live.specs.Objects.{Entry, changed_at, on_object, with_object, garbage, object_in, object_at, number_in, kind_in, is_exit, is_program, is_player}
-use Rattle.spec_live.specs.Moving.{left_out, put_first, with_place, moved}
+use Rattle.spec_live.specs.Moving.{left_out, put_first, with_place, set_down, moved}
 use Rattle.spec_live.specs.Making.{blank_entry, grown, new_object, created}
 use Rattle.spec_live.specs.Marks.{unmarked, marked_from, change_told}
 use Rattle.spec_live.specs.Password.{salt_bytes, first_salt, first_password}
-use Rattle.spec_live.specs.Recycling.{without_ties, untied, way_home, sent_home, gone_entry, is_exit_of, exit_gone, without_exits, exits_gone, vanished, recycled}
+use Rattle.spec_live.specs.Recycling.{without_ties, untie, untied, way_home, sent_home, gone_entry, is_exit_of, exit_gone, without_exits, exits_gone, vanished, taken_away, recycled}
+use Rattle.spec_live.specs.Saving.{relinked, all_saving}
 use Rattle.spec_live.specs.Setting.{set_at, with_name, with_owner, with_link, with_home, with_flags, level_check, with_level, with_lines, lines_set, with_password, with_prop, without_prop}
 use Rattle.spec_live.specs.Start.{first_digest, room_zero, player_one, first_objects}
 use Rattle.spec_live.proofs.Lists.{get_changed_same}
 use Rattle.spec_live.proofs.Readers.{object_elsewhere}
+use Rattle.spec_live.proofs.Savings.{object_relinked, object_resaved}
 use Rattle.spec_live.proofs.Checks.{checked_ok}
 use Rattle.spec_live.proofs.CreationLaws.{object_more, object_last, grown_same, grown_more}
 use Rattle.muck_db.specs.inner.Limits.{IsDigest, FitsLimits, IsWithinLimits}
@@ -137,12 +140,23 @@ put_fits : (exits : Bool) (d : ℕ) (e : Entry) → FitsLimits e.object → Fits
 put_fits true d e h = h
 put_fits false d e h = h
 
-pub limits_moved : (d to : ℕ) (es : List Entry) → IsWithinLimits es → IsWithinLimits (moved d to es)
-unfolding moved
-limits_moved d to es h =
+-- marks have no limit
+limits_relinked : (before es : List Entry) → IsWithinLimits es → IsWithinLimits (relinked before es)
+limits_relinked before es h k o e = h k o (sym (object_relinked before es k) ∙ e)
+
+pub limits_resaved : (f : Saving → Saving) (es : List Entry) → IsWithinLimits es → IsWithinLimits (all_saving f es)
+limits_resaved f es h k o e = h k o (sym (object_resaved f k es) ∙ e)
+
+limits_down : (d to : ℕ) (es : List Entry) → IsWithinLimits es → IsWithinLimits (set_down d to es)
+unfolding set_down
+limits_down d to es h =
     let left : IsWithinLimits (map (left_out d) es) = limits_map (left_out d) es (λ e l. l) h in
     let put : IsWithinLimits (changed_at to (put_first (is_exit (kind_in es d)) d) (map (left_out d) es)) = limits_at to (put_first (is_exit (kind_in es d)) d) (map (left_out d) es) (put_fits (is_exit (kind_in es d)) d) left in
     limits_alike (with_place to) d _ (λ o. record { name = refl; level = refl; flags = refl; lines = refl; digest = refl }) put
+
+pub limits_moved : (d to : ℕ) (es : List Entry) → IsWithinLimits es → IsWithinLimits (moved d to es)
+unfolding moved
+limits_moved d to es h = limits_relinked es (set_down d to es) (limits_down d to es h)
 
 -- Creation.
 
@@ -166,7 +180,7 @@ limits_created n kind name owner to es some short h =
 
 limits_untied : (d : ℕ) (es : List Entry) → IsWithinLimits es → IsWithinLimits (untied d es)
 unfolding untied
-limits_untied d es h = limits_map (on_object (without_ties d)) es (λ e. fits_same e.object (without_ties d e.object) (record { name = refl; level = refl; flags = refl; lines = refl; digest = refl })) h
+limits_untied d es h = limits_map (untie d) es (λ e. fits_same e.object (without_ties d e.object) (record { name = refl; level = refl; flags = refl; lines = refl; digest = refl })) h
 
 limits_sent_home : (xs : List ℕ) (es : List Entry) → IsWithinLimits es → IsWithinLimits (sent_home xs es)
 unfolding sent_home
@@ -193,8 +207,8 @@ unfolding vanished
 limits_vanished d es h = limits_at d (λ e. gone_entry) (map (left_out d) es) (λ e l. gone_fits) (limits_map (left_out d) es (λ e l. l) h)
 
 pub limits_recycled : (d : ℕ) (es : List Entry) → IsWithinLimits es → IsWithinLimits (recycled d es)
-unfolding recycled
-limits_recycled d es h = limits_vanished d _ (limits_exits_gone d _ (limits_sent_home _ (untied d es) (limits_untied d es h)))
+unfolding recycled taken_away
+limits_recycled d es h = limits_relinked _ _ (limits_vanished d _ (limits_exits_gone d _ (limits_sent_home _ (untied d es) (limits_untied d es h))))
 
 -- Telling, and the start.
 

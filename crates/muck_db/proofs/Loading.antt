@@ -13,7 +13,9 @@ use Rattle.muck_store.specs.inner.Hung.{IsHung}
 use Rattle.muck_store.specs.Limits.{is_digit, is_digest, fits}
 use Rattle.muck_store.specs.Whole.{first_at as record_first}
 use Rattle.spec_live.specs.declared.object.Object.{Object}
+use Rattle.spec_live.specs.declared.saving.Saving.TheVariants.{Due}
 use Rattle.spec_live.specs.Chain.{walk, IsChain, Ends}
+use Rattle.spec_live.specs.Saving.{saving_in}
 use Rattle.spec_live.specs.Consistent.{IsConsistent}
 use Rattle.spec_live.specs.Objects.{Entry, index_of, is_garbage, garbage, object_in, list_of, list_in, mark_in}
 use Rattle.spec_live.proofs.Chains.{walk_none}
@@ -22,10 +24,10 @@ use Rattle.spec_live.proofs.Readers.{entries_ext}
 use Rattle.muck_db.specs.declared.slot.Slot.{Slot}
 use Rattle.muck_db.specs.inner.Limits.{IsDigest, FitsLimits, IsWithinLimits}
 use Rattle.muck_db.specs.inner.Loading.{object_kept, slot_of, slots_of}
-use Rattle.muck_db.specs.inner.Slots.{shown, object_at, next_at, first_of, first_at, mark_at, list_at, entries_of, IsKept}
+use Rattle.muck_db.specs.inner.Slots.{shown, object_at, next_at, first_of, first_at, mark_at, saving_at, list_at, entries_of, IsKept}
 use Rattle.muck_db.proofs.Bridge.{walk_same}
 use Rattle.muck_db.proofs.Linked.{chain_over}
-use Rattle.muck_db.proofs.Readers.{length-entries_of, object_in-entries_of, list_in-entries_of, mark_in-entries_of}
+use Rattle.muck_db.proofs.Readers.{length-entries_of, object_in-entries_of, list_in-entries_of, mark_in-entries_of, saving_in-entries_of}
 
 -- The chains of the table.
 
@@ -110,6 +112,17 @@ mark-slots_of os k =
     ap (λ (o : Option Slot). option_and_then (λ (s : Slot). s.mark) o) (slice_get-map slot_of os k) ∙ marks_by os (slice_get os k)
     ∙ ap (λ (o : Option Entry). option_and_then (λ (e : Entry). e.mark) o) (sym (slice_get-map (record_entry os) os k))
 
+savings_by : (os : List Stored) (q : Option Stored) → option_map_or (λ (s : Slot). s.saving) (option_map slot_of q) Due ≡ option_map_or (λ (e : Entry). e.saving) (option_map (record_entry os) q) Due
+unfolding slot_of record_entry
+savings_by os None = refl
+savings_by os (Some s) = refl
+
+saving-slots_of : (os : List Stored) (k : ℕ) → saving_at (slots_of os) k ≡ saving_in (loaded os) k
+unfolding saving_at saving_in slots_of loaded
+saving-slots_of os k =
+    ap (λ (o : Option Slot). option_map_or (λ (s : Slot). s.saving) o Due) (slice_get-map slot_of os k) ∙ savings_by os (slice_get os k)
+    ∙ ap (λ (o : Option Entry). option_map_or (λ (e : Entry). e.saving) o Due) (sym (slice_get-map (record_entry os) os k))
+
 -- a blank record shows as garbage
 kept_by : (s : Stored) (b : Bool) → (b ≡ true → object_of s ≡ garbage) → option_map_or (λ (o : Object). o) (if b then None else Some (object_of s)) garbage ≡ object_of s
 kept_by s true blank = sym (blank refl)
@@ -135,6 +148,7 @@ entries-slots_of os world =
     (λ k. object_in-entries_of (slots_of os) k ∙ object-slots_of os world k)
     (λ v k. list_in-entries_of v (slots_of os) k ∙ list-slots_of v os k ∙ sym (list-loaded v os k))
     (λ k. mark_in-entries_of (slots_of os) k ∙ mark-slots_of os k)
+    (λ k. saving_in-entries_of (slots_of os) k ∙ saving-slots_of os k)
 
 -- The limits.
 

@@ -4,10 +4,11 @@ use Rattle.std.proofs.lemmas.Bool.{cases_eq, false≢true}
 use Rattle.std.specs.List.{slice_get}
 use Rattle.std.specs.Option.{option_map, option_and_then, option_map_or}
 use Rattle.spec_live.specs.declared.object.Object.{Object}
+use Rattle.spec_live.specs.declared.saving.Saving.TheVariants.{Due}
 use Rattle.spec_live.specs.Objects.{changed_at, is_garbage, garbage}
 use Rattle.spec_live.proofs.Lists.{get_changed_same, get_changed_other, kept_map, read_kept, some_at}
 use Rattle.muck_db.specs.declared.slot.Slot.{Slot}
-use Rattle.muck_db.specs.inner.Slots.{shown, object_at, kind_at, next_at, first_of, first_at, mark_at, with_next, with_first, on_slot}
+use Rattle.muck_db.specs.inner.Slots.{shown, object_at, kind_at, next_at, first_of, first_at, mark_at, saving_at, with_next, with_first, on_slot}
 
 pub object_kept : (slots : List Slot) (n k : ℕ) (f : Slot → Slot) → ((s : Slot) → shown (f s) ≡ shown s) → object_at (changed_at n f slots) k ≡ object_at slots k
 unfolding object_at
@@ -93,3 +94,21 @@ pub mark-with_first : (w : Bool) (slots : List Slot) (n k : ℕ) (to : Option �
 unfolding mark_at
 mark-with_first true slots n k to = read_kept (λ (s : Slot). s.mark) slots n k (with_first true to) (λ s. refl)
 mark-with_first false slots n k to = read_kept (λ (s : Slot). s.mark) slots n k (with_first false to) (λ s. refl)
+
+-- What is written is due, and nothing else.
+
+pub saving_due : (slots : List Slot) (n : ℕ) (f : Slot → Slot) → ((s : Slot) → (f s).saving ≡ Due) → saving_at (changed_at n f slots) n ≡ Due
+unfolding saving_at
+saving_due slots n f h = rw (get_changed_same slots n f) (by_cases (slice_get slots n))
+  where
+    by_cases : (o : Option Slot) → option_map_or (λ (s : Slot). s.saving) (option_map f o) Due ≡ Due
+    by_cases None = refl
+    by_cases (Some s) = h s
+
+pub saving_other : (slots : List Slot) (n k : ℕ) (f : Slot → Slot) → (k ≡ n → ⊥) → saving_at (changed_at n f slots) k ≡ saving_at slots k
+unfolding saving_at
+saving_other slots n k f ne = ap (λ (o : Option Slot). option_map_or (λ (s : Slot). s.saving) o Due) (get_changed_other slots n k f ne)
+
+pub with_first_due : (w : Bool) (to : Option ℕ) (s : Slot) → (with_first w to s).saving ≡ Due
+with_first_due true to s = refl
+with_first_due false to s = refl

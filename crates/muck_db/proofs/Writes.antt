@@ -3,20 +3,23 @@ use Rattle.std.proofs.Common.{◌≡◌, ℕ, ◌+◌, ◌<◌, ◌≤◌, zero,
 use Rattle.std.proofs.lemmas.Bool.{cases_eq, cases_lt, ne_eqb, eq-eqb, false≢true}
 use Rattle.std.proofs.lemmas.Option.{slice_get-map, slice_get_past}
 use Rattle.std.specs.List.{slice_get, slice_set}
-use Rattle.std.specs.Option.{option_map, option_and_then}
+use Rattle.std.specs.Option.{option_map, option_map_or, option_and_then}
 use Rattle.spec_live.specs.declared.object.Object.{Object}
 use Rattle.spec_live.specs.declared.mark.Mark.{Mark}
+use Rattle.spec_live.specs.declared.saving.Saving.TheVariants.{Due}
 use Rattle.spec_live.specs.Chain.{walk, IsChain, Ends}
 use Rattle.spec_live.specs.Objects.{Entry, changed_at, is_garbage, garbage, on_object, with_object, object_in, mark_in}
 use Rattle.spec_live.specs.Making.{blank_entry, grown}
+use Rattle.spec_live.specs.Saving.{saving_in}
 use Rattle.spec_live.proofs.Chains.{ends_from}
 use Rattle.spec_live.proofs.Lists.{length_changed, length_map, get_changed_same, get_changed_other, get_more, get_last, read_more, read_kept, kept_then}
+use Rattle.spec_live.proofs.Dues.{saving_past, saving_here, saving_elsewhere, saving_more as entry_more}
 use Rattle.spec_live.proofs.Readers.{entries_ext, object_named, object_unnamed, list_named, mark_named}
 use Rattle.spec_live.proofs.Orders.{chain_wider}
 use Rattle.spec_live.proofs.CreationLaws.{object_more, list_more, grown_same, grown_more}
 use Rattle.muck_db.specs.declared.slot.Slot.{Slot}
-use Rattle.muck_db.specs.inner.Slots.{shown, object_at, kept_at, next_at, first_of, first_at, mark_at, kind_at, list_at, on_slot, with_mark, with_kept, new_slot, object_put, entry_of, entries_of}
-use Rattle.muck_db.proofs.Readers.{length-entries_of, object_in-entries_of, list_in-entries_of, mark_in-entries_of}
+use Rattle.muck_db.specs.inner.Slots.{shown, object_at, kept_at, next_at, first_of, first_at, mark_at, saving_at, kind_at, list_at, on_slot, with_mark, with_kept, new_slot, object_put, entry_of, entries_of}
+use Rattle.muck_db.proofs.Readers.{length-entries_of, object_in-entries_of, list_in-entries_of, mark_in-entries_of, saving_in-entries_of}
 use Rattle.muck_db.proofs.Linked.{chain_over}
 use Rattle.muck_db.proofs.Bridge.{list_is, walk_same}
 
@@ -39,7 +42,7 @@ set_back (y ∷ ys) (suc n) x h = let e : slice_set ys n x ≡ ys = set_back ys 
 entry_over : (old new : List Slot) (s : Slot) → length new ≡ length old → ((x : ℕ) → next_at new x ≡ next_at old x) → entry_of new s ≡ entry_of old s
 unfolding entry_of
 entry_over old new s n h =
-    let make : List ℕ → List ℕ → Entry = λ c x. record { object = shown s; contents = c; exits = x; mark = s.mark } in
+    let make : List ℕ → List ℕ → Entry = λ c x. record { object = shown s; contents = c; exits = x; mark = s.mark; saving = s.saving } in
     let at : (o : Option ℕ) → walk (length new) (next_at new) o ≡ walk (length old) (next_at old) o = λ o. rw n (walk_same (length old) (next_at old) (next_at new) o h) in
     ap (λ c. make c (walk (length new) (next_at new) s.first_exit)) (at s.first_content) ∙ ap (λ x. make (walk (length old) (next_at old) s.first_content) x) (at s.first_exit)
 
@@ -145,6 +148,19 @@ mark_more : (o : Object) (slots : List Slot) (k : ℕ) → mark_at (slots ++ new
 unfolding mark_at
 mark_more o slots k = read_more (λ (z : Option Slot). option_and_then (λ (s : Slot). s.mark) z) slots (new_slot (Some o) None) k refl
 
+saving_more : (o : Object) (slots : List Slot) (k : ℕ) → saving_at (slots ++ new_slot (Some o) None ∷ []) k ≡ saving_at slots k
+unfolding saving_at
+saving_more o slots k = read_more (λ (z : Option Slot). option_map_or (λ (s : Slot). s.saving) z Due) slots (new_slot (Some o) None) k refl
+
+-- one that wasn't there is due as it was
+saving_put : (o : Object) (es : List Entry) (k : ℕ) → saving_in (changed_at (length es) (with_object o) (es ++ blank_entry ∷ [])) k ≡ saving_in es k
+saving_put o es k = elim (cases_eq k (length es)) [
+  | inl e ↦
+      ap (λ z. saving_in (changed_at (length es) (with_object o) (es ++ blank_entry ∷ [])) z) e ∙ saving_here (length es) (with_object o) (es ++ blank_entry ∷ []) (λ x. refl)
+      ∙ sym (saving_past es k (omega (arith, e)))
+  | inr ne ↦ saving_elsewhere (length es) k (with_object o) (es ++ blank_entry ∷ []) ne ∙ entry_more es k
+]
+
 chain_put : (o : Object) (slots : List Slot) → ((v : Bool) (p : ℕ) → Ends (length slots) (next_at slots) (first_at v slots p)) → (v : Bool) (p : ℕ)
     → IsChain (length (slots ++ new_slot (Some o) None ∷ [])) (next_at (slots ++ new_slot (Some o) None ∷ [])) (first_at v (slots ++ new_slot (Some o) None ∷ []) p) (list_at v slots p)
 unfolding list_at Ends
@@ -186,6 +202,7 @@ entries_appended o slots ends =
     ])
     (λ v k. list_in-entries_of v new k ∙ list_is v new k (list_at v slots k) (chain_put o slots ends v k) ∙ sym (list_in-entries_of v slots k) ∙ sym (list_named v (length es) k o (es ++ blank_entry ∷ []) ∙ list_more v es k))
     (λ k. mark_in-entries_of new k ∙ mark_more o slots k ∙ sym (mark_in-entries_of slots k) ∙ sym (mark_named (length es) k o (es ++ blank_entry ∷ []) ∙ mark_blank es k))
+    (λ k. saving_in-entries_of new k ∙ saving_more o slots k ∙ sym (saving_in-entries_of slots k) ∙ sym (saving_put o es k))
 
 put_more : (n : ℕ) (o : Object) (slots : List Slot) → n ≡ length slots → object_put n o slots ≡ slots ++ new_slot (Some o) None ∷ []
 unfolding object_put

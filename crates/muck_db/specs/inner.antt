@@ -4,3 +4,4 @@ pub mod Shown
 pub mod Settings
 pub mod Loading
 pub mod Kept
+pub mod Dumps

@@ -9,7 +9,7 @@ use crate::moves::{is_vehicle, kind_of, may_stand, number_of};
 use crate::slot::Slot;
 use muck_model::{Dbref, Flags, Kind, Line, LineList};
 use muck_prop::Props;
-use spec_live::{DbFault, Object};
+use spec_live::{DbFault, Object, Saving};
 use std::alloc::Global;
 
 const OBJECTS_MOST: u32 = 100_000;
@@ -153,6 +153,7 @@ pub fn put_object(slots: &mut Vec<Slot>, n: u32, object: Object) -> Result<(), D
             first_exit: None,
             next: None,
             mark: None,
+            saving: Saving::Due,
         };
         return match slots.push(slot) {
             Ok(()) => Ok(()),
@@ -161,5 +162,6 @@ pub fn put_object(slots: &mut Vec<Slot>, n: u32, object: Object) -> Result<(), D
     }
     let slot = &mut slots[n as usize];
     slot.object = Some(object);
+    slot.saving = Saving::Due;
     Ok(())
 }

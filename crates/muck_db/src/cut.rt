@@ -1,5 +1,5 @@
 // What a dump hands to the log: the stored form of each object that isn't kept so.
-ghost use Rattle.std.specs.Prelude.{◌≡◌, ◌<◌, ◌≤◌, length, map, All, IfOk, OnOk, Some};
+ghost use Rattle.std.specs.Prelude.{◌≡◌, ◌<◌, ◌≤◌, length, map, All, IfOk, OnOk, Some, true, slice_get};
 ghost use Rattle.std.specs.FinMap.{entries};
 ghost use Rattle.std.specs.List.{AllByRecursion};
 ghost use Rattle.muck_model.specs.Bytes.{lines_most};
@@ -9,11 +9,13 @@ ghost use Rattle.spec_live.specs.Objects.{garbage, list_in, object_in};
 ghost use Rattle.muck_store.specs.inner.Changes.{LeavesOut};
 ghost use Rattle.muck_store.specs.Forms.{first_of, link_of, next_in, persist, properties_of};
 ghost use Rattle.muck_db.specs.inner.Kept.{MayHold, stored_at};
+ghost use Rattle.muck_db.specs.inner.Dumps.{MayLook, passes};
 ghost use Rattle.muck_db.specs.inner.Limits.{IsWithinLimits};
-ghost use Rattle.muck_db.specs.inner.Slots.{entries_of, HasOrder};
+ghost use Rattle.muck_db.specs.inner.Slots.{saving_at, entries_of, HasOrder};
 
 use crate::kept::is_kept;
 use crate::links::{dbref_of, first_of, next_of, place_of};
+use crate::marking::is_due;
 use crate::moves::object_of;
 use crate::slot::Slot;
 use crate::typed::{see_count, see_lists, see_numbers, see_text, see_ties, see_value};
@@ -155,15 +157,48 @@ fn object_at<'a>(slots: &'a Vec<Slot>, k: u32, blank: &'a Object) -> &'a Object
     }
 }
 
-// What is stored of each object that isn't kept so. No change is marked for a dump, so it passes over all objects: each is compared in place with what
-// is kept at its number, which takes no memory, and only what differs is copied.
+// What a dump looks at.
+#[derive(Clone, Copy)]
+pub enum Extent {
+    // The objects that are due; what is kept has the others as they are.
+    WhatIsDue,
+    // All objects, whatever is kept.
+    Everything,
+}
+
+// Whether a dump may leave out a number without a look at its object.
+fn is_passed(extent: Extent, slots: &Vec<Slot>, k: u32) -> bool
+    requires { k < length slots.now.items }
+    ensures { result ≡ passes extent (saving_at slots.now.items k) }
+{
+    match extent {
+        Extent::WhatIsDue => !is_due(slots, k),
+        Extent::Everything => false,
+    }
+}
+
+// Whether a number is left out: it isn't looked at, or its object is kept so. It is compared in place with what is kept, which takes no memory.
+fn is_left_out(extent: Extent, base: &[Stored], slots: &Vec<Slot>, k: u32, object: &Object) -> bool
+    requires order { HasOrder slots.now.items }
+    requires known { k < length slots.now.items }
+    requires object { object_in (entries_of slots.now.items) k ≡ Some object.now }
+    requires may { MayLook extent base.now (entries_of slots.now.items) }
+    ensures { result ≡ true → slice_get base.now k ≡ stored_at (entries_of slots.now.items) k }
+{
+    is_passed(extent, slots, k) || is_kept(base, slots, k, object)
+}
+
+// What is stored of each object that is looked at and isn't kept so; only what differs is copied. It passes over all slots, and reads the change mark
+// of each, which is a byte: a list of what is due would have to be kept with each change, and want memory there.
 pub fn records_of(
     alloc: Global,
+    extent: Extent,
     base: &[Stored],
     slots: &Vec<Slot>,
 ) -> Result<Row<Stored>, NoMemory>
     requires order { HasOrder slots.now.items }
     requires limits { IsWithinLimits (entries_of slots.now.items) }
+    requires may { MayLook extent base.now (entries_of slots.now.items) }
     ensures records { IfOk result (λ records. LeavesOut base.now (persist (entries_of slots.now.items)) records) }
     ensures storable { IfOk result (λ records. All IsStored records) }
 {
@@ -172,7 +207,7 @@ pub fn records_of(
     let mut records = Row::new(alloc)?;
     for k in 0..n {
         let object = object_at(slots, k, &blank);
-        if !is_kept(base, slots, k, object) {
+        if !is_left_out(extent, base, slots, k, object) {
             records.push(record_of(alloc, slots, k, object)?)?;
         }
     }

@@ -1,5 +1,5 @@
 // The objects of the world.
-ghost use Rattle.std.specs.Prelude.{◌≡◌, ◌<◌, ◌≤◌, ◌^◌, true, false, length, IfOk, IfSome, is_ok, All};
+ghost use Rattle.std.specs.Prelude.{◌≡◌, ◌<◌, ◌≤◌, ◌^◌, true, false, length, IfOk, IfSome, OnOk, OnErr, is_ok, All};
 ghost use Rattle.std.specs.List.{count_by, list_all};
 ghost use Rattle.std.specs.Option.{option_copied, option_map};
 ghost use Rattle.spec_live.specs.Objects.{object_at};
@@ -10,11 +10,12 @@ ghost use Rattle.spec_live.specs.Setting.{any, checked, set_at, Tries, owner_che
 ghost use Rattle.spec_live.specs.Recycling.{recycle_check, recycled};
 ghost use Rattle.spec_live.specs.Marks.{next_change, change_told};
 ghost use Rattle.spec_live.specs.Consistent.{IsConsistent};
+ghost use Rattle.spec_live.specs.Saving.{all_saving, pending, done, due_again};
 ghost use Rattle.spec_live.specs.Seen.{listed_in, places_of, scenery_of};
 ghost use Rattle.muck_match.specs.Scenery.{chain, upward};
 ghost use Rattle.muck_lock.specs.inner.Chain.{IsChain};
 ghost use Rattle.muck_codec.specs.inner.Stored.{AreProperties, IsStored};
-ghost use Rattle.muck_store.specs.inner.Changes.{LeavesOut};
+ghost use Rattle.muck_store.specs.inner.Changes.{KeepsUndue, LeavesOut};
 ghost use Rattle.muck_store.specs.Forms.{loaded, persist};
 ghost use Rattle.muck_store.specs.Limits.{fits};
 ghost use Rattle.muck_store.specs.Whole.{is_whole};
@@ -25,9 +26,10 @@ ghost use Rattle.muck_model.specs.Bytes.{lines_most};
 
 use crate::chain::Chain;
 use crate::creation::{check_create, new_object, put_object};
-use crate::cut::records_of;
+use crate::cut::{Extent, records_of};
 use crate::links::dbref_of;
 use crate::load::slots_of;
+use crate::marking::{Moment, pass};
 use crate::moves::{check_move, count_there, found, list_of, relocate};
 use crate::password::{digest_word, is_digest_of};
 use crate::paths::KnownPaths;
@@ -178,18 +180,53 @@ impl Db {
     }
 
     /// What a dump hands to the log, over what is kept already: the stored form of each object that isn't kept so, and
-    /// what is tuned. Each record has a spelling. It compares every object with what is kept, and copies only those that
-    /// differ.
-    pub fn cut(&self, alloc: Global, base: &[Stored], tune: &Tune) -> Result<Batch, NoMemory>
-        ensures records { IfOk result (λ batch. LeavesOut base.now (persist self.now) batch.records) }
+    /// what is tuned. Each record has a spelling. What isn't due has to be kept as it is, and isn't looked at; what is due
+    /// is compared with what is kept, and copied where it differs. Then it is pending, until the dump was stored or
+    /// failed. Where memory is wanted nothing changes.
+    pub fn cut(&mut self, alloc: Global, base: &[Stored], tune: &Tune) -> Result<Batch, NoMemory>
+        requires kept { KeepsUndue base.now self.old }
+        ensures records { IfOk result (λ batch. LeavesOut base.now (persist self.old) batch.records) }
         ensures storable { IfOk result (λ batch. All IsStored batch.records) }
         ensures tune { IfOk result (λ batch. batch.tune ≡ tune.now) }
+        ensures objects { OnOk result (self.new ≡ all_saving pending self.old) }
+        ensures same { OnErr result (self.new ≡ self.old) }
     {
-        let records = records_of(alloc, base, &self.slots)?;
+        let records = records_of(alloc, Extent::WhatIsDue, base, &self.slots)?;
+        pass(&mut self.slots, Moment::Cut);
         Ok(Batch {
             records,
             tune: *tune,
         })
+    }
+
+    /// The same of a dump that looks at every object, whatever is kept.
+    pub fn full(&mut self, alloc: Global, base: &[Stored], tune: &Tune) -> Result<Batch, NoMemory>
+        ensures records { IfOk result (λ batch. LeavesOut base.now (persist self.old) batch.records) }
+        ensures storable { IfOk result (λ batch. All IsStored batch.records) }
+        ensures tune { IfOk result (λ batch. batch.tune ≡ tune.now) }
+        ensures objects { OnOk result (self.new ≡ all_saving pending self.old) }
+        ensures same { OnErr result (self.new ≡ self.old) }
+    {
+        let records = records_of(alloc, Extent::Everything, base, &self.slots)?;
+        pass(&mut self.slots, Moment::Cut);
+        Ok(Batch {
+            records,
+            tune: *tune,
+        })
+    }
+
+    /// The dump that was cut last was stored: what was pending is done, unless it changed since. It takes no memory.
+    pub fn stored(&mut self)
+        ensures { self.new ≡ all_saving done self.old }
+    {
+        pass(&mut self.slots, Moment::Kept);
+    }
+
+    /// The dump that was cut last failed: what was pending is due again. It takes no memory.
+    pub fn failed(&mut self)
+        ensures { self.new ≡ all_saving due_again self.old }
+    {
+        pass(&mut self.slots, Moment::Failed);
     }
 
     /// Makes an object at the lowest number of garbage, or else at the next number, in front of a list of its place. A

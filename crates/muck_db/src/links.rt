@@ -7,6 +7,7 @@ ghost use Rattle.muck_db.specs.inner.Slots.{next_at, first_at, place_at, is_exit
 
 use crate::slot::Slot;
 use muck_model::{Dbref, Kind};
+use spec_live::Saving;
 
 pub fn dbref_of(k: u32) -> Dbref
     requires { k < 2 ^ 31 }
@@ -76,6 +77,7 @@ pub fn set_next(slots: &mut Vec<Slot>, k: u32, to: Option<u32>)
 {
     let slot = &mut slots[k as usize];
     slot.next = to;
+    slot.saving = Saving::Due;
 }
 
 #[tactic(auto, unfolding(spec_live::specs::Objects::changed_at))]
@@ -90,6 +92,7 @@ pub fn set_first(slots: &mut Vec<Slot>, exits: bool, k: u32, to: Option<u32>)
     } else {
         slot.first_content = to;
     }
+    slot.saving = Saving::Due;
 }
 
 #[tactic(auto, unfolding(spec_live::specs::Objects::changed_at))]
@@ -104,6 +107,7 @@ pub fn set_place(slots: &mut Vec<Slot>, k: u32, to: u32)
     if let Some(object) = &mut slot.object {
         object.place = place;
     }
+    slot.saving = Saving::Due;
 }
 
 // Whether the places of `start` lead up to `d`, or it is `d`.

@@ -10,7 +10,7 @@ use crate::slot::Slot;
 use muck_codec::{Property, Stored};
 use muck_model::{Kind, Line, LineList, NoMemory};
 use muck_prop::Props;
-use spec_live::Object;
+use spec_live::{Object, Saving};
 use std::alloc::Global;
 
 fn copied_lines(alloc: Global, lines: &[Line]) -> Result<LineList, NoMemory>
@@ -81,6 +81,7 @@ fn slot_of(alloc: Global, record: &Stored) -> Result<Slot, NoMemory>
         first_exit: index_of(record.first_exit),
         next: index_of(record.next),
         mark: None,
+        saving: Saving::Due,
     })
 }
 

@@ -1,16 +1,16 @@
 // Recycling an object: nothing is tied to it any more, what it holds goes home, and it and its exits become garbage.
-ghost use Rattle.std.specs.Prelude.{◌≡◌, ◌≢◌, ◌<◌, ◌≤◌, ◌^◌, ℕ, Bool, map, length, false, true, IfOk, if◌then◌else◌, None};
+ghost use Rattle.std.specs.Prelude.{◌≡◌, ◌≢◌, ◌<◌, ◌≤◌, ◌^◌, ℕ, Bool, [], map, length, false, true, IfOk, if◌then◌else◌, None};
 ghost use Rattle.spec_live.specs.declared.mark.Mark.TheVariants.{Gone};
 ghost use Rattle.spec_live.specs.Chain.{Ends};
 ghost use Rattle.spec_live.specs.Objects.{dbref_of, nothing, same, kind_in, list_in, changed_at};
-ghost use Rattle.spec_live.specs.Recycling.{without_ties, untied, wished_home, may_go, way_home, sent_home, is_exit_of, exits_gone, vanished, recycle_check};
-ghost use Rattle.muck_db.specs.inner.Slots.{home_at, owner_at, shown, next_at, first_at, entries_of, on_slot, new_slot, exit_wiped, wiped, HasOrder};
+ghost use Rattle.spec_live.specs.Recycling.{is_tied, untied, wished_home, may_go, way_home, sent_home, is_exit_of, taken_away, recycle_check};
+ghost use Rattle.muck_db.specs.inner.Slots.{home_at, owner_at, shown, next_at, first_at, entries_of, untied_slot, new_slot, exit_wiped, wiped, HasOrder};
 
 use crate::links::{dbref_of, first_of, index_of, leads_to, take_out};
 use crate::moves::{fits, kind_of, number_of, relocate};
 use crate::slot::Slot;
 use muck_model::{Dbref, Kind};
-use spec_live::{DbFault, Mark};
+use spec_live::{DbFault, Mark, Saving};
 
 // The number of an object that may be recycled.
 #[tactic(auto, using(crate::proofs::Bridge::kinds), unfolding(spec_live::specs::Recycling::recycle_check, spec_live::specs::Setting::checked))]
@@ -39,12 +39,29 @@ fn link_without(link: Dbref, gone: Dbref) -> Dbref
     if link == gone { Dbref(-1) } else { link }
 }
 
-// A home in `d` becomes `#0`, and a link to it nothing.
-fn untie_slot(slot: &mut Slot, d: u32)
+// Whether an object has its home in `d` or a link to it.
+#[tactic(auto, unfolding(spec_live::specs::Objects::garbage))]
+fn is_tied(slot: &Slot, d: u32) -> bool
     requires { d < 2 ^ 31 }
-    ensures { slot.new ≡ on_slot (without_ties d) slot.old }
+    ensures { result ≡ is_tied d (shown slot.now) }
 {
     let gone = dbref_of(d);
+    match &slot.object {
+        Some(object) => object.home == gone || object.link == gone,
+        None => false,
+    }
+}
+
+// A home in `d` becomes `#0`, and a link to it nothing.
+#[tactic(auto, unfolding(crate::specs::inner::Slots::untied_slot))]
+fn untie_slot(slot: &mut Slot, d: u32)
+    requires { d < 2 ^ 31 }
+    ensures { slot.new ≡ untied_slot d slot.old }
+{
+    let gone = dbref_of(d);
+    if is_tied(slot, d) {
+        slot.saving = Saving::Due;
+    }
     if let Some(object) = &mut slot.object {
         object.home = home_without(object.home, gone);
         object.link = link_without(object.link, gone);
@@ -55,7 +72,7 @@ fn untie_slot(slot: &mut Slot, d: u32)
 fn untie_at(slots: &mut Vec<Slot>, k: u32, d: u32)
     requires known { k < length slots.old.items }
     requires number { d < 2 ^ 31 }
-    ensures items { slots.new.items ≡ changed_at k (on_slot (without_ties d)) slots.old.items }
+    ensures items { slots.new.items ≡ changed_at k (untied_slot d) slots.old.items }
     ensures len { length slots.new.items ≡ length slots.old.items }
 {
     untie_slot(&mut slots[k as usize], d);
@@ -65,7 +82,7 @@ fn untie_at(slots: &mut Vec<Slot>, k: u32, d: u32)
 fn untie(slots: &mut Vec<Slot>, d: u32)
     requires few { length slots.old.items ≤ 100000 }
     requires number { d < 2 ^ 31 }
-    ensures { slots.new.items ≡ map (on_slot (without_ties d)) slots.old.items }
+    ensures { slots.new.items ≡ map (untied_slot d) slots.old.items }
 {
     let n = slots.len() as u32;
     for k in 0..n {
@@ -151,6 +168,7 @@ pub fn clear_out(slots: &mut Vec<Slot>, d: u32)
     requires lower { d ≢ 0 }
     ensures sent { entries_of slots.new.items ≡ sent_home (list_in false (entries_of slots.old.items) d) (untied d (entries_of slots.old.items)) }
     ensures order { HasOrder slots.new.items }
+    ensures empty { list_in false (entries_of slots.new.items) d ≡ [] }
 {
     untie(slots, d);
     while let Some(x) = first_of(slots, false, d) {
@@ -169,6 +187,7 @@ fn gone_slot() -> Slot
         first_exit: None,
         next: None,
         mark: Some(Mark::Gone),
+        saving: Saving::Due,
     }
 }
 
@@ -225,11 +244,12 @@ fn wipe(slots: &mut Vec<Slot>, d: u32)
     slots[d as usize] = gone_slot();
 }
 
-// Takes `d` out of its list; it and its exits become garbage.
+// Takes `d`, in which nothing is but its exits, out of its list; it and its exits become garbage.
 pub fn vanish(slots: &mut Vec<Slot>, d: u32)
     requires order { HasOrder slots.old.items }
+    requires empty { list_in false (entries_of slots.old.items) d ≡ [] }
     requires known { d < length slots.old.items }
-    ensures entries { entries_of slots.new.items ≡ vanished d (exits_gone d (entries_of slots.old.items)) }
+    ensures entries { entries_of slots.new.items ≡ taken_away d (entries_of slots.old.items) }
     ensures ends { (v : Bool) (p : ℕ) → Ends (length slots.new.items) (next_at slots.new.items) (first_at v slots.new.items p) }
 {
     take_out(slots, d);

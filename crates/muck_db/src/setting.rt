@@ -10,7 +10,7 @@ use crate::moves::{is_vehicle, kind_of, number_of};
 use crate::slot::Slot;
 use muck_model::{Dbref, Flags, Kind, Line, LineList};
 use muck_prop::{Path, PropValue};
-use spec_live::{DbFault, Mark, Object, VEHICLE, has_flag};
+use spec_live::{DbFault, Mark, Object, Saving, VEHICLE, has_flag};
 
 // The number of an object.
 #[tactic(auto, unfolding(spec_live::specs::Setting::checked))]
@@ -297,6 +297,7 @@ pub fn set_at(slots: &mut Vec<Slot>, k: u32, setting: Setting)
     if let Some(object) = &mut slot.object {
         set_in(object, setting);
     }
+    slot.saving = Saving::Due;
 }
 
 #[tactic(auto, unfolding(spec_live::specs::Objects::changed_at))]
@@ -309,6 +310,7 @@ pub fn set_lines(slots: &mut Vec<Slot>, k: u32, lines: LineList)
         object.lines = lines;
     }
     slot.mark = marked(slot.mark);
+    slot.saving = Saving::Due;
 }
 
 // Removes a property of an object.
@@ -321,6 +323,7 @@ pub fn remove_prop(slots: &mut Vec<Slot>, k: u32, path: &Path)
     if let Some(object) = &mut slot.object {
         object.props.remove(path);
     }
+    slot.saving = Saving::Due;
 }
 
 // Stores a value at a path of an object.
@@ -341,10 +344,11 @@ fn put_at(slot: &mut Slot, path: Path, value: PropValue) -> Result<(), DbFault>
     ensures memory { OnErr result (result ≡ Err DbFault.NoMemory) }
     ensures err { OnErr result (slot.new ≡ slot.old) }
 {
-    match &mut slot.object {
-        Some(object) => put_in(object, path, value),
-        None => Ok(()),
+    if let Some(object) = &mut slot.object {
+        put_in(object, path, value)?;
     }
+    slot.saving = Saving::Due;
+    Ok(())
 }
 
 // The same in the table.

@@ -9,7 +9,7 @@ use crate::password::digest_text;
 use crate::slot::Slot;
 use muck_model::{Dbref, Flags, Kind, Line, LineList, NoMemory};
 use muck_prop::Props;
-use spec_live::{Object, WIZARD};
+use spec_live::{Object, Saving, WIZARD};
 use std::alloc::Global;
 
 // Room Zero, below which all rooms are.
@@ -70,6 +70,7 @@ pub fn first_slots(alloc: Global) -> Result<Vec<Slot>, NoMemory>
         first_exit: None,
         next: None,
         mark: None,
+        saving: Saving::Due,
     })?;
     slots.push(Slot {
         object: Some(player_one(alloc)?),
@@ -77,6 +78,7 @@ pub fn first_slots(alloc: Global) -> Result<Vec<Slot>, NoMemory>
         first_exit: None,
         next: None,
         mark: None,
+        saving: Saving::Due,
     })?;
     Ok(slots)
 }

@@ -3,6 +3,7 @@ use Rattle.std.specs.Prelude.{if◌then◌else◌, List, map, Option, Some, None
 use Rattle.muck_codec.specs.declared.stored.Stored.{Stored}
 use Rattle.muck_store.specs.Forms.{object_of}
 use Rattle.spec_live.specs.declared.object.Object.{Object}
+use Rattle.spec_live.specs.declared.saving.Saving.TheVariants.{Due}
 use Rattle.spec_live.specs.Objects.{index_of, is_garbage}
 use Rattle.muck_db.specs.declared.slot.Slot.{Slot}
 
@@ -10,7 +11,7 @@ use Rattle.muck_db.specs.declared.slot.Slot.{Slot}
 unfoldable pub object_kept : Stored → Option Object
 object_kept s = if is_garbage s.kind then None else Some (object_of s)
 
--- the object with its chain fields, of which nothing is to be told
+-- the object with its chain fields, of which nothing is to be told; it is due
 unfoldable pub slot_of : Stored → Slot
 slot_of s = record {
   object = object_kept s;
@@ -18,6 +19,7 @@ slot_of s = record {
   first_exit = index_of s.first_exit;
   next = index_of s.next;
   mark = None;
+  saving = Due;
 }
 
 unfoldable pub slots_of : List Stored → List Slot

@@ -1,5 +1,5 @@
 -- A table of objects with chain fields, and the entries that it stands for.
-use Rattle.std.specs.Prelude.{◌≡◌, ℕ, ◌<◌, Bool, false, ◌==◌, if◌then◌else◌, List, [], ◌∷◌, ◌++◌, map, length, Option, Some, None, slice_get}
+use Rattle.std.specs.Prelude.{◌≡◌, ◌⊎◌, ℕ, ◌<◌, Bool, false, ◌==◌, if◌then◌else◌, List, [], ◌∷◌, ◌++◌, map, length, Option, Some, None, slice_get}
 use Rattle.std.specs.Option.{option_map, option_and_then, option_map_or}
 use Rattle.muck_model.specs.declared.dbref.Dbref.{Dbref}
 use Rattle.muck_model.specs.declared.dbref.Flags.{Flags}
@@ -8,12 +8,15 @@ use Rattle.muck_model.specs.declared.dbref.Kind.TheVariants.{Garbage}
 use Rattle.spec_live.specs.declared.object.Object.{Object}
 use Rattle.spec_live.specs.declared.mark.Mark.{Mark}
 use Rattle.spec_live.specs.declared.mark.Mark.TheVariants.{Gone}
+use Rattle.spec_live.specs.declared.saving.Saving.{Saving}
+use Rattle.spec_live.specs.declared.saving.Saving.TheVariants.{Due}
 use Rattle.spec_live.specs.Chain.{walk, IsChain, Ends, Member, without, put_at}
 use Rattle.spec_live.specs.Flags.{no_flags}
 use Rattle.spec_live.specs.Objects.{Entry, changed_at, dbref_of, index_of, is_exit, is_garbage, garbage}
 use Rattle.spec_live.specs.Consistent.{IsOrdered, IsConsistent}
 use Rattle.spec_live.specs.Setting.{lines_marked}
-use Rattle.spec_live.specs.Recycling.{is_exit_of}
+use Rattle.spec_live.specs.Recycling.{without_ties, is_tied, is_exit_of}
+use Rattle.spec_live.specs.Saving.{Links, links_in}
 use Rattle.spec_live.specs.Start.{room_zero, player_one}
 use Rattle.muck_db.specs.declared.slot.Slot.{Slot}
 use Rattle.muck_db.specs.inner.Limits.{IsWithinLimits}
@@ -42,6 +45,10 @@ first_at exits slots k = option_and_then (first_of exits) (slice_get slots k)
 
 unfoldable pub mark_at : List Slot → ℕ → Option Mark
 mark_at slots k = option_and_then (λ s. s.mark) (slice_get slots k)
+
+-- what isn't there yet will be due
+unfoldable pub saving_at : List Slot → ℕ → Saving
+saving_at slots k = option_map_or (λ s. s.saving) (slice_get slots k) Due
 
 unfoldable pub place_at : List Slot → ℕ → Option ℕ
 place_at slots k = option_and_then (λ o. index_of o.place) (object_at slots k)
@@ -81,24 +88,32 @@ entry_of slots s = record {
   contents = walk (length slots) (next_at slots) s.first_content;
   exits = walk (length slots) (next_at slots) s.first_exit;
   mark = s.mark;
+  saving = s.saving;
 }
 
 unfoldable pub entries_of : List Slot → List Entry
 entries_of slots = map (entry_of slots) slots
 
--- Writes.
+-- Writes. A slot whose object or chain fields are written is due for the next dump.
 
 abbrev pub with_next : Option ℕ → Slot → Slot
-with_next to s = record s { next = to }
+with_next to s = record s { next = to; saving = Due }
 
 abbrev pub with_first : Bool → Option ℕ → Slot → Slot
-with_first exits to s = if exits then record s { first_exit = to } else record s { first_content = to }
+with_first exits to s = if exits then record s { first_exit = to; saving = Due } else record s { first_content = to; saving = Due }
 
 abbrev pub with_mark : Option Mark → Slot → Slot
 with_mark mark s = record s { mark = mark }
 
 abbrev pub on_slot : (Object → Object) → Slot → Slot
-on_slot f s = record s { object = option_map f s.object }
+on_slot f s = record s { object = option_map f s.object; saving = Due }
+
+-- it is tied to d no more, and due where it was
+unfoldable pub untied_slot : ℕ → Slot → Slot
+untied_slot d s = record s { object = option_map (without_ties d) s.object; saving = if is_tied d (shown s) then Due else s.saving }
+
+abbrev pub with_saving : (Saving → Saving) → Slot → Slot
+with_saving f s = record s { saving = f s.saving }
 
 abbrev pub with_digest : List ℕ → Object → Object
 with_digest digest o = record o { digest = digest }
@@ -108,14 +123,14 @@ with_source lines o = record o { lines = lines }
 
 -- the source of a program, which is marked
 abbrev pub with_slot_lines : List (List ℕ) → Slot → Slot
-with_slot_lines lines s = record s { object = option_map (with_source lines) s.object; mark = lines_marked s.mark }
+with_slot_lines lines s = record s { object = option_map (with_source lines) s.object; mark = lines_marked s.mark; saving = Due }
 
 abbrev pub with_kept : Object → Slot → Slot
-with_kept o s = record s { object = Some o }
+with_kept o s = record s { object = Some o; saving = Due }
 
 -- a slot that is in no list and whose lists are empty
 abbrev pub new_slot : Option Object → Option Mark → Slot
-new_slot object mark = record { object = object; first_content = None; first_exit = None; next = None; mark = mark }
+new_slot object mark = record { object = object; first_content = None; first_exit = None; next = None; mark = mark; saving = Due }
 
 -- a slot of garbage of which is to be told, and of an exit of d likewise
 abbrev pub wiped : Slot → Slot
@@ -131,7 +146,7 @@ object_put n o slots = if n == length slots then slots ++ new_slot (Some o) None
 -- Room Zero, and One in it
 unfoldable pub first_slots : List Slot
 first_slots =
-    record { object = Some room_zero; first_content = Some 1; first_exit = None; next = None; mark = None } ∷ new_slot (Some player_one) None ∷ []
+    record { object = Some room_zero; first_content = Some 1; first_exit = None; next = None; mark = None; saving = Due } ∷ new_slot (Some player_one) None ∷ []
 
 -- Rules.
 
@@ -165,16 +180,25 @@ pub record IsKept (slots : List Slot) (lowest told : ℕ) : Type 0 where
 
 -- Changes of chains.
 
--- d is out of all lists, and nothing else changed
+-- a link leads to d: a list begins with it, or it stands behind
+abbrev pub LeadsTo : ℕ → Links → Type 0
+LeadsTo d l = (l.content ≡ Some d) ⊎ ((l.exit ≡ Some d) ⊎ (l.next ≡ Some d))
+
+-- d is out of all lists, what led to it is due, and nothing else changed
 pub record IsUnlinked (d : ℕ) (old new : List Slot) : Type 0 where
   pub same_length : length new ≡ length old
   pub same_objects : (k : ℕ) → object_at new k ≡ object_at old k
   pub same_marks : (k : ℕ) → mark_at new k ≡ mark_at old k
+  pub due : (k : ℕ) → LeadsTo d (links_in (entries_of old) k) → saving_at new k ≡ Due
+  pub same_savings : (k : ℕ) → (LeadsTo d (links_in (entries_of old) k) → ⊥) → saving_at new k ≡ saving_at old k
   pub chains : (exits : Bool) (p : ℕ) → IsChain (length new) (next_at new) (first_at exits new p) (without d (list_at exits old p))
 
--- d is in front of that list of `to`, and nothing else changed
+-- d is in front of that list of `to`, both are due, and nothing else changed
 pub record IsLinked (exits : Bool) (to d : ℕ) (old new : List Slot) : Type 0 where
   pub same_length : length new ≡ length old
   pub same_objects : (k : ℕ) → object_at new k ≡ object_at old k
   pub same_marks : (k : ℕ) → mark_at new k ≡ mark_at old k
+  pub due : saving_at new d ≡ Due
+  pub place_due : saving_at new to ≡ Due
+  pub same_savings : (k : ℕ) → (k ≡ d → ⊥) → (k ≡ to → ⊥) → saving_at new k ≡ saving_at old k
   pub chains : (which : Bool) (p : ℕ) → IsChain (length new) (next_at new) (first_at which new p) (put_at exits to d which p (list_at which old p))

@@ -4,7 +4,7 @@ use Rattle.muck_codec.specs.inner.Stored.{IsStored}
 use Rattle.muck_db.specs.inner.Slots.{entries_of}
 use Rattle.muck_db.proofs.Readers.{length-entries_of}
 use Rattle.muck_db.proofs.Keeping.{LeftOut, left_begins, left_taken, left_over, left_ends}
-use Rattle.muck_db.proofs.cut.records_of.Goals.{then-not-is_kept+in_ok-record_of+in_ok-push, else-not-is_kept}
+use Rattle.muck_db.proofs.cut.records_of.Goals.{then-not-is_left_out+in_ok-record_of+in_ok-push, else-not-is_left_out}
 use Rattle.muck_db.proofs.cut.records_of.Goals as goal
 
 pub overflow_cast-n : goal.overflow_cast-n
@@ -22,17 +22,17 @@ loop-k-init c = record {
 pub loop-k-preserved : goal.loop-k-preserved
 loop-k-preserved c =
     let es = entries_of c.args.slots.now.items in
-    elim c.if-not-is_kept.branch [
-      | then-not-is_kept+in_ok-record_of+in_ok-push w ↦ record {
+    elim c.if-not-is_left_out.branch [
+      | then-not-is_left_out+in_ok-record_of+in_ok-push w ↦ record {
         left =
             subst (LeftOut c.args.base.now es (c.loop-k.k + 1)) (sym (w.records-is ∙ w.in_ok-push.ensures.ok))
             (left_taken c.args.base.now es c.loop-k.k c.loop-k.records w.in_ok-record_of.field-0 w.in_ok-record_of.ensures.stored c.loop-k.invariant.left);
         stored = All-same IsStored _ _ (w.records-is ∙ w.in_ok-push.ensures.ok) (All-push IsStored c.loop-k.records w.in_ok-record_of.field-0 c.loop-k.invariant.stored w.in_ok-record_of.ensures.storable);
       }
-      | else-not-is_kept w ↦ record {
+      | else-not-is_left_out w ↦ record {
         left =
             subst (LeftOut c.args.base.now es (c.loop-k.k + 1)) (sym w.records-is)
-            (left_over c.args.base.now es c.loop-k.k c.loop-k.records (omega (arith, c.loop-k-test.true, c.len-n.ensures, length-entries_of c.args.slots.now.items)) (c.is_kept.ensures w.if-not-is_kept.false) c.loop-k.invariant.left);
+            (left_over c.args.base.now es c.loop-k.k c.loop-k.records (omega (arith, c.loop-k-test.true, c.len-n.ensures, length-entries_of c.args.slots.now.items)) (c.is_left_out.ensures w.if-not-is_left_out.false) c.loop-k.invariant.left);
         stored = All-same IsStored _ _ w.records-is c.loop-k.invariant.stored;
       }
     ]

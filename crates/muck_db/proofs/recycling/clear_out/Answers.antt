@@ -41,3 +41,6 @@ loop-x-preserved c =
 
 pub returns-clause-sent : goal.returns-clause-sent
 returns-clause-sent c = sym (sent_none _ _ (first_none c.loop-x.slots.items c.args.d (sym c.first_of.ensures ∙ c.in_default.is))) ∙ c.loop-x.invariant.sent
+
+pub returns-clause-empty : goal.returns-clause-empty
+returns-clause-empty c = first_none c.loop-x.slots.items c.args.d (sym c.first_of.ensures ∙ c.in_default.is)

@@ -1,7 +1,6 @@
-use Rattle.spec_live.specs.Recycling.{without_ties}
-use Rattle.muck_db.specs.inner.Slots.{on_slot}
+use Rattle.muck_db.specs.inner.Slots.{untied_slot}
 use Rattle.muck_db.proofs.Writes.{Passed}
 use Rattle.muck_db.proofs.recycling.untie.Given as goal
 
 abbrev pub invariant-loop-k : goal.invariant-loop-k
-invariant-loop-k l = Passed (on_slot (without_ties l.d)) l.k l.fn.slots.items l.slots.items
+invariant-loop-k l = Passed (untied_slot l.d) l.k l.fn.slots.items l.slots.items

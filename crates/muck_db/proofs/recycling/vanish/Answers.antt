@@ -17,7 +17,7 @@ pub wipe-requires : goal.wipe-requires
 wipe-requires c = omega (arith, c.requires.known, c.take_out.ensures.same_length, length_wiped c.args.d _ _ c.wipe_exits.ensures)
 
 pub returns-clause-entries : goal.returns-clause-entries
-returns-clause-entries c = entries_vanished c.args.d c.args.slots.now.items _ _ _ c.requires.order c.requires.known c.take_out.ensures c.wipe_exits.ensures c.wipe.ensures
+returns-clause-entries c = entries_vanished c.args.d c.args.slots.now.items _ _ _ c.requires.order c.requires.empty c.requires.known c.take_out.ensures c.wipe_exits.ensures c.wipe.ensures
 
 pub returns-clause-ends : goal.returns-clause-ends
 returns-clause-ends c = ends_vanished c.args.d c.args.slots.now.items _ _ _ c.requires.order c.requires.known c.take_out.ensures c.wipe_exits.ensures c.wipe.ensures

@@ -1,0 +1,61 @@
+// How the objects stand to the dumps: their change marks, and what becomes of them at each moment of a dump.
+ghost use Rattle.std.specs.Prelude.{◌≡◌, ◌<◌, ◌≤◌, map, length};
+ghost use Rattle.spec_live.specs.Objects.{changed_at};
+ghost use Rattle.spec_live.specs.Saving.{is_due};
+ghost use Rattle.muck_db.specs.inner.Slots.{saving_at, with_saving};
+ghost use Rattle.muck_db.specs.inner.Dumps.{saving_after};
+
+use crate::slot::Slot;
+use spec_live::Saving;
+
+// A moment of a dump.
+#[derive(Clone, Copy)]
+pub enum Moment {
+    // It begins with what is due.
+    Cut,
+    // It was stored.
+    Kept,
+    // It failed.
+    Failed,
+}
+
+// Whether the next dump has to look at a slot.
+#[tactic(auto, unfolding(crate::specs::inner::Slots::saving_at))]
+pub fn is_due(slots: &Vec<Slot>, k: u32) -> bool
+    requires { k < length slots.now.items }
+    ensures { result ≡ is_due (saving_at slots.now.items k) }
+{
+    matches!(slots[k as usize].saving, Saving::Due)
+}
+
+fn saving_after(moment: Moment, saving: Saving) -> Saving
+    ensures { result ≡ saving_after moment saving }
+{
+    match (moment, saving) {
+        (Moment::Cut, Saving::Due) => Saving::Pending,
+        (Moment::Kept, Saving::Pending) => Saving::Done,
+        (Moment::Failed, Saving::Pending) => Saving::Due,
+        _ => saving,
+    }
+}
+
+#[tactic(auto, unfolding(spec_live::specs::Objects::changed_at))]
+fn pass_at(slots: &mut Vec<Slot>, k: u32, moment: Moment)
+    requires { k < length slots.old.items }
+    ensures items { slots.new.items ≡ changed_at k (with_saving (saving_after moment)) slots.old.items }
+    ensures len { length slots.new.items ≡ length slots.old.items }
+{
+    let slot = &mut slots[k as usize];
+    slot.saving = saving_after(moment, slot.saving);
+}
+
+// Takes every object past a moment of a dump.
+pub fn pass(slots: &mut Vec<Slot>, moment: Moment)
+    requires { length slots.old.items ≤ 100000 }
+    ensures { slots.new.items ≡ map (with_saving (saving_after moment)) slots.old.items }
+{
+    let n = slots.len() as u32;
+    for k in 0..n {
+        pass_at(slots, k, moment);
+    }
+}
