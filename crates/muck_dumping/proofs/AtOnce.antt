@@ -1,5 +1,5 @@
 -- A dump that is made at once.
-use Rattle.std.proofs.Common.{◌≡◌, ◌⊎◌, ℕ, Bool, true, false, ◌&&◌, List, refl, sym, ap, ◌∙◌, subst, Option, Some, None, Result, Ok, Err}
+use Rattle.std.proofs.Common.{◌≡◌, ℕ, Bool, true, false, ◌&&◌, List, refl, sym, ap, ◌∙◌, subst, Option, Some, None, Ok, Err}
 use Rattle.std.specs.Prelude.{is_none, ◌||◌, ◌==◌, IsSome}
 use Rattle.muck_model.specs.declared.event.Event.TheVariants.{Cut, Stored, DumpFailed, Died}
 use Rattle.muck_model.specs.declared.note.Note.{Note}
@@ -11,10 +11,9 @@ use Rattle.spec_events.specs.Steps.{makes_dumps, may_cut, is_dump_due}
 use Rattle.spec_events.specs.Histories.{History, entered, noted}
 use Rattle.spec_dumps.specs.inner.Holding.{Keeps}
 use Rattle.muck_dumping.specs.declared.parts.Pending.{Pending}
-use Rattle.muck_dumping.specs.inner.Dumps.{by, ending_event, Dies, HasDumped, Dumps}
+use Rattle.muck_dumping.specs.inner.Dumps.{by, Dies, HasDumped, Dumps}
 use Rattle.muck_dumping.specs.inner.Between.{IsPending, IsWritten, EndsAs}
 use Rattle.muck_dumping.proofs.Writing.{unwritten}
-use Rattle.muck_dumping.proofs.Ending.{dumps_unmounted, dumps_failed}
 
 first_true : (a b : Bool) → (a && b) ≡ true → a ≡ true
 first_true true b e = refl

@@ -1,5 +1,5 @@
 -- A dump begins, and is pending until it is written.
-use Rattle.std.proofs.Common.{◌≡◌, ◌⊎◌, inl, inr, ℕ, suc, ◌<◌, ◌≤◌, true, false, List, [], ◌∷◌, ◌++◌, length, refl, sym, ap, ◌∙◌, subst, arith, Option, Some, None}
+use Rattle.std.proofs.Common.{◌≡◌, inl, ℕ, suc, List, [], ◌∷◌, length, refl, sym, ap, ◌∙◌, subst, arith, Option, Some}
 use Rattle.std.specs.Prelude.{slice_get, All}
 use Rattle.muck_model.specs.declared.event.Event.TheVariants.{Cut, Died}
 use Rattle.muck_model.specs.declared.note.Note.{Note}
@@ -14,15 +14,14 @@ use Rattle.muck_log.specs.File.{after_number}
 use Rattle.muck_log.specs.Store.{LogState, IsMounted}
 use Rattle.spec_events.specs.World.{World}
 use Rattle.spec_events.specs.Histories.{History, now, entered, noted}
-use Rattle.spec_dumps.specs.Fronts.{at_cut, last_cut, number_at}
 use Rattle.spec_dumps.specs.Survival.{IsSafe}
-use Rattle.spec_dumps.specs.inner.Holding.{IsCounted, Quietly, Keeps, Rests, Fails}
-use Rattle.spec_dumps.proofs.Lists.{got_on, got_last, length_last}
+use Rattle.spec_dumps.specs.inner.Holding.{IsCounted, Quietly, Keeps}
+use Rattle.spec_dumps.proofs.Lists.{got_on, length_last}
 use Rattle.spec_dumps.proofs.Quiet.{quiet_one, safe_quiet, keeps_quiet, rests_quiet, same_cut, same_number, fails_quiet}
 use Rattle.spec_dumps.proofs.Cutting.{rests_on, cut_noted, number_end}
 use Rattle.muck_dumping.specs.declared.parts.Pending.{Pending}
 use Rattle.muck_dumping.specs.inner.Dumps.{note_of, by, HasRisen}
-use Rattle.muck_dumping.specs.inner.Between.{IsReady, IsBatchOf, IsBatchOfWorld, base_in, IsPending}
+use Rattle.muck_dumping.specs.inner.Between.{IsReady, IsBatchOfWorld, base_in, IsPending}
 use Rattle.muck_dumping.proofs.Steps.{at_note}
 use Rattle.muck_dumping.proofs.Marks.{batch_at_cut}
 

@@ -1,9 +1,9 @@
 -- A dump ends: it is told as it was.
-use Rattle.std.proofs.Common.{◌≡◌, ◌⊎◌, inl, inr, ℕ, suc, ◌+◌, ◌<◌, ◌≤◌, Bool, true, false, List, [], ◌∷◌, ◌++◌, length, refl, sym, ap, ◌∙◌, subst, arith, Option, Some, None, Result, Ok, Err}
-use Rattle.std.specs.Prelude.{slice_get, OnOk, OnErr}
+use Rattle.std.proofs.Common.{◌≡◌, inr, ℕ, suc, ◌+◌, ◌<◌, Bool, true, false, List, [], ◌∷◌, refl, sym, ap, ◌∙◌, subst, arith, Option, Some, None, Result, Ok, Err}
+use Rattle.std.specs.Prelude.{OnOk, OnErr}
 use Rattle.muck_model.specs.declared.event.Event.TheVariants.{Cut, Stored, DumpFailed, Died}
 use Rattle.muck_model.specs.declared.note.Note.{Note}
-use Rattle.muck_log.specs.Store.{Chosen, LogState, target}
+use Rattle.muck_log.specs.Store.{LogState}
 use Rattle.muck_log.specs.Append.{more_of}
 use Rattle.muck_log.specs.declared.fault.LogFault.{LogFault}
 use Rattle.muck_log.specs.declared.fault.LogFault.TheVariants.{NoMemory, DiskFault, Damaged, StoreFull, Stale}
@@ -11,10 +11,9 @@ use Rattle.spec_events.specs.World.{World}
 use Rattle.spec_events.specs.Steps.{effect}
 use Rattle.spec_events.specs.Histories.{History, now, after, entered, noted}
 use Rattle.spec_events.proofs.Runs.{longer_noted, now-longer}
-use Rattle.spec_dumps.specs.Fronts.{IsFront, Overflows, at_cut, dump_payload, file_most, log_of, persisted}
+use Rattle.spec_dumps.specs.Fronts.{IsFront, at_cut, dump_payload, file_most, log_of, persisted}
 use Rattle.spec_dumps.specs.Survival.{IsSafe, StandsWhole}
 use Rattle.spec_dumps.specs.inner.Holding.{Keeps, Rests, Fails}
-use Rattle.spec_dumps.proofs.Lists.{length_last}
 use Rattle.spec_dumps.proofs.Noting.{front_noted}
 use Rattle.spec_dumps.proofs.Storing.{stored_rests, stored_whole}
 use Rattle.spec_dumps.proofs.Failing.{failed_rests}

@@ -5,8 +5,7 @@ use Rattle.std.specs.List.{list_all}
 use Rattle.std.proofs.lemmas.Bool.{and_from, or_left, or_right, eq-eqb, le-leb, lt-ltb}
 use Rattle.std.proofs.lemmas.List.Sums.{list_all-from_AllPass}
 use Rattle.muck_model.specs.declared.tune.Tune.{Tune}
-use Rattle.spec_live.specs.Consistent.{IsConsistent}
-use Rattle.spec_live.specs.Objects.{Entry, object_in}
+use Rattle.spec_live.specs.Objects.{Entry}
 use Rattle.muck_db.specs.inner.Limits.{IsDigest, FitsLimits, IsWithinLimits}
 use Rattle.muck_codec.specs.declared.stored.Stored.{Stored}
 use Rattle.muck_codec.specs.Batches.{HasFewLines}

@@ -1,10 +1,10 @@
 -- The log is mounted again.
-use Rattle.std.proofs.Common.{◌≡◌, ◌⊎◌, inl, inr, ℕ, suc, ◌+◌, ◌<◌, ◌≤◌, true, List, length, refl, sym, ap, ◌∙◌, subst, arith, Option, Some, None, Result, Ok, Err, IsSome}
+use Rattle.std.proofs.Common.{◌≡◌, ◌⊎◌, inl, inr, ℕ, ◌≤◌, List, refl, sym, ap, ◌∙◌, subst, arith, Option, Some, None, Result, Ok, Err, IsSome}
 use Rattle.std.specs.Prelude.{is_some, false, slice_get}
 use Rattle.muck_io.specs.Faults.{Rose}
 use Rattle.muck_model.specs.declared.note.Note.{Note}
 use Rattle.muck_log.specs.inner.Mount.{IsMountedAs, IsMountFault}
-use Rattle.muck_log.specs.Store.{LogState, LeavesOnly, IsMounted, stored}
+use Rattle.muck_log.specs.Store.{LogState, LeavesOnly, stored}
 use Rattle.muck_log.specs.declared.fault.LogFault.{LogFault}
 use Rattle.muck_log.specs.declared.fault.LogFault.TheVariants.{NoMemory, DiskFault, Damaged, StoreFull, Stale}
 use Rattle.spec_dumps.specs.Fronts.{Loads, file_most}

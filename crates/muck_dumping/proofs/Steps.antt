@@ -1,8 +1,8 @@
 -- The entries of a dump.
-use Rattle.std.proofs.Common.{◌≡◌, ℕ, Bool, true, false, List, [], ◌∷◌, ◌++◌, refl, sym, ap, subst, ◌∙◌, Option, None}
+use Rattle.std.proofs.Common.{◌≡◌, ℕ, Bool, true, false, [], ◌∷◌, refl, sym, ap, subst, ◌∙◌, None}
 use Rattle.std.proofs.lemmas.Bool.{cond-false, eq-eqb, and_from}
 use Rattle.muck_model.specs.declared.event.Event.{Event}
-use Rattle.muck_model.specs.declared.event.Event.TheVariants.{Cut, Stored, DumpFailed, Died}
+use Rattle.muck_model.specs.declared.event.Event.TheVariants.{Cut, Stored, DumpFailed}
 use Rattle.muck_model.specs.declared.note.Note.{Note}
 use Rattle.spec_live.specs.Saving.{pending}
 use Rattle.spec_events.specs.World.{World, runs_dump}

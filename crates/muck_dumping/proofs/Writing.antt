@@ -1,20 +1,20 @@
 -- The batch of a dump that is pending is written, or it can't be.
-use Rattle.std.proofs.Common.{◌≡◌, ◌⊎◌, inl, inr, ℕ, suc, ◌+◌, ◌<◌, ◌≤◌, true, false, List, [], ◌∷◌, ◌++◌, length, refl, sym, ap, ◌∙◌, subst, arith, Option, Some, None, Result, Ok, Err}
-use Rattle.std.specs.Prelude.{slice_get, OnErr}
+use Rattle.std.proofs.Common.{◌≡◌, ◌⊎◌, inl, inr, ℕ, ◌+◌, ◌<◌, ◌≤◌, true, List, length, refl, sym, ap, ◌∙◌, subst, arith, Option, Some, None, Result, Ok, Err}
+use Rattle.std.specs.Prelude.{OnErr}
 use Rattle.muck_io.specs.Faults.{Rose}
 use Rattle.muck_model.specs.declared.note.Note.{Note}
 use Rattle.muck_model.specs.declared.tune.Tune.{Tune}
 use Rattle.spec_live.specs.Objects.{Entry as Object}
 use Rattle.muck_store.specs.inner.Changes.{LeavesOut}
-use Rattle.muck_log.specs.World.{World as Kept, laid, tune_fits}
-use Rattle.muck_log.specs.Store.{Chosen, LogState, LeavesBoth, target, after_batch}
+use Rattle.muck_log.specs.World.{World as Kept, tune_fits}
+use Rattle.muck_log.specs.Store.{Chosen, LogState, LeavesBoth, after_batch}
 use Rattle.muck_log.specs.Append.{LoadsEither, base_of, more_of, payload_of}
 use Rattle.muck_log.specs.declared.fault.LogFault.{LogFault}
 use Rattle.muck_log.specs.declared.fault.LogFault.TheVariants.{NoMemory, DiskFault, Damaged, StoreFull, Stale}
 use Rattle.muck_store.specs.Forms.{persist, world_batch}
 use Rattle.spec_events.specs.World.{World}
 use Rattle.spec_events.specs.Histories.{History}
-use Rattle.spec_dumps.specs.Fronts.{at_cut, dumped_on, dump_payload, log_of, file_most, persisted}
+use Rattle.spec_dumps.specs.Fronts.{at_cut, dump_payload, log_of, persisted}
 use Rattle.spec_dumps.specs.inner.Holding.{Quietly, Keeps, Fails}
 use Rattle.spec_dumps.proofs.Quiet.{keeps_quiet, same_cut, front_quiet, dumped_quiet, fails_quiet}
 use Rattle.spec_dumps.proofs.Storing.{append_moves, dumped_it}

@@ -5,7 +5,7 @@ use Rattle.spec_dumps.specs.Fronts.{at_cut}
 use Rattle.muck_dumping.specs.inner.Dumps.{by, Dies}
 use Rattle.muck_dumping.proofs.Marks.{unmounted_holds, goes_noted}
 use Rattle.muck_dumping.proofs.Steps.{cut_lives, cut_runs}
-use Rattle.muck_dumping.proofs.AtOnce.{may_makes, dies_cut, dies_ending, pending_mounted, fault_ends, never_damaged, some_not_none}
+use Rattle.muck_dumping.proofs.AtOnce.{may_makes, dies_cut, dies_ending, fault_ends, never_damaged, some_not_none}
 use Rattle.muck_dumping.proofs.Beginning.{died_here}
 use Rattle.muck_dumping.proofs.Mounting.{ready_mounted}
 use Rattle.muck_dumping.proofs.Ending.{dumps_stored, dumps_failed, dumps_dead}
