@@ -21,6 +21,7 @@ mod Chained
 pub mod Living
 pub mod Reached
 pub mod Growing
+pub mod Marking
 pub mod Runs
 pub mod Logging
 pub mod Owning

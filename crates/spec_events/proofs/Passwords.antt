@@ -13,6 +13,7 @@ use Rattle.muck_model.specs.declared.event.Event.{Event}
 use Rattle.muck_model.specs.declared.event.Event.TheVariants.{Opened, Input, Closed, Exec, Slice, Take, Stored, DumpFailed, Died}
 use Rattle.spec_live.specs.Objects.{Entry as Kept, mark_in, nothing}
 use Rattle.spec_live.specs.Connections.{Connection, has_number, changed_in, placed, without, left, seated, newcomer}
+use Rattle.spec_live.specs.Saving as saving
 use Rattle.spec_live.specs.Boards.{player_in, opened, closed, line_added, bytes_taken, seated_one, leaving_one, early_board}
 use Rattle.spec_live.specs.Lives.{Live, Change, followed, reading, either, tell, leave, enter, on_board}
 use Rattle.spec_rights.specs.declared.act.Actor.{Actor}
@@ -28,7 +29,7 @@ use Rattle.spec_commands.proofs.Showing.{quiet_who_shown, quiet_waits}
 use Rattle.spec_commands.proofs.Lines.{quiet_parted}
 use Rattle.muck_queue.specs.Queues.{reader, without as process_without, on_process, told_line}
 use Rattle.spec_events.specs.World.{World, connection, starting, booted, askers_of, on_live, on_queue}
-use Rattle.spec_events.specs.Dumping.{dump_stored, dump_failed, told_each}
+use Rattle.spec_events.specs.Dumping.{resaved, dump_stored, dump_failed, told_each}
 use Rattle.spec_events.specs.Lines.{program_aborted, is_abort, given_line, line_for, line_done, done}
 use Rattle.spec_events.specs.Slices.{Taken, after_unit, last_world, awake, units_of}
 use Rattle.spec_events.specs.Steps.{is_died, is_allowed, is_lawful, happened, effect}
@@ -287,8 +288,8 @@ gained (Closed d) party w r l = λ e p h. let k = closed_found e d p w.live r h 
 gained (Opened d) party w r l = λ e p h. inl (placed_found e d welcome p w.live.board.connections h, λ x. cc)
 gained (Input d line) party w r l = λ e p h. inl (sym (kept_quiet e (on_board (line_added d line)) (quiet_one d _ (λ c. refl)) w.live) ∙ h, λ x. cc)
 gained (Take d n) party w r l = λ e p h. inl (sym (kept_quiet e (on_board (bytes_taken d n)) (quiet_one d _ (λ c. refl)) w.live) ∙ h, λ x. cc)
-gained (Stored k) party w r l = λ e p h. inl (sym (kept_quiet e (told_each (askers_of w.dumps) (dump_stored k)) (quiet_told_each (askers_of w.dumps) (dump_stored k)) w.live) ∙ h, λ x. cc)
-gained (DumpFailed k) party w r l = λ e p h. inl (sym (kept_quiet e (told_each (askers_of w.dumps) dump_failed) (quiet_told_each (askers_of w.dumps) dump_failed) w.live) ∙ h, λ x. cc)
+gained (Stored k) party w r l = λ e p h. inl (sym (kept_quiet e (told_each (askers_of w.dumps) (dump_stored k)) (quiet_told_each (askers_of w.dumps) (dump_stored k)) (resaved saving.done w.live)) ∙ h, λ x. cc)
+gained (DumpFailed k) party w r l = λ e p h. inl (sym (kept_quiet e (told_each (askers_of w.dumps) dump_failed) (quiet_told_each (askers_of w.dumps) dump_failed) (resaved saving.due_again w.live)) ∙ h, λ x. cc)
 gained event party w r l = λ e p h. inl (h, λ x. cc)
 
 -- Histories.

@@ -9,11 +9,14 @@ use Rattle.muck_model.specs.declared.event.Event.{Event}
 use Rattle.muck_model.specs.declared.event.Event.TheVariants.{Opened, Input, Closed, Moment, Exec, Slice, Idle, Take, Stored, DumpFailed, Halt, Died}
 use Rattle.muck_model.specs.declared.tune.Tune.{Tune}
 use Rattle.spec_live.specs.Objects.{Entry as Kept}
+use Rattle.spec_live.specs.declared.saving.Saving.{Saving}
 use Rattle.spec_live.specs.Start.{first_objects}
+use Rattle.spec_live.specs.Saving.{Marked, done, due_again, all_saving}
 use Rattle.spec_live.specs.Output.{bytes_of}
 use Rattle.spec_live.specs.Connections.{Connection, has_number, placed, without, newcomer, connections_most, holds, lined}
 use Rattle.spec_live.specs.Boards.{player_in, opened, closed, line_added, bytes_taken, first_tune, early_board}
 use Rattle.spec_live.specs.Lives.{Live, Change, followed, reading, on_board}
+use Rattle.spec_live.proofs.Marking.{marked_stored, marked_failed}
 use Rattle.spec_admin.specs.declared.word.Parameter.TheVariants.{InstrSlice, PreemptUnits, M1Units, M2Units, ProcessLimit, PlayerProcesses, MpiCommands, DumpInterval}
 use Rattle.spec_admin.specs.Parameters.{IsInRange}
 use Rattle.spec_commands.specs.Talk.{welcome, parted, gone_away}
@@ -21,12 +24,12 @@ use Rattle.spec_commands.specs.inner.Rising.{IsAbove, IsRising}
 use Rattle.spec_commands.proofs.Numbered.{rising_by, seating_quiet, seating_one}
 use Rattle.spec_commands.proofs.Lines.{quiet_parted}
 use Rattle.spec_events.specs.World.{World, connection, queue_of, is_leaving, askers_of, on_live, booted, starting}
-use Rattle.spec_events.specs.Dumping.{dump_stored, dump_failed, told_each}
+use Rattle.spec_events.specs.Dumping.{resaved, dump_stored, dump_failed, told_each}
 use Rattle.spec_events.specs.Steps.{is_free, may_idle, is_allowed, is_lawful, is_died, happened, effect, next_ready}
 use Rattle.spec_events.specs.Histories.{by_porter}
 use Rattle.spec_events.specs.inner.Sound.{IsSound}
 use Rattle.spec_events.proofs.Quietly.{quietly_live, quiet_told_each}
-use Rattle.spec_events.proofs.Done.{Going, in_range_as, going_quietly, going_live, done_going}
+use Rattle.spec_events.proofs.Done.{Going, in_range_as, going_both, going_quietly, going_live, going_resaved, done_going}
 use Rattle.spec_events.proofs.Taken.{sliced_going}
 use Rattle.spec_events.proofs.Living.{dead-happened}
 use Rattle.spec_events.proofs.Turns.{gone_away_untouched}
@@ -93,9 +96,18 @@ rising-placed new (c ∷ cs) = λ none h.
 no_connection : (d : ℕ) (w : World) (first stop few : Bool) → (first && is_none (connection d w) && few && not stop) ≡ true → connection d w ≡ None
 no_connection d w first stop few e = none_of (connection d w) (and_parts first _ (and_parts _ _ (and_parts _ _ e).0).0).1
 
--- What is told of a dump keeps the world as it was before.
-pub told-going : (ds : List ℕ) (text : List ℕ) (w : World) → Going w (on_live (told_each ds text) w)
-told-going ds text w = going_quietly w _ (quietly_live (told_each ds text) (quiet_told_each ds text) w)
+-- What the end of a dump makes of objects, and what is told of it, keeps the world as it was before.
+
+ended-going : (f : Saving → Saving) (ds : List ℕ) (text : List ℕ) (w : World) → Marked w.live.objects (all_saving f w.live.objects) → Going w (on_live (told_each ds text) (on_live (resaved f) w))
+ended-going f ds text w marked =
+    let u : World = on_live (resaved f) w in
+    going_both w u (on_live (told_each ds text) u) (going_resaved f w marked) (going_quietly u _ (quietly_live (told_each ds text) (quiet_told_each ds text) u))
+
+pub stored-going : (k : ℕ) (w : World) → Going w (on_live (told_each (askers_of w.dumps) (dump_stored k)) (on_live (resaved done) w))
+stored-going k w = ended-going done (askers_of w.dumps) (dump_stored k) w (marked_stored w.live.objects)
+
+pub failed-going : (w : World) → Going w (on_live (told_each (askers_of w.dumps) dump_failed) (on_live (resaved due_again) w))
+failed-going w = ended-going due_again (askers_of w.dumps) dump_failed w (marked_failed w.live.objects)
 
 going-rises : (w v : World) → Going w v → IsRising w.live.board.connections → IsRising v.live.board.connections
 going-rises w v g h = rising_by w.live.board.connections v.live.board.connections g.numbers h
@@ -117,8 +129,8 @@ rising-happened (Closed d) party w l h = rising-gone_away d w.live h
 rising-happened (Exec d) party w l h = going-rises w _ (done_going d w (connection d w) refl) h
 rising-happened (Slice pid) party w l h = going-rises w _ (sliced_going pid w) h
 rising-happened (Take d n) party w l h = going-rises w _ (going_live d (on_board (bytes_taken d n)) (seating_one d _ (λ c. refl)) w) h
-rising-happened (Stored k) party w l h = going-rises w _ (told-going (askers_of w.dumps) (dump_stored k) w) h
-rising-happened (DumpFailed k) party w l h = going-rises w _ (told-going (askers_of w.dumps) dump_failed w) h
+rising-happened (Stored k) party w l h = going-rises w _ (stored-going k w) h
+rising-happened (DumpFailed k) party w l h = going-rises w _ (failed-going w) h
 rising-happened event party w l h = h
 
 -- and what is tuned is in its range: only a keeper's line tunes
@@ -127,8 +139,8 @@ unfolding opened line_added bytes_taken
 tuned-happened (Closed d) party w h = in_range_as w.live (gone_away d w.live) (gone_away_untouched d w.live).tune h
 tuned-happened (Exec d) party w h = (done_going d w (connection d w) refl).tuned h
 tuned-happened (Slice pid) party w h = (sliced_going pid w).tuned h
-tuned-happened (Stored k) party w h = (told-going (askers_of w.dumps) (dump_stored k) w).tuned h
-tuned-happened (DumpFailed k) party w h = (told-going (askers_of w.dumps) dump_failed w).tuned h
+tuned-happened (Stored k) party w h = (stored-going k w).tuned h
+tuned-happened (DumpFailed k) party w h = (failed-going w).tuned h
 tuned-happened event party w h = h
 
 other_event : (event : Event) → event ≢ Died → is_died event ≡ false

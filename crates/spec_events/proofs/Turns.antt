@@ -1,23 +1,26 @@
 -- Each step changes only what is open.
-use Rattle.std.proofs.Common.{◌≡◌, ℕ, true, false, zero, suc, List, [], ◌∷◌, refl, None}
+use Rattle.std.proofs.Common.{◌≡◌, ℕ, true, false, zero, suc, List, [], ◌∷◌, refl, ◌∙◌, None}
 use Rattle.muck_model.specs.declared.event.Entry.{Entry}
 use Rattle.muck_model.specs.declared.event.Event.{Event}
 use Rattle.muck_model.specs.declared.tune.Tune.{Tune}
-use Rattle.muck_model.specs.declared.event.Event.TheVariants.{Opened, Input, Closed, Exec, Slice, Take, Stored, DumpFailed}
+use Rattle.muck_model.specs.declared.event.Event.TheVariants.{Opened, Input, Closed, Exec, Slice, Take, Cut, Stored, DumpFailed}
+use Rattle.spec_live.specs.declared.saving.Saving.{Saving}
 use Rattle.spec_live.specs.Objects.{Entry as Kept, mark_in}
+use Rattle.spec_live.specs.Saving.{pending, done, due_again}
 use Rattle.spec_live.specs.Start.{first_objects}
 use Rattle.spec_live.specs.Boards.{player_in, opened, closed, line_added, bytes_taken}
 use Rattle.spec_live.specs.Lives.{Live, followed, reading, on_board}
+use Rattle.spec_live.proofs.Savings.{mark_resaved}
 use Rattle.spec_commands.specs.Talk.{gone_away}
 use Rattle.spec_rights.proofs.Shown.{quiet_one}
 use Rattle.spec_commands.proofs.Numbered.{leavers_ties}
 use Rattle.spec_commands.proofs.Lines.{quiet_parted}
 use Rattle.muck_queue.specs.Queues.{is_tied_to, claimed, released}
 use Rattle.muck_queue.specs.inner.Numbered.{IsNumbered}
-use Rattle.spec_events.specs.World.{World, booted, starting, connection, askers_of}
-use Rattle.spec_events.specs.Dumping.{dump_stored, dump_failed, told_each}
+use Rattle.spec_events.specs.World.{World, booted, starting, connection, askers_of, on_live}
+use Rattle.spec_events.specs.Dumping.{resaved, dump_stored, dump_failed, told_each}
 use Rattle.spec_events.specs.Steps.{effect, happened}
-use Rattle.spec_events.specs.Licences.{Untouched, EventLicensed}
+use Rattle.spec_events.specs.Licences.{Untouched, DumpLicensed, EventLicensed}
 use Rattle.spec_events.specs.Histories.{AllLicensed}
 use Rattle.spec_events.proofs.Quietly.{quiet_told_each}
 use Rattle.spec_events.proofs.Endings.{IsTold, processes_remain, tied_remain}
@@ -38,6 +41,16 @@ gone_away_untouched d w =
     let shown = parting.law v in
     record { objects = shown.objects; tune = shown.tune }
 
+-- where objects stand otherwise to the dumps, and a text is shown
+dump_licensed : (f : Saving → Saving) (ds : List ℕ) (text : List ℕ) (w : World) → DumpLicensed f w (on_live (told_each ds text) (on_live (resaved f) w))
+dump_licensed f ds text w =
+    let u : World = on_live (resaved f) w in
+    let s = (quiet_told_each ds text).law u.live in (
+      record { objects = s.objects; tune = s.tune },
+      none_ends w (on_live (told_each ds text) u) refl,
+      leavers_ties (λ c. false) w.live.board.connections (told_each ds text u.live).board.connections s.ties,
+    )
+
 event_licensed : (event : Event) (w : World) (party : ℕ) → IsTold w.live → IsNumbered w.queue → EventLicensed event w (happened w party event)
 unfolding opened line_added bytes_taken claimed released
 event_licensed (Exec d) w party told rising = exec_licensed d w party told
@@ -47,16 +60,26 @@ event_licensed (Closed d) w party told rising =
 event_licensed (Opened d) w party told rising = (record { objects = refl; tune = refl }, none_ends w (happened w party (Opened d)) refl)
 event_licensed (Input d line) w party told rising = undisturbed_quietly (λ c. false) (on_board (line_added d line)) w (quiet_one d _ (λ c. refl))
 event_licensed (Take d n) w party told rising = undisturbed_quietly (λ c. false) (on_board (bytes_taken d n)) w (quiet_one d _ (λ c. refl))
-event_licensed (Stored k) w party told rising = undisturbed_quietly (λ c. false) (told_each (askers_of w.dumps) (dump_stored k)) w (quiet_told_each (askers_of w.dumps) (dump_stored k))
-event_licensed (DumpFailed k) w party told rising = undisturbed_quietly (λ c. false) (told_each (askers_of w.dumps) dump_failed) w (quiet_told_each (askers_of w.dumps) dump_failed)
+event_licensed (Cut k) w party told rising =
+    (record { objects = refl; tune = refl }, none_ends w (happened w party (Cut k)) refl, leavers_ties (λ c. false) w.live.board.connections w.live.board.connections refl)
+event_licensed (Stored k) w party told rising = dump_licensed done (askers_of w.dumps) (dump_stored k) w
+event_licensed (DumpFailed k) w party told rising = dump_licensed due_again (askers_of w.dumps) dump_failed w
 event_licensed event w party told rising = (record { objects = refl; tune = refl }, none_ends w (happened w party event) refl, leavers_ties (λ c. false) w.live.board.connections w.live.board.connections refl)
+
+-- how objects stand to the dumps is nothing that is to be told
+told_resaved : (f : Saving → Saving) (w : Live) → IsTold w → IsTold (resaved f w)
+told_resaved f w h n = mark_resaved f n w.objects ∙ h n
+
+told_dump : (f : Saving → Saving) (ds : List ℕ) (text : List ℕ) (w : Live) → IsTold w → IsTold (told_each ds text (resaved f w))
+told_dump f ds text w h = told_by (resaved f w) (told_each ds text (resaved f w)) ((quiet_told_each ds text).law (resaved f w)).objects (told_resaved f w h)
 
 told_happened : (event : Event) (w : World) (party : ℕ) → IsTold w.live → IsTold (happened w party event).live
 told_happened (Exec d) w party h = told_done d w (connection d w) h
 told_happened (Slice pid) w party h = told_sliced pid w h
 told_happened (Closed d) w party h = told_by w.live (gone_away d w.live) (gone_away_untouched d w.live).objects h
-told_happened (Stored k) w party h = told_by w.live (told_each (askers_of w.dumps) (dump_stored k) w.live) ((quiet_told_each (askers_of w.dumps) (dump_stored k)).law w.live).objects h
-told_happened (DumpFailed k) w party h = told_by w.live (told_each (askers_of w.dumps) dump_failed w.live) ((quiet_told_each (askers_of w.dumps) dump_failed).law w.live).objects h
+told_happened (Cut k) w party h = told_resaved pending w.live h
+told_happened (Stored k) w party h = told_dump done (askers_of w.dumps) (dump_stored k) w.live h
+told_happened (DumpFailed k) w party h = told_dump due_again (askers_of w.dumps) dump_failed w.live h
 told_happened event w party h = h
 
 -- whole histories, from a world of which nothing is to be told, and in which the numbers of the processes rise

@@ -3,8 +3,10 @@ use Rattle.std.specs.Prelude.{◌≡◌, ◌⊎◌, ℕ, ℤ, All, Bool, true, f
 use Rattle.muck_model.specs.declared.dbref.Dbref.{Dbref}
 use Rattle.muck_model.specs.declared.edit.EditState.{EditState}
 use Rattle.muck_model.specs.declared.event.Event.{Event}
-use Rattle.muck_model.specs.declared.event.Event.TheVariants.{Opened, Exec, Slice, Closed}
+use Rattle.muck_model.specs.declared.event.Event.TheVariants.{Opened, Exec, Slice, Closed, Cut, Stored, DumpFailed}
+use Rattle.spec_live.specs.declared.saving.Saving.{Saving}
 use Rattle.spec_live.specs.Objects.{Entry}
+use Rattle.spec_live.specs.Saving.{pending, done, due_again, all_saving}
 use Rattle.spec_live.specs.Connections.{Connection, has_number}
 use Rattle.spec_live.specs.Lives.{Live, enter}
 use Rattle.spec_rights.specs.declared.act.Actor.{Actor}
@@ -26,6 +28,11 @@ use Rattle.spec_events.specs.Endings.{ProcessesLicensed, NoProcess, MayEnd, Ends
 -- no object changes, and nothing that is tuned
 pub record Untouched (w v : Live) : Type 0 where
   pub objects : v.objects ≡ w.objects
+  pub tune : v.board.tune ≡ w.board.tune
+
+-- of the objects nothing changes but how they stand to the dumps, which is as f makes of how they stood; and nothing that is tuned
+pub record Remarked (f : Saving → Saving) (w v : Live) : Type 0 where
+  pub objects : v.objects ≡ all_saving f w.objects
   pub tune : v.board.tune ≡ w.board.tune
 
 -- what a player is free to do by a line: to change that source, while it edits a program
@@ -102,11 +109,18 @@ abbrev pub TurnLicensed : ℕ → Option Connection → World → World → Type
 TurnLicensed d (Some c) w v = LineLicensed d (reader d w.queue) c.player c.editor c.waiting w v
 TurnLicensed d None w v = Undisturbed (has_number d) w v
 
--- Nothing but a line that is done and a unit that is taken changes an object. Processes end by such a line, when they run, and with the connection
--- that they are tied to.
+-- a dump begins or ends: nor does any process end, and no connection leaves
+abbrev pub DumpLicensed : (Saving → Saving) → World → World → Type 0
+DumpLicensed f w v = Remarked f w.live v.live × ProcessesLicensed NoProcess w v × LeaversLicensed (λ c. false) w.live.board.connections v.live.board.connections
+
+-- Nothing but a line that is done and a unit that is taken changes an object, beside how it stands to the dumps, which changes with each of them.
+-- Processes end by such a line, when they run, and with the connection that they are tied to.
 abbrev pub EventLicensed : Event → World → World → Type 0
 EventLicensed (Exec d) w v = TurnLicensed d (connection d w) w v
 EventLicensed (Slice pid) w v = SliceLicensed pid (units_of pid w) w v
 EventLicensed (Closed d) w v = Untouched w.live v.live × ProcessesLicensed (λ p. is_tied_to d p ≡ true) w v
 EventLicensed (Opened d) w v = Untouched w.live v.live × ProcessesLicensed NoProcess w v
+EventLicensed (Cut k) w v = DumpLicensed pending w v
+EventLicensed (Stored k) w v = DumpLicensed done w v
+EventLicensed (DumpFailed k) w v = DumpLicensed due_again w v
 EventLicensed event w v = Undisturbed (λ c. false) w v

@@ -5,6 +5,7 @@ use Rattle.std.specs.List.{list_any}
 use Rattle.muck_model.specs.declared.event.Entry.{Entry}
 use Rattle.muck_model.specs.declared.event.Event.{Event}
 use Rattle.muck_model.specs.declared.event.Event.TheVariants.{Opened, Input, Closed, Moment, Exec, Claim, Slice, Lost, Idle, Take, Cut, Stored, DumpFailed, Halt, StopSeen, Died}
+use Rattle.spec_live.specs.Saving as saving
 use Rattle.spec_live.specs.Connections.{Connection, is_ready, connections_most, takes_line, holds}
 use Rattle.spec_live.specs.Boards.{opened, line_added, bytes_taken}
 use Rattle.spec_live.specs.Lives.{on_board}
@@ -12,7 +13,7 @@ use Rattle.muck_queue.specs.declared.process.Process.{Process}
 use Rattle.muck_queue.specs.Queues.{has_pid, process, is_due, is_on, next_due, claimed, released, is_busy, ended_tied}
 use Rattle.spec_commands.specs.Talk.{welcome, gone_away}
 use Rattle.spec_events.specs.World.{World, connection, unasked, begun, over, askers_of, runs_dump, on_live, on_queue, on_dumps}
-use Rattle.spec_events.specs.Dumping.{dump_stored, dump_failed, told_each}
+use Rattle.spec_events.specs.Dumping.{resaved, dump_stored, dump_failed, told_each}
 use Rattle.spec_events.specs.Lines.{done}
 use Rattle.spec_events.specs.Slices.{sliced}
 
@@ -92,7 +93,8 @@ is_died event = false
 unfoldable pub is_lawful : World → Entry → Bool
 is_lawful w entry = if w.dead then is_died entry.event else is_allowed w entry.party entry.event
 
--- The world after an event of a party. Who asked for a dump is told what came of it. A claim lasts until its party has taken the slice, or has learned that the process ended.
+-- The world after an event of a party. As a dump begins, what is due is pending; once it is stored, that is done; and where it failed, what was pending is
+-- due again. Who asked for a dump is told what came of it. A claim lasts until its party has taken the slice, or has learned that the process ended.
 abbrev pub happened : World → ℕ → Event → World
 happened w party (Opened d) = on_live (on_board (opened d welcome)) w
 happened w party (Input d line) = on_live (on_board (line_added d line)) w
@@ -103,9 +105,9 @@ happened w party (Claim pid) = on_queue (claimed pid party) w
 happened w party (Slice pid) = on_queue (released pid) (sliced pid w)
 happened w party (Lost pid) = on_queue (released pid) w
 happened w party (Take d n) = on_live (on_board (bytes_taken d n)) w
-happened w party (Cut k) = on_dumps (begun k w.moment) w
-happened w party (Stored k) = on_dumps over (on_live (told_each (askers_of w.dumps) (dump_stored k)) w)
-happened w party (DumpFailed k) = on_dumps over (on_live (told_each (askers_of w.dumps) dump_failed) w)
+happened w party (Cut k) = on_dumps (begun k w.moment) (on_live (resaved saving.pending) w)
+happened w party (Stored k) = on_dumps over (on_live (told_each (askers_of w.dumps) (dump_stored k)) (on_live (resaved saving.done) w))
+happened w party (DumpFailed k) = on_dumps over (on_live (told_each (askers_of w.dumps) dump_failed) (on_live (resaved saving.due_again) w))
 happened w party Halt = record w { stopping = true }
 happened w party Died = record w { dead = true }
 happened w party event = w

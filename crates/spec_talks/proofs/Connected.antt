@@ -8,14 +8,15 @@ use Rattle.muck_model.specs.declared.event.Entry.{Entry}
 use Rattle.muck_model.specs.declared.event.Event.{Event}
 use Rattle.muck_model.specs.declared.event.Event.TheVariants.{Opened, Input, Closed, Exec, Slice, Take, Stored, DumpFailed}
 use Rattle.spec_live.specs.Connections.{Connection, has_number, placed, without, newcomer, lined}
+use Rattle.spec_live.specs.Saving.{done, due_again}
 use Rattle.spec_live.specs.Boards.{player_in, opened, closed, line_added, bytes_taken}
 use Rattle.spec_live.specs.Lives.{Live, followed, reading, on_board}
 use Rattle.spec_commands.specs.Talk.{welcome, parted, gone_away}
 use Rattle.spec_commands.specs.inner.Rising.{IsAbove, IsRising}
 use Rattle.spec_commands.proofs.Numbered.{numbers, seating_quiet, seating_one}
 use Rattle.spec_commands.proofs.Lines.{quiet_parted}
-use Rattle.spec_events.specs.World.{World, connection, askers_of}
-use Rattle.spec_events.specs.Dumping.{dump_stored, dump_failed, told_each}
+use Rattle.spec_events.specs.World.{World, connection, askers_of, on_live}
+use Rattle.spec_events.specs.Dumping.{resaved, dump_stored, dump_failed, told_each}
 use Rattle.spec_events.specs.Steps.{happened, effect}
 use Rattle.spec_events.specs.Histories.{after, AllLawful}
 use Rattle.spec_events.proofs.Quietly.{quietly_live, quiet_told_each}
@@ -192,8 +193,8 @@ match_happened (Exec d) party w ts h m = match_same _ _ ts (done_going d w (conn
 match_happened (Slice pid) party w ts h m = match_same _ _ ts (sliced_going pid w).numbers m
 match_happened (Take d n) party w ts h m =
     match_changed _ _ ts d (given_out _ n) (λ t. refl) (λ t. refl) (going_live d (on_board (bytes_taken d n)) (seating_one d _ (λ c. refl)) w).numbers m
-match_happened (Stored k) party w ts h m = match_same _ _ ts (told_numbers (askers_of w.dumps) (dump_stored k) w) m
-match_happened (DumpFailed k) party w ts h m = match_same _ _ ts (told_numbers (askers_of w.dumps) dump_failed w) m
+match_happened (Stored k) party w ts h m = match_same _ _ ts (told_numbers (askers_of w.dumps) (dump_stored k) (on_live (resaved done) w)) m
+match_happened (DumpFailed k) party w ts h m = match_same _ _ ts (told_numbers (askers_of w.dumps) dump_failed (on_live (resaved due_again) w)) m
 match_happened event party w ts h m = m
 
 match_effect : (w : World) (e : Entry) (ts : List Talk) → IsRising w.live.board.connections → Matches w.live.board.connections ts → Matches (effect w e).live.board.connections (talked w e.event ts)
