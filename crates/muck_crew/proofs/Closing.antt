@@ -28,7 +28,7 @@ use Rattle.muck_machine.specs.declared.beginning.Beginning.{Beginning}
 use Rattle.muck_machine.specs.inner.Beginnings.{beginning, begun}
 use Rattle.muck_machine.specs.inner.Seats.{Sight, Chair, Rests, AllOrderly}
 use Rattle.muck_machine.proofs.Seating.{begun_settled}
-use Rattle.muck_dumping.specs.inner.Between.{IsReady as HasLog}
+use Rattle.muck_dumping.specs.inner.Between.{IsReady as HasLog, GoesByMarks}
 use Rattle.muck_dumper.specs.inner.Dumping.{history_from, history_seen}
 use Rattle.muck_porter.specs.inner.Porter.{PorterReady}
 use Rattle.muck_crew.specs.declared.seats.Part.{Part}
@@ -215,15 +215,16 @@ module _ (m : Note) (world : History) (f : IsFresh m world) (v : Chair) (begins 
           world_or [] d = d
           world_or (z ∷ zs) d = z.world
 
-  pub ready_dumper : {D : Type 0} (tells : Bool) (seen : D → List ℕ) (moment : D → ℕ) (images : D → ℕ → List ℕ → Type 0) (faults : D → ℕ) (log : Option LogState) (a b : D) (me : Chair)
-      → me ≡ (newcomer 9 (given_to n v.0), []) → (tells ≡ true → (mounted : ℕ) × HasLog seen moment images faults log a b mounted world) → IsAble tells seen moment images faults log a b me
+  pub ready_dumper : {D : Type 0} (tells : Bool) (seen : D → List ℕ) (moment : D → ℕ) (images : D → ℕ → List ℕ → Type 0) (faults : D → ℕ) (log : Option LogState) (marks : Bool) (a b : D) (me : Chair)
+      → me ≡ (newcomer 9 (given_to n v.0), []) → GoesByMarks marks log world → (tells ≡ true → (mounted : ℕ) × HasLog seen moment images faults log a b mounted world) → IsAble tells seen moment images faults log marks a b me
   unfolding now
-  ready_dumper tells seen moment images faults log a b me is mounts = record {
+  ready_dumper tells seen moment images faults log marks a b me is goes mounts = record {
     ready = record {
       rests = rests_new 9 m world me f (ap (λ (c : Chair). c.1) is) (ap (λ (c : Chair). c.0.place) is) (ap (λ (c : Chair). c.0.party) is) (ap (λ (c : Chair). c.0.seen) is ∙ given_seen) (ap (λ (c : Chair). c.0.own) is) root;
       fresh = ap (λ (c : Chair). c.0.own) is;
       idle = ap (λ (h : History). (now h).dumps.running) (seen_history) ∙ now_idle;
     };
+    marks = subst (λ (h : History). GoesByMarks marks log h) (sym seen_history) goes;
     mounted = λ x. let y = mounts x in (y.0, subst (λ (h : History). HasLog seen moment images faults log a b y.0 h) (sym seen_history) y.1);
   }
     where

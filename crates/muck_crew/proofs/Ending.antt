@@ -30,7 +30,8 @@ use Rattle.muck_machine.specs.declared.beginning.Beginning.{Beginning}
 use Rattle.muck_machine.specs.inner.Beginnings.{beginning, begun}
 use Rattle.muck_machine.specs.inner.Seats.{Sight, Chair, AllOrderly, SameLists}
 use Rattle.muck_machine.proofs.Seating.{settled_begun, others_none, others_quiet, orderly_back}
-use Rattle.muck_dumping.specs.inner.Between.{IsReady as HasLog}
+use Rattle.muck_dumping.specs.inner.Between.{IsReady as HasLog, GoesByMarks}
+use Rattle.muck_dumping.proofs.Marks.{goes_quiet}
 use Rattle.muck_dumper.specs.inner.Dumping.{history_from, history_seen, DumperDone}
 use Rattle.muck_dumper.specs.declared.dumping.Why.{Why as DumperWhy}
 use Rattle.muck_dumper.specs.declared.dumping.Why.TheVariants as dumper
@@ -86,10 +87,10 @@ spent_of h seen front most =
     count (l ∷ ls) = ap suc (count ls)
 
 module _ {D : Type 0} (tells : Bool) (seen : D → List ℕ) (moment : D → ℕ) (images : D → ℕ → List ℕ → Type 0) (faults : D → ℕ) (shows : Bool) (b k : Account) (workers : ℕ) (way : Way) (pw : PorterWhy) (dw : DumperWhy)
-    (log log' : Option LogState) (f s f' s' : D) (world h : History) (m : Note) (fresh : IsFresh m world) (few : workers < 9)
+    (log log' : Option LogState) (marks' : Bool) (f s f' s' : D) (world h : History) (m : Note) (fresh : IsFresh m world) (few : workers < 9)
     (parts parts' : List Part) (table : TableId) (v0 s2 sp o o' e : Chair) (begins : Begins v0 world)
     (e2 : s2 ≡ (left_after 9 (given_to workers v0.0), v0.1)) (eo : o ≡ (newcomer 9 (given_to workers v0.0), [])) (dealt : AreDealt table workers v0.0 parts)
-    (pd : PorterDone pw shows b k s2 sp) (dd : DumperDone tells seen moment images faults dw log log' f s f' s' o o') (wd : AreDone parts parts')
+    (pd : PorterDone pw shows b k s2 sp) (dd : DumperDone tells seen moment images faults dw log log' marks' f s f' s' o o') (wd : AreDone parts parts')
     (ended : IsEndOf way pw dw parts') (ee : e ≡ (all_in parts' (taken_in sp.0 o'.0), sp.1)) (shut : Shut e.0 h) (placed : IsPlaced h) (lawful : AllLawful h.start h.entries) where
   -- the first seat
   same : SameButJoined e.0 sp.0
@@ -256,6 +257,9 @@ module _ {D : Type 0} (tells : Bool) (seen : D → List ℕ) (moment : D → ℕ
 
   began : (mounted : ℕ) → HasLog seen moment images faults log f s mounted world → HasLog seen moment images faults log f s mounted (history_seen o.0)
   began mounted x = subst (λ (y : History). HasLog seen moment images faults log f s mounted y) (sym seen_world) x
+
+  pub goes : HasStopped way → GoesByMarks marks' log' h
+  goes stop = goes_quiet marks' log' (history_from o'.0.root dd.known) h quiet9 (dd.marks (all_stopped stop).dumper_too)
 
   -- What the links carried.
 

@@ -2,6 +2,7 @@
 ghost use Rattle.std.specs.Prelude.{◌≡◌, ℕ, true, false, None};
 ghost use Rattle.spec_dumps.specs.inner.Holding.{Keeps};
 ghost use Rattle.spec_events.specs.Histories.{now};
+ghost use Rattle.muck_dumping.specs.inner.Between.{GoesByMarks};
 ghost use Rattle.muck_crew.specs.inner.Runs.{HasStopped};
 ghost use Rattle.muck_crew.specs.inner.Finished.{why_of, why_by, HasDump, IsFinish};
 
@@ -59,6 +60,7 @@ fn last_dump<D: Disk>(
 ) -> Why
     requires alive { (now world.old).dead ≡ false }
     requires idle { (now world.old).dumps.running ≡ None }
+    requires marks { GoesByMarks store.old.marks store.old.log world.old }
     requires mounted { D.tells ≡ true → (mounted : ℕ) × Keeps D.seen D.moment D.images D.faults store.old.log first.old second.old mounted world.old }
     ensures { HasDump D.tells D.seen D.moment D.images D.faults deaf store.old.log first.old second.old first.new second.new world.old world.new result }
 {
@@ -76,6 +78,7 @@ pub fn finish<D: Disk>(
     second: &mut D,
 ) -> Why
     requires idle { HasStopped way → (now world.old).dumps.running ≡ None }
+    requires marks { HasStopped way → GoesByMarks store.old.marks store.old.log world.old }
     requires mounted { HasStopped way → D.tells ≡ true → (mounted : ℕ) × Keeps D.seen D.moment D.images D.faults store.old.log first.old second.old mounted world.old }
     ensures { IsFinish D.tells D.seen D.moment D.images D.faults way store.old.log first.old second.old first.new second.new world.old world.new result }
 {

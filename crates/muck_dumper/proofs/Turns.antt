@@ -1,5 +1,5 @@
 -- A turn of the dumper at its seat.
-use Rattle.std.proofs.Common.{◌≡◌, List, [], ◌∷◌, ◌++◌, length, refl, sym, ◌∙◌, ap, subst, append_assoc, Some, None}
+use Rattle.std.proofs.Common.{◌≡◌, Bool, false, List, [], ◌∷◌, ◌++◌, length, refl, sym, ◌∙◌, ap, subst, append_assoc, Option, Some, None}
 use Rattle.turn_lock.specs.Histories.{own_of}
 use Rattle.turn_lock.specs.declared.view.Place.TheVariants.{Idle as AtRest}
 use Rattle.muck_model.specs.declared.event.Entry.{Entry}
@@ -7,7 +7,8 @@ use Rattle.muck_model.specs.declared.event.Event.{Event}
 use Rattle.muck_model.specs.declared.note.Note.{Note}
 use Rattle.spec_events.specs.declared.logged.Logged.{Logged}
 use Rattle.spec_events.specs.Histories.{History, entered, noted}
-use Rattle.spec_events.specs.Logged.{logged, logged_by, bare_item, noted_item, events_of, NoCounts, IsSettled, IsPlaced, IsOrderly}
+use Rattle.muck_log.specs.Store.{LogState}
+use Rattle.spec_events.specs.Logged.{is_cut, logged, logged_by, bare_item, noted_item, events_of, NoCounts, IsSettled, IsPlaced, IsOrderly}
 use Rattle.spec_events.specs.Own.{Stage, next, stage_of}
 use Rattle.spec_events.proofs.Logging.{placed_entered, placed_noted, events_append, no_counts_one, orderly_noted, orderly_bare}
 use Rattle.spec_events.proofs.Owning.{stage_more}
@@ -15,6 +16,8 @@ use Rattle.muck_machine.specs.inner.Beginnings.{beginning}
 use Rattle.muck_machine.specs.inner.Seats.{Sight, Chair, OneMore, AllOrderly, Rests, Waited}
 use Rattle.muck_machine.proofs.Seating.{held_settled, one_bare, one_noted, given_seen, given_root, rests_turned, seen_later}
 use Rattle.muck_dumping.specs.inner.Dumps.{by}
+use Rattle.muck_dumping.specs.inner.Between.{GoesByMarks}
+use Rattle.muck_dumping.proofs.Marks.{goes_entered, goes_noted, goes_quiet}
 use Rattle.muck_dumper.specs.inner.Dumping.{history_seen}
 use Rattle.muck_dumper.specs.inner.Steps.{MadeBy, bare, with_note, Step, Moves}
 use Rattle.muck_dumper.proofs.Knowing.{held_quiet, given_known}
@@ -86,6 +89,15 @@ module _ (me : Chair) (v : Sight) (h k : History) (event : Event) (r : Rests 9 m
         last = (me.0.own, l, both.1.own, i.entry);
       } in
       (s, refl, known)
+
+-- What is kept by the marks of the objects stays so at an entry that is no Cut.
+
+goes_made : (marks : Bool) (log : Option LogState) (event : Event) (h k : History) → is_cut event ≡ false → MadeBy event h k → GoesByMarks marks log h → GoesByMarks marks log k
+goes_made marks log event h k other (bare is) goes = goes_entered marks log h k (by 9 event) other is goes
+goes_made marks log event h k other (with_note x at is) goes = goes_noted marks log h k x (by 9 event) other is goes
+
+pub goes_step : (marks : Bool) (log : Option LogState) (event : Event) (me me' : Chair) → is_cut event ≡ false → Step event me me' → GoesByMarks marks log (history_seen me.0) → GoesByMarks marks log (history_seen me'.0)
+goes_step marks log event me me' other t goes = goes_made marks log event t.world (history_seen me'.0) other t.made (goes_quiet marks log (history_seen me.0) t.world t.quiet goes)
 
 -- From stage to stage.
 

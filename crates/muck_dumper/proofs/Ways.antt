@@ -18,7 +18,7 @@ use Rattle.muck_dumping.specs.declared.parts.Pending.{Pending}
 use Rattle.muck_machine.specs.inner.Seats.{Chair, Rests, Left, Waited}
 use Rattle.muck_machine.proofs.Seating.{left_rests}
 use Rattle.muck_dumping.specs.inner.Dumps.{by, ending_event}
-use Rattle.muck_dumping.specs.inner.Between.{IsReady, IsPending}
+use Rattle.muck_dumping.specs.inner.Between.{IsReady, GoesByMarks, IsPending}
 use Rattle.muck_dumping.proofs.Beginning.{ready_quiet}
 use Rattle.muck_dumping.proofs.Mounting.{ready_mounted}
 use Rattle.muck_dumper.specs.declared.dumping.Why.{Why}
@@ -29,7 +29,7 @@ use Rattle.muck_dumper.specs.inner.Dumping.{history_from, history_seen, IsKnown,
 use Rattle.muck_dumper.specs.declared.deeds.Did.TheVariants.{Began}
 use Rattle.muck_dumper.specs.inner.Steps.{KeptBy, Step, Moves, Stops, Settles, Watches}
 use Rattle.muck_dumper.proofs.Knowing.{rests_known}
-use Rattle.muck_dumper.proofs.Turns.{moves_step, moves_on, moves_same}
+use Rattle.muck_dumper.proofs.Turns.{goes_step, moves_step, moves_on, moves_same}
 
 -- An answer is one of these.
 
@@ -111,8 +111,8 @@ module _ {D : Type 0} (tells : Bool) (seen : D → List ℕ) (moment : D → ℕ
     abbrev Begins : ℕ → Type 0
     Begins mounted = IsReady seen moment images faults log0 f0 s0 mounted (history_seen me0.0)
 
-    abbrev Done : Why → Option LogState → D → D → Chair → Type 0
-    Done why log f s me = DumperDone tells seen moment images faults why log0 log f0 s0 f s me0 me
+    abbrev Done : Why → Option LogState → Bool → D → D → Chair → Type 0
+    Done why log marks f s me = DumperDone tells seen moment images faults why log0 log marks f0 s0 f s me0 me
 
     none_done : stage_of 9 [] ≡ Some Stage.unbound
     unfolding stage_of
@@ -124,10 +124,10 @@ module _ {D : Type 0} (tells : Bool) (seen : D → List ℕ) (moment : D → ℕ
     first_counts : NoCounts me0.0.own
     first_counts = subst NoCounts (sym begun.fresh) tt
 
-    module _ (log : Option LogState) (f s : D) (first_later : faults f0 ≤ faults f) (second_later : faults s0 ≤ faults s) where
+    module _ (log : Option LogState) (marks : Bool) (f s : D) (first_later : faults f0 ≤ faults f) (second_later : faults s0 ≤ faults s) where
       -- In the midst of a dump.
       module _ (me me' : Chair) (from : Stage) (P : ℕ → Type 0) (before : Moves Stage.unbound from me0 me) (leads : (mounted : ℕ) → tells ≡ true → Begins mounted → P mounted) where
-        pub done_wanted : (fault : Fault) → fault ≡ Wanted → Stops tells moment images f s fault from P me me' → Done NoMemory log f s me'
+        pub done_wanted : (fault : Fault) → fault ≡ Wanted → Stops tells moment images f s fault from P me me' → Done NoMemory log marks f s me'
         done_wanted fault is stops =
             let t = subst (λ (x : Fault). Stops tells moment images f s x from P me me') is stops in
             let moves = moves_on Stage.unbound from t.to me0 me me' before t.moves in
@@ -144,12 +144,13 @@ module _ {D : Type 0} (tells : Bool) (seen : D → List ℕ) (moment : D → ℕ
               knows = t.knows;
               safe = λ mounted on b. t.safe mounted on (leads mounted on b);
               ready = λ e. absurd (wanted_not_fine e);
+              marks = λ e. absurd (wanted_not_fine e);
               idle = λ e. absurd (wanted_not_fine e);
               first_later = first_later;
               second_later = second_later;
             }
 
-        pub done_all_had : (fault : Fault) → fault ≡ AllHad → Stops tells moment images f s fault from P me me' → Done Spent log f s me'
+        pub done_all_had : (fault : Fault) → fault ≡ AllHad → Stops tells moment images f s fault from P me me' → Done Spent log marks f s me'
         done_all_had fault is stops =
             let t = subst (λ (x : Fault). Stops tells moment images f s x from P me me') is stops in
             let moves = moves_on Stage.unbound from t.to me0 me me' before t.moves in
@@ -166,6 +167,7 @@ module _ {D : Type 0} (tells : Bool) (seen : D → List ℕ) (moment : D → ℕ
               knows = t.knows;
               safe = λ mounted on b. t.safe mounted on (leads mounted on b);
               ready = λ e. absurd (spent_not_fine e);
+              marks = λ e. absurd (spent_not_fine e);
               idle = λ e. absurd (spent_not_fine e);
               first_later = first_later;
               second_later = second_later;
@@ -173,8 +175,8 @@ module _ {D : Type 0} (tells : Bool) (seen : D → List ℕ) (moment : D → ℕ
 
       module _ (me me' : Chair) (w : Watches tells seen moment images faults log f s Stage.unbound Begins me0 me) where
         -- it has seen the stop
-        pub done_fine : (t : Step StopSeen me me') → history_seen me'.0 ≡ entered t.world (by 9 StopSeen) → Done Fine log f s me'
-        done_fine t is =
+        pub done_fine : (t : Step StopSeen me me') → history_seen me'.0 ≡ entered t.world (by 9 StopSeen) → GoesByMarks marks log (history_seen me.0) → Done Fine log marks f s me'
+        done_fine t is goes =
             let moves = moves_on Stage.unbound Stage.unbound Stage.stopped me0 me me' w.moves (moves_step Stage.unbound Stage.stopped StopSeen me me' t refl) in
             let q = bare_quiet StopSeen t.world (history_seen me'.0) refl is in
             let ready : (mounted : ℕ) → tells ≡ true → Begins mounted → IsReady seen moment images faults log f s mounted (history_seen me'.0) =
@@ -193,6 +195,7 @@ module _ {D : Type 0} (tells : Bool) (seen : D → List ℕ) (moment : D → ℕ
               knows = rests_known me' t.rests;
               safe = λ mounted on b. (ready mounted on b).keeps.safe;
               ready = λ e mounted on b. ready mounted on b;
+              marks = λ e. goes_step marks log StopSeen me me' refl t goes;
               idle = λ e. idle_quiet t.world (history_seen me'.0) q (idle_quiet (history_seen me.0) t.world t.quiet w.idle);
               first_later = first_later;
               second_later = second_later;
@@ -200,7 +203,7 @@ module _ {D : Type 0} (tells : Bool) (seen : D → List ℕ) (moment : D → ℕ
 
         -- memory was wanted, by it or by another
         pub done_dead : (t : Step Died me me') →
-            ((mounted : ℕ) → tells ≡ true → Keeps seen moment images faults log f s mounted t.world → IsSafe moment images f s (history_seen me'.0).start mounted (history_seen me'.0).entries (history_seen me'.0).notes) → Done NoMemory log f s me'
+            ((mounted : ℕ) → tells ≡ true → Keeps seen moment images faults log f s mounted t.world → IsSafe moment images f s (history_seen me'.0).start mounted (history_seen me'.0).entries (history_seen me'.0).notes) → Done NoMemory log marks f s me'
         done_dead t safe =
             let moves = moves_on Stage.unbound Stage.unbound Stage.ended me0 me me' w.moves (moves_step Stage.unbound Stage.ended Died me me' t refl) in
             record {
@@ -216,13 +219,14 @@ module _ {D : Type 0} (tells : Bool) (seen : D → List ℕ) (moment : D → ℕ
               knows = rests_known me' t.rests;
               safe = λ mounted on b. safe mounted on (keeps_quiet seen moment images faults log f s mounted (history_seen me.0) t.world t.quiet (w.ready mounted on b).keeps);
               ready = λ e. absurd (wanted_not_fine e);
+              marks = λ e. absurd (wanted_not_fine e);
               idle = λ e. absurd (wanted_not_fine e);
               first_later = first_later;
               second_later = second_later;
             }
 
         -- all turns were had
-        pub done_spent : Left 9 me' → Waited me.0 me'.0 → 2 ^ 62 ≤ length me'.0.seen → Done Spent log f s me'
+        pub done_spent : Left 9 me' → Waited me.0 me'.0 → 2 ^ 62 ≤ length me'.0.seen → Done Spent log marks f s me'
         done_spent left waited many =
             let moves = moves_on Stage.unbound Stage.unbound Stage.unbound me0 me me' w.moves (moves_same Stage.unbound me me' waited) in
             record {
@@ -238,6 +242,7 @@ module _ {D : Type 0} (tells : Bool) (seen : D → List ℕ) (moment : D → ℕ
               knows = waited_known me me' w.rests waited;
               safe = λ mounted on b. safe_as me me' waited mounted (w.ready mounted on b).keeps.safe;
               ready = λ e. absurd (spent_not_fine e);
+              marks = λ e. absurd (spent_not_fine e);
               idle = λ e. absurd (spent_not_fine e);
               first_later = first_later;
               second_later = second_later;

@@ -8,7 +8,7 @@ ghost use Rattle.spec_dumps.specs.Survival.{IsSafe};
 ghost use Rattle.spec_events.specs.Histories.{now};
 ghost use Rattle.spec_events.specs.World.{runs_dump};
 ghost use Rattle.muck_dumping.specs.inner.Dumps.{ending_event};
-ghost use Rattle.muck_dumping.specs.inner.Between.{IsWritten, EndsAs};
+ghost use Rattle.muck_dumping.specs.inner.Between.{GoesByMarks, IsWritten, EndsAs};
 ghost use Rattle.muck_dumper.specs.inner.Steps.{event_of, MadeBy, KeptBy};
 
 use muck_disk::Disk;
@@ -36,6 +36,7 @@ pub enum Did {
 /// where none is.
 pub fn watches<D: Disk>(world: &mut World, store: &Store, first: &D, second: &D) -> Did
     requires idle { (now world.old).dumps.running ≡ None }
+    requires marks { GoesByMarks store.now.marks store.now.log world.old }
     ensures made { MadeBy (event_of result) world.old world.new }
     ensures kept { KeptBy D.tells D.seen D.moment D.images D.faults store.now.log first.now second.now result world.old world.new }
 {

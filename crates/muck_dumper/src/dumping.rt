@@ -1,6 +1,6 @@
 // The dumper.
 ghost use Rattle.std.specs.Prelude.{◌≡◌, ℕ, true};
-ghost use Rattle.muck_dumping.specs.inner.Between.{IsReady};
+ghost use Rattle.muck_dumping.specs.inner.Between.{IsReady, GoesByMarks};
 ghost use Rattle.muck_dumper.specs.inner.Dumping.{history_seen, DumperReady, DumperDone};
 
 use crate::deeds::Did;
@@ -40,9 +40,10 @@ pub fn dumper<W: Wait, D: Disk, G: Gate, R: Rest>(
 ) -> Why
     requires own { seat.old.table_id ≡ turn.now.table.shared.table_id }
     requires ready { DumperReady seat.old.me }
+    requires marks { GoesByMarks store.old.marks store.old.log (history_seen seat.old.me.0) }
     requires mounted { D.tells ≡ true → (mounted : ℕ) × IsReady D.seen D.moment D.images D.faults store.old.log first.old second.old mounted (history_seen seat.old.me.0) }
     ensures own { (seat.new.table_id ≡ seat.old.table_id) × (seat.new.id ≡ seat.old.id) }
-    ensures done { DumperDone D.tells D.seen D.moment D.images D.faults result store.old.log store.new.log first.old second.old first.new second.new seat.old.me seat.new.me }
+    ensures done { DumperDone D.tells D.seen D.moment D.images D.faults result store.old.log store.new.log store.new.marks first.old second.old first.new second.new seat.old.me seat.new.me }
 {
     for _ in rt.forever() {
         match watch_turn(rt, turn, seat, store, first, second) {

@@ -1,10 +1,8 @@
 // The dumper at the lock.
-ghost use Rattle.std.specs.Prelude.{◌≡◌, ◌≤◌, ◌^◌, ℕ, true, false, List, Some, None, Option, Result, IfOk, OnOk, OnErr, IfErr, length, if◌then◌else◌};
+ghost use Rattle.std.specs.Prelude.{◌≡◌, ◌≤◌, ◌^◌, ℕ, true, false, Some, None, Option, Result, IfOk, OnOk, OnErr, IfErr, length, if◌then◌else◌};
 ghost use Rattle.muck_log.specs.Store.{LogState};
 ghost use Rattle.muck_log.specs.declared.fault.LogFault.{LogFault as Answer};
 ghost use Rattle.muck_model.specs.declared.event.Event.TheVariants.{Died};
-ghost use Rattle.muck_model.specs.declared.tune.Tune.{Tune};
-ghost use Rattle.spec_live.specs.Objects.{Entry as Object};
 ghost use Rattle.spec_dumps.specs.inner.Holding.{Keeps, Rests as HasRests};
 ghost use Rattle.spec_dumps.specs.Survival.{IsSafe};
 ghost use Rattle.spec_events.specs.Histories.{History, now, entered};
@@ -12,7 +10,7 @@ ghost use Rattle.spec_events.specs.Own.{Stage, died_next};
 ghost use Rattle.spec_events.specs.World.{runs_dump};
 ghost use Rattle.muck_machine.specs.inner.Seats.{Rests, Left, Waited};
 ghost use Rattle.muck_dumping.specs.inner.Dumps.{by, ending_event};
-ghost use Rattle.muck_dumping.specs.inner.Between.{IsReady, IsBatchOf, base_in, IsPending, IsWritten, EndsAs};
+ghost use Rattle.muck_dumping.specs.inner.Between.{IsReady, IsBatchAtCut, GoesByMarks, base_in, IsPending, IsWritten, EndsAs};
 ghost use Rattle.muck_dumper.specs.inner.Dumping.{history_seen};
 ghost use Rattle.muck_dumper.specs.inner.Steps.{Step, Stops, Settles, Watches, Watched};
 
@@ -45,6 +43,7 @@ pub(crate) fn watch_turn<W: Wait, D: Disk>(
     requires own { seat.old.table_id ≡ turn.now.table.shared.table_id }
     requires rests { Rests 9 seat.old.me }
     requires idle { (now (history_seen seat.old.me.0)).dumps.running ≡ None }
+    requires marks { GoesByMarks store.now.marks store.now.log (history_seen seat.old.me.0) }
     ensures own { (seat.new.table_id ≡ seat.old.table_id) × (seat.new.id ≡ seat.old.id) }
     ensures ok { IfOk result (λ did. Watched D.tells D.seen D.moment D.images D.faults store.now.log first.now second.now did seat.old.me seat.new.me) }
     ensures err { OnErr result (Left 9 seat.new.me × Waited seat.old.me.0 seat.new.me.0 × (2 ^ 62 ≤ length seat.new.me.0.seen)) }
@@ -139,6 +138,7 @@ fn ends<W: Wait, D: Disk>(
     requires rests { Rests 9 seat.old.me }
     requires runs { runs_dump number (now (history_seen seat.old.me.0)).dumps ≡ true }
     ensures own { (seat.new.table_id ≡ seat.old.table_id) × (seat.new.id ≡ seat.old.id) }
+    ensures marks { GoesByMarks store.now.marks store.now.log (history_seen seat.old.me.0) → OnOk result (GoesByMarks store.now.marks store.now.log (history_seen seat.new.me.0)) }
     ensures ok { (r : Result (Unit {0}) Answer) → EndsAs r stored → OnOk result (Settles D.tells D.seen D.moment D.images D.faults store.now.log first.now second.now (Stage.dumping number)
         (λ mounted. IsWritten D.seen D.moment D.images D.faults store.now.log first.now second.now mounted (history_seen seat.old.me.0) r) seat.old.me seat.new.me) }
     ensures err { (r : Result (Unit {0}) Answer) → EndsAs r stored → IfErr result (λ fault. Stops D.tells D.moment D.images first.now second.now fault (Stage.dumping number)
@@ -165,6 +165,7 @@ fn mounts<W: Wait, D: Disk>(
     requires rests { Rests 9 seat.old.me }
     ensures own { (seat.new.table_id ≡ seat.old.table_id) × (seat.new.id ≡ seat.old.id) }
     ensures same { OnOk result (seat.new.me ≡ seat.old.me) }
+    ensures marks { (h : History) → GoesByMarks store.old.marks store.old.log h → GoesByMarks store.new.marks store.new.log h }
     ensures ready { (mounted : ℕ) (h : History) → D.tells ≡ true → Keeps D.seen D.moment D.images D.faults store.old.log first.old second.old mounted h
         → OnOk result (IsReady D.seen D.moment D.images D.faults store.new.log first.new second.new mounted h) }
     ensures err { IfErr result (λ fault. Stops D.tells D.moment D.images first.new second.new fault Stage.unbound
@@ -196,6 +197,7 @@ fn fails<W: Wait, D: Disk>(
     requires rests { Rests 9 seat.old.me }
     requires runs { runs_dump number (now (history_seen seat.old.me.0)).dumps ≡ true }
     ensures own { (seat.new.table_id ≡ seat.old.table_id) × (seat.new.id ≡ seat.old.id) }
+    ensures marks { GoesByMarks store.old.marks store.old.log (history_seen seat.old.me.0) → OnOk result (GoesByMarks store.new.marks store.new.log (history_seen seat.new.me.0)) }
     ensures ok { (r : Result (Unit {0}) Answer) → EndsAs r false → OnOk result (Watches D.tells D.seen D.moment D.images D.faults store.new.log first.new second.new (Stage.dumping number)
         (λ mounted. IsWritten D.seen D.moment D.images D.faults store.old.log first.old second.old mounted (history_seen seat.old.me.0) r) seat.old.me seat.new.me) }
     ensures err { (r : Result (Unit {0}) Answer) → EndsAs r false → IfErr result (λ fault. Stops D.tells D.moment D.images first.new second.new fault (Stage.dumping number)
@@ -221,9 +223,10 @@ pub(crate) fn makes<W: Wait, D: Disk>(
     requires own { seat.old.table_id ≡ turn.now.table.shared.table_id }
     requires rests { Rests 9 seat.old.me }
     requires runs { runs_dump pending.number (now (history_seen seat.old.me.0)).dumps ≡ true }
-    requires batch { (objects : List Object) × (tune : Tune) × IsBatchOf (base_in store.old.log) objects tune pending }
+    requires batch { IsBatchAtCut (base_in store.old.log) (history_seen seat.old.me.0) pending }
     requires mounted { D.tells ≡ true → (mounted : ℕ) × IsPending D.seen D.moment D.images D.faults store.old.log first.old second.old mounted (history_seen seat.old.me.0) pending }
     ensures own { (seat.new.table_id ≡ seat.old.table_id) × (seat.new.id ≡ seat.old.id) }
+    ensures marks { OnOk result (GoesByMarks store.new.marks store.new.log (history_seen seat.new.me.0)) }
     ensures ok { OnOk result (Watches D.tells D.seen D.moment D.images D.faults store.new.log first.new second.new (Stage.dumping pending.number)
         (λ mounted. IsPending D.seen D.moment D.images D.faults store.old.log first.old second.old mounted (history_seen seat.old.me.0) pending) seat.old.me seat.new.me) }
     ensures err { IfErr result (λ fault. Stops D.tells D.moment D.images first.new second.new fault (Stage.dumping pending.number)

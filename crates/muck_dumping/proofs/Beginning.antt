@@ -1,9 +1,15 @@
 -- A dump begins, and is pending until it is written.
 use Rattle.std.proofs.Common.{◌≡◌, ◌⊎◌, inl, inr, ℕ, suc, ◌<◌, ◌≤◌, true, false, List, [], ◌∷◌, ◌++◌, length, refl, sym, ap, ◌∙◌, subst, arith, Option, Some, None}
-use Rattle.std.specs.Prelude.{slice_get}
+use Rattle.std.specs.Prelude.{slice_get, All}
 use Rattle.muck_model.specs.declared.event.Event.TheVariants.{Cut, Died}
 use Rattle.muck_model.specs.declared.note.Note.{Note}
-use Rattle.spec_live.specs.Lives.{Live}
+use Rattle.muck_codec.specs.declared.stored.Stored.{Stored}
+use Rattle.muck_codec.specs.inner.Stored.{IsStored}
+use Rattle.muck_db.specs.inner.Limits.{IsWithinLimits}
+use Rattle.muck_store.specs.inner.Changes.{LeavesOut}
+use Rattle.muck_store.specs.Forms.{persist}
+use Rattle.spec_admin.specs.Parameters.{IsInRange}
+use Rattle.spec_live.specs.Consistent.{IsConsistent}
 use Rattle.muck_log.specs.File.{after_number}
 use Rattle.muck_log.specs.Store.{LogState, IsMounted}
 use Rattle.spec_events.specs.World.{World}
@@ -17,10 +23,24 @@ use Rattle.spec_dumps.proofs.Cutting.{rests_on, cut_noted, number_end}
 use Rattle.muck_dumping.specs.declared.parts.Pending.{Pending}
 use Rattle.muck_dumping.specs.inner.Dumps.{note_of, by, HasRisen}
 use Rattle.muck_dumping.specs.inner.Between.{IsReady, IsBatchOf, IsBatchOfWorld, base_in, IsPending}
-use Rattle.muck_dumping.proofs.Steps.{cut_live}
+use Rattle.muck_dumping.proofs.Steps.{at_note}
+use Rattle.muck_dumping.proofs.Marks.{batch_at_cut}
 
 same_note : (x y : Note) → Some x ≡ Some y → x ≡ y
 same_note x y e = cc
+
+-- what is said of a batch behind a note
+pub batch_noted : (base : List Stored) (h k : History) (note : Note) (p : Pending) → k ≡ noted h note → LeavesOut base (persist (now k).live.objects) p.batch.records → All IsStored p.batch.records → p.batch.tune ≡ (now k).live.board.tune →
+    p.size ≡ length (now h).live.objects → IsConsistent (now k).live.objects → IsWithinLimits (now k).live.objects → IsInRange (now k).live.board.tune → IsBatchOfWorld base (now h) p
+batch_noted base h k note p is records storable tuning size consistent limits tuned = record {
+  records = at_note (λ (w : World). LeavesOut base (persist w.live.objects) p.batch.records) h k note is records;
+  storable = storable;
+  tuning = at_note (λ (w : World). p.batch.tune ≡ w.live.board.tune) h k note is tuning;
+  size = size;
+  consistent = at_note (λ (w : World). IsConsistent w.live.objects) h k note is consistent;
+  limits = at_note (λ (w : World). IsWithinLimits w.live.objects) h k note is limits;
+  tuned = at_note (λ (w : World). IsInRange w.live.board.tune) h k note is tuned;
+}
 
 module _ {D : Type 0} (seen : D → List ℕ) (moment : D → ℕ) (images : D → ℕ → List ℕ → Type 0) (faults : D → ℕ) (log : Option LogState) (f s : D) (mounted : ℕ) where
   -- Memory was wanted, behind a note or without one.
@@ -60,7 +80,7 @@ module _ {D : Type 0} (seen : D → List ℕ) (moment : D → ℕ) (images : D �
     pending_begun = record {
       rests = cut_noted seen moment images faults log f s mounted h begun note party n ready.keeps refl refl (refl, refl) (omega arith, omega arith);
       number = λ x is. number_end mounted h.entries party n ∙ number x is;
-      batch = subst (λ (l : Live). IsBatchOf (base_in log) l.objects l.board.tune p) (sym (cut_live h begun note party n refl)) batch;
+      batch = batch_at_cut (base_in log) h begun note party n p refl batch;
       counted = counts;
       fails = λ is i before end there. let it = before_is i before end there in inl (ready.risen is i before it.0 it.1);
     }

@@ -4,9 +4,12 @@ use Rattle.muck_log.specs.World.{World as Kept}
 use Rattle.muck_log.specs.Store.{Chosen, LogState, after_batch}
 use Rattle.muck_log.specs.Append.{more_of, payload_of}
 use Rattle.muck_model.specs.declared.event.Event.TheVariants.{Stored, DumpFailed}
+use Rattle.muck_codec.specs.declared.stored.Batch.{Batch}
+use Rattle.spec_live.specs.Saving.{done, due_again}
 use Rattle.muck_store.specs.Forms.{persist, world_batch}
+use Rattle.muck_store.proofs.Undue.{persist_resaved}
 use Rattle.spec_events.specs.World.{World, askers_of}
-use Rattle.spec_events.specs.Dumping.{dump_stored, dump_failed}
+use Rattle.spec_events.specs.Dumping.{dump_stored, dump_failed, resaved}
 use Rattle.spec_events.specs.Steps.{effect}
 use Rattle.spec_events.proofs.Quietly.{quiet_told_each}
 use Rattle.spec_dumps.specs.Fronts.{dump_payload, dumped_on, log_of, persisted}
@@ -26,25 +29,29 @@ dumped_is log w = ap (λ p. after_batch log.chosen p (persisted w)) (payload_is 
 
 -- nothing differs that is stored of a world
 pub record SameKept (w v : World) : Type 0 where
-  pub objects : v.live.objects ≡ w.live.objects
+  pub objects : persist v.live.objects ≡ persist w.live.objects
   pub tune : v.live.board.tune ≡ w.live.board.tune
 
 pub same_stored : (w : World) (party n : ℕ) → SameKept w (effect w (by party (Stored n)))
 unfolding effect
-same_stored w party n = let q = (quiet_told_each (askers_of w.dumps) (dump_stored n)).law w.live in record { objects = q.objects; tune = q.tune }
+same_stored w party n =
+    let q = (quiet_told_each (askers_of w.dumps) (dump_stored n)).law (resaved done w.live) in
+    record { objects = ap persist q.objects ∙ persist_resaved done w.live.objects; tune = q.tune }
 
 pub same_failed : (w : World) (party n : ℕ) → SameKept w (effect w (by party (DumpFailed n)))
 unfolding effect
-same_failed w party n = let q = (quiet_told_each (askers_of w.dumps) dump_failed).law w.live in record { objects = q.objects; tune = q.tune }
+same_failed w party n =
+    let q = (quiet_told_each (askers_of w.dumps) dump_failed).law (resaved due_again w.live) in
+    record { objects = ap persist q.objects ∙ persist_resaved due_again w.live.objects; tune = q.tune }
 
 pub same_as : (u w v : World) → SameKept u w → v ≡ w → SameKept u v
 same_as u w v p e = subst (SameKept u) (sym e) p
 
 pub persisted_same : (w v : World) → SameKept w v → persisted v ≡ persisted w
 persisted_same w v p =
-    ap (λ es. let k : Kept = record { objects = persist es; tune = v.live.board.tune } in k) p.objects
+    ap (λ os. let k : Kept = record { objects = os; tune = v.live.board.tune } in k) p.objects
     ∙ ap (λ t. let k : Kept = record { objects = persist w.live.objects; tune = t } in k) p.tune
 
 pub payload_same : (s : Chosen) (w v : World) → SameKept w v → dump_payload s v ≡ dump_payload s w
 payload_same s w v p =
-    ap (λ es. payload_of (log_of s) (world_batch es v.live.board.tune)) p.objects ∙ ap (λ t. payload_of (log_of s) (world_batch w.live.objects t)) p.tune
+    ap (λ os. let b : Batch = record { records = os; tune = v.live.board.tune } in payload_of (log_of s) b) p.objects ∙ ap (λ t. payload_of (log_of s) (world_batch w.live.objects t)) p.tune

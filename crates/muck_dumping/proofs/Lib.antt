@@ -4,6 +4,7 @@ pub mod Appending
 pub mod Records
 pub mod Fitting
 pub mod Mounting
+pub mod Marks
 pub mod Beginning
 pub mod Writing
 pub mod Ending

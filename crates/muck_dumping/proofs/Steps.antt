@@ -4,8 +4,9 @@ use Rattle.std.proofs.lemmas.Bool.{cond-false, eq-eqb, and_from}
 use Rattle.muck_model.specs.declared.event.Event.{Event}
 use Rattle.muck_model.specs.declared.event.Event.TheVariants.{Cut, Stored, DumpFailed, Died}
 use Rattle.muck_model.specs.declared.note.Note.{Note}
-use Rattle.spec_live.specs.Lives.{Live}
+use Rattle.spec_live.specs.Saving.{pending}
 use Rattle.spec_events.specs.World.{World, runs_dump}
+use Rattle.spec_events.specs.Dumping.{resaved}
 use Rattle.spec_events.specs.Steps.{effect, is_lawful, is_died, makes_dumps, may_cut}
 use Rattle.spec_events.specs.Histories.{History, after, now, entered, noted, Longer}
 use Rattle.spec_events.proofs.Living.{dead-happened}
@@ -49,7 +50,7 @@ unfolding effect
 ended_idle h k note party n true is = ap (λ (w : World). w.dumps.running) (now-longer h k (by party (Stored n) ∷ []) (longer_noted h k note (by party (Stored n)) is))
 ended_idle h k note party n false is = ap (λ (w : World). w.dumps.running) (now-longer h k (by party (DumpFailed n) ∷ []) (longer_noted h k note (by party (DumpFailed n)) is))
 
--- The world at its Cut is the one before, as far as it is stored.
+-- The world at its Cut is the one before, in which what was due is pending.
 
 pub now_is : (h : History) → now h ≡ after h.start h.entries
 unfolding now
@@ -62,7 +63,7 @@ at_cut_now h k note party n is =
     ∙ sym (now_is (entered (noted h note) (by party (Cut n))))
     ∙ ap now (sym is)
 
-pub cut_live : (h k : History) (note : Note) (party n : ℕ) → k ≡ entered (noted h note) (by party (Cut n)) → (at_cut k.start k.entries).live ≡ (now h).live
+pub cut_live : (h k : History) (note : Note) (party n : ℕ) → k ≡ entered (noted h note) (by party (Cut n)) → (at_cut k.start k.entries).live ≡ resaved pending (now h).live
 unfolding effect
 cut_live h k note party n is =
     ap (λ (w : World). w.live) (at_cut_now h k note party n is) ∙ ap (λ (w : World). w.live) (now-longer h k (by party (Cut n) ∷ []) (longer_noted h k note (by party (Cut n)) is))

@@ -1,20 +1,26 @@
 // The three parts of a dump.
-ghost use Rattle.std.specs.Prelude.{◌≡◌, ◌⊎◌, ◌≤◌, ℕ, true, false, List, Option, Some, None, IfOk, OnOk, OnErr, IsErrOf, IsSome, Result};
+ghost use Rattle.std.specs.Prelude.{◌≡◌, ◌⊎◌, ◌≤◌, ℕ, true, false, List, All, Option, Some, None, IfOk, OnOk, OnErr, IsErrOf, IsSome, Result};
+ghost use Rattle.muck_codec.specs.inner.Stored.{IsStored};
+ghost use Rattle.muck_db.specs.inner.Limits.{IsWithinLimits};
 ghost use Rattle.muck_io.specs.Faults.{Rose};
 ghost use Rattle.muck_log.specs.File.{after_number};
 ghost use Rattle.muck_log.specs.Store.{LogState, IsMounted};
 ghost use Rattle.muck_log.specs.declared.fault.LogFault.{LogFault as Fault};
 ghost use Rattle.muck_model.specs.declared.event.Event.TheVariants.{Cut, Died};
 ghost use Rattle.muck_model.specs.declared.tune.Tune.{Tune};
+ghost use Rattle.muck_store.specs.inner.Changes.{LeavesOut};
+ghost use Rattle.muck_store.specs.Forms.{persist};
+ghost use Rattle.spec_admin.specs.Parameters.{IsInRange};
+ghost use Rattle.spec_live.specs.Consistent.{IsConsistent};
 ghost use Rattle.spec_live.specs.Objects.{Entry as Object};
 ghost use Rattle.spec_dumps.specs.Fronts.{at_cut, persisted};
 ghost use Rattle.spec_dumps.specs.inner.Holding.{Keeps, Rests};
 ghost use Rattle.spec_dumps.specs.Survival.{IsSafe, StandsWhole};
 ghost use Rattle.spec_events.specs.World.{runs_dump};
-ghost use Rattle.spec_events.specs.Steps.{makes_dumps, may_cut};
+ghost use Rattle.spec_events.specs.Steps.{is_lawful, makes_dumps, may_cut};
 ghost use Rattle.spec_events.specs.Histories.{History, now, after, entered, noted};
 ghost use Rattle.muck_dumping.specs.inner.Dumps.{note_of, by, ending_event};
-ghost use Rattle.muck_dumping.specs.inner.Between.{IsReady, IsBatchOf, IsBatchOfWorld, base_in, IsPending, IsWritten, EndsAs};
+ghost use Rattle.muck_dumping.specs.inner.Between.{IsReady, IsBatchOf, IsBatchAtCut, HoldsThese, GoesByMarks, base_in, IsPending, IsWritten, EndsAs};
 
 use crate::store::Store;
 use muck_codec::Batch;
@@ -32,8 +38,30 @@ pub struct Pending {
     pub batch: Batch,
 }
 
+// The Cut of a dump. It looks at what is due alone, where what isn't is kept by the log and the next batch stands on that; else at each object.
+fn cut(world: &mut World, party: u8, number: u64, store: &Store) -> Result<Batch, NoMemory>
+    requires lawful { is_lawful (now world.old) (by party (Cut number)) ≡ true }
+    requires marks { GoesByMarks store.now.marks store.now.log world.old }
+    ensures records { IfOk result (λ batch. LeavesOut (base_in store.now.log) (persist (now world.old).live.objects) batch.records) }
+    ensures storable { IfOk result (λ batch. All IsStored batch.records) }
+    ensures tune { IfOk result (λ batch. batch.tune ≡ (now world.old).live.board.tune) }
+    ensures consistent { OnOk result (IsConsistent (now world.old).live.objects) }
+    ensures limits { OnOk result (IsWithinLimits (now world.old).live.objects) }
+    ensures tuned { OnOk result (IsInRange (now world.old).live.board.tune) }
+    ensures step { OnOk result (world.new ≡ entered world.old (by party (Cut number))) }
+    ensures died { OnErr result (world.new ≡ entered world.old (by party Died)) }
+{
+    let base = store.base();
+    if store.goes_by_marks() {
+        world.cut(party, number, base)
+    } else {
+        world.cut_full(party, number, base)
+    }
+}
+
 /// A dump begins in the world: a note, and its Cut. The world may go on then, and its batch is to be written, where a log is mounted. It copies what
-/// differs from what the log keeps, all where none is mounted. After `NoMemory` the world is dead.
+/// differs from what the log keeps, all where none is mounted or where the next batch opens a new generation. It looks at what is due alone, where a dump of this
+/// world is stored in the log; else it compares each object. After `NoMemory` the world is dead.
 pub fn begin<D: Disk>(
     world: &mut World,
     party: u8,
@@ -43,9 +71,10 @@ pub fn begin<D: Disk>(
 ) -> Result<Pending, NoMemory>
     requires alive { (now world.old).dead ≡ false }
     requires may { may_cut (now world.old) party ≡ true }
+    requires marks { GoesByMarks store.now.marks store.now.log world.old }
     ensures step { IfOk result (λ p. world.new ≡ entered (noted world.old (note_of D.moment D.faults first.now second.now world.old)) (by party (Cut p.number))) }
     ensures died { OnErr result (world.new ≡ entered (noted world.old (note_of D.moment D.faults first.now second.now world.old)) (by party Died)) }
-    ensures batch { IfOk result (λ p. IsBatchOfWorld (base_in store.now.log) (now world.old) p) }
+    ensures batch { IfOk result (λ p. IsBatchAtCut (base_in store.now.log) world.new p) }
 
     // Then a dump of the world at its Cut is pending.
     ensures pending { (mounted : ℕ) → D.tells ≡ true → IsReady D.seen D.moment D.images D.faults store.now.log first.now second.now mounted world.old
@@ -56,7 +85,7 @@ pub fn begin<D: Disk>(
     let number = store.next();
     let size = world.size();
     world.note(first, second);
-    let Ok(batch) = world.cut(party, number, store.base()) else {
+    let Ok(batch) = cut(world, party, number, store) else {
         return Err(NoMemory);
     };
     Ok(Pending {
@@ -78,6 +107,7 @@ pub fn write<D: Disk>(
     requires mounted { (log : LogState) → D.tells ≡ true → store.old.log ≡ Some log → IsMounted D.seen D.moment D.images log first.old second.old }
     ensures some { OnOk result (IsSome store.new.log) }
     ensures none { OnErr result (store.new.log ≡ None) }
+    ensures marks { (objects : List Object) (tune : Tune) → IsBatchOf (base_in store.old.log) objects tune pending.now → HoldsThese store.new.marks store.new.log objects }
     ensures written { (mounted : ℕ) (h : History) → D.tells ≡ true → IsPending D.seen D.moment D.images D.faults store.old.log first.old second.old mounted h pending.now
         → IsWritten D.seen D.moment D.images D.faults store.new.log first.new second.new mounted h result }
     ensures stale { (mounted : ℕ) (h : History) → D.tells ≡ true → IsPending D.seen D.moment D.images D.faults store.old.log first.old second.old mounted h pending.now

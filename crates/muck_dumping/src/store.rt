@@ -9,11 +9,12 @@ ghost use Rattle.muck_log.specs.World.{tune_fits};
 ghost use Rattle.muck_log.specs.Append.{base_of, payload_of};
 ghost use Rattle.muck_store.specs.inner.Changes.{LeavesOut};
 ghost use Rattle.muck_store.specs.Forms.{persist, world_batch};
+ghost use Rattle.spec_dumps.specs.Fronts.{at_cut};
 ghost use Rattle.spec_dumps.specs.inner.Holding.{Keeps};
 ghost use Rattle.spec_events.specs.Histories.{History};
 ghost use Rattle.spec_live.specs.Objects.{Entry};
 ghost use Rattle.muck_dumping.specs.inner.Dumps.{HasRisen, IsMountingFault, Appended};
-ghost use Rattle.muck_dumping.specs.inner.Between.{IsReady, IsBatchOf, base_in};
+ghost use Rattle.muck_dumping.specs.inner.Between.{IsReady, IsBatchOf, HoldsThese, GoesByMarks, base_in};
 
 use crate::parts::Pending;
 use muck_codec::Stored;
@@ -24,11 +25,13 @@ use std::alloc::Global;
 /// The most bytes of a file of the store.
 pub const FILE_MOST: u64 = 1 << 40;
 
-/// The store of a world: its log, where it is mounted, and the number that the next dump has where it isn't.
+/// The store of a world: its log, where it is mounted; the number that the next dump has where it isn't; and whether dumps go by the marks of
+/// the objects. They do once a dump of this world is stored in the log as it is mounted: what isn't due is then what the log keeps.
 #[derive(Drop)]
 pub struct Store {
     pub log: Option<Log>,
     pub number: u64,
+    pub marks: bool,
 }
 
 // Whether the log keeps no more objects than the world has of which the batch is. No world has fewer than it had, so what keeps more isn't of this
@@ -43,14 +46,16 @@ fn is_of_world(log: &Log, pending: &Pending) -> bool
 }
 
 impl Store {
-    /// The store of a log that was mounted.
+    /// The store of a log that was mounted. It knows nothing yet of how the world differs from what the log keeps.
     pub fn new(log: Log) -> Store
-        ensures { result.log ≡ Some log }
+        ensures log { result.log ≡ Some log }
+        ensures marks { result.marks ≡ false }
     {
         let number = log.next();
         Store {
             log: Some(log),
             number,
+            marks: false,
         }
     }
 
@@ -64,6 +69,7 @@ impl Store {
     ) -> Result<(), LogFault>
         ensures some { OnOk result (IsSome self.new.log) }
         ensures none { OnErr result (self.new.log ≡ None) }
+        ensures marks { (h : History) → GoesByMarks self.old.marks self.old.log h → GoesByMarks self.new.marks self.new.log h }
 
         // Nothing is lost by it. What the disks show is no damaged store; it can't be mounted where a count of faults rose since the last note, or
         // memory is wanted.
@@ -78,6 +84,7 @@ impl Store {
     {
         if self.log.is_none() {
             self.log = Some(Log::mount(alloc, first, second, FILE_MOST)?);
+            self.marks = false;
         }
         Ok(())
     }
@@ -102,12 +109,26 @@ impl Store {
         }
     }
 
+    // Whether the next dump may go by the marks of the objects: a dump of this world is stored in the log, which opens no new generation.
+    pub(crate) fn goes_by_marks(&self) -> bool
+        ensures { (h : History) → GoesByMarks self.now.marks self.now.log h → result ≡ true → base_in self.now.log ≡ persist (at_cut h.start h.entries).live.objects }
+    {
+        let Some(log) = &self.log else {
+            return false;
+        };
+        if log.opens_new() {
+            return false;
+        }
+        self.marks
+    }
+
     // The log has to be mounted again, and the next dump has this number.
     fn close(&mut self, number: u64)
         ensures { self.new.log ≡ None }
     {
         self.number = number;
         self.log = None;
+        self.marks = false;
     }
 
     // Writes the batch of a dump that began, which leaves out what the log keeps. Where that fails the log has to be mounted
@@ -122,6 +143,7 @@ impl Store {
         requires mounted { (log : LogState) → D.tells ≡ true → self.old.log ≡ Some log → IsMounted D.seen D.moment D.images log first.old second.old }
         ensures some { OnOk result (IsSome self.new.log) }
         ensures none { OnErr result (self.new.log ≡ None) }
+        ensures marks { (es : List Entry) (tune : Tune) → IsBatchOf (base_in self.old.log) es tune pending.now → HoldsThese self.new.marks self.new.log es }
         ensures wrote { (log : LogState) (es : List Entry) (tune : Tune) → D.tells ≡ true → self.old.log ≡ Some log → LeavesOut (base_of log) (persist es) pending.now.batch.records → pending.now.batch.tune ≡ tune → pending.now.size ≡ length es
             → tune_fits tune ≡ true → 2 ≤ length es → length log.chosen.held.world.objects ≤ length es
             → Appended D.seen D.moment D.images (payload_of log (world_batch es tune)) (record { objects = persist es; tune = tune }) log self.new.log first.old second.old first.new second.new result }
@@ -139,7 +161,10 @@ impl Store {
             return Err(LogFault::Stale);
         }
         match log.append(first, second, &pending.batch) {
-            Ok(_) => Ok(()),
+            Ok(_) => {
+                self.marks = true;
+                Ok(())
+            }
             Err(fault) => {
                 self.close(number);
                 Err(fault)

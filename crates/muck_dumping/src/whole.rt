@@ -5,7 +5,7 @@ ghost use Rattle.spec_dumps.specs.inner.Holding.{Keeps};
 ghost use Rattle.spec_events.specs.Histories.{now};
 ghost use Rattle.spec_events.specs.Steps.{may_cut};
 ghost use Rattle.muck_dumping.specs.inner.Dumps.{Dumps, HasDumped};
-ghost use Rattle.muck_dumping.specs.inner.Between.{IsReady};
+ghost use Rattle.muck_dumping.specs.inner.Between.{IsReady, GoesByMarks};
 
 use crate::parts::{begin, end, write};
 use crate::store::Store;
@@ -52,8 +52,10 @@ fn dump_mounted<D: Disk>(
     requires alive { (now world.old).dead ≡ false }
     requires may { may_cut (now world.old) party ≡ true }
     requires some { IsSome store.old.log }
+    requires marks { GoesByMarks store.old.marks store.old.log world.old }
     requires mounted { D.tells ≡ true → (mounted : ℕ) × Keeps D.seen D.moment D.images D.faults store.old.log first.old second.old mounted world.old }
     ensures happened { HasDumped party world.old world.new result }
+    ensures marks { OnOk result (GoesByMarks store.new.marks store.new.log world.new) }
     ensures kept { (mounted : ℕ) → D.tells ≡ true → Keeps D.seen D.moment D.images D.faults store.old.log first.old second.old mounted world.old
         → Dumps D.seen D.moment D.images D.faults store.new.log first.new second.new mounted world.new result }
     ensures first_later { D.faults first.old ≤ D.faults first.new }
@@ -94,8 +96,10 @@ pub fn dump<D: Disk>(
 ) -> Result<Option<LogFault>, NoMemory>
     requires alive { (now world.old).dead ≡ false }
     requires may { may_cut (now world.old) party ≡ true }
+    requires marks { GoesByMarks store.old.marks store.old.log world.old }
     requires mounted { D.tells ≡ true → (mounted : ℕ) × Keeps D.seen D.moment D.images D.faults store.old.log first.old second.old mounted world.old }
     ensures happened { HasDumped party world.old world.new result }
+    ensures marks { OnOk result (GoesByMarks store.new.marks store.new.log world.new) }
     ensures kept { (mounted : ℕ) → D.tells ≡ true → Keeps D.seen D.moment D.images D.faults store.old.log first.old second.old mounted world.old
         → Dumps D.seen D.moment D.images D.faults store.new.log first.new second.new mounted world.new result }
     ensures first_later { D.faults first.old ≤ D.faults first.new }

@@ -149,6 +149,10 @@ reads f x p state h k v is alive = is ∙ ap f (state_seen p state h k v (sym (d
 pub holds : (P : World → Type 0) (p : Past) (state : World) (h : History) → Keeps p state → history p ≡ h → P state → (now h).dead ≡ false → P (now h)
 holds P p state h k v is alive = subst P (state_seen p state h k v (sym (dead_seen p state h k v) ∙ alive)) is
 
+-- and what is so of it is so of the state
+pub holds_here : (P : World → Type 0) (p : Past) (state : World) (h : History) → Keeps p state → history p ≡ h → P (now h) → (now h).dead ≡ false → P state
+holds_here P p state h k v is alive = subst P (sym (state_seen p state h k v (sym (dead_seen p state h k v) ∙ alive))) is
+
 -- and of a dead one something fixed
 pub reads_dead : {X : Type 0} (f : World → X) (x : X) (p : Past) (state : World) (h : History) → Keeps p state → history p ≡ h → p.dead ≡ true → x ≡ cond (now h).dead x (f (now h))
 reads_dead f x p state h k v is = sym (cond-true _ _ _ (dead_seen p state h k v ∙ is))

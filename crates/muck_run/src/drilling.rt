@@ -186,6 +186,7 @@ fn play_drill(alloc: Global, count: u64, world: &mut World) -> Result<MemSink, N
     let mut store = Store {
         log: None,
         number: 0,
+        marks: false,
     };
     let mut first = Nowhere { faults: 0 };
     let mut second = Nowhere { faults: 0 };

@@ -8,6 +8,7 @@ ghost use Rattle.spec_events.specs.Histories.{now, Longer};
 ghost use Rattle.muck_log.specs.inner.Mount.{IsMountedAs};
 ghost use Rattle.spec_dumps.specs.Fronts.{file_most};
 ghost use Rattle.spec_dumps.specs.inner.Holding.{Quietly, Rests};
+ghost use Rattle.muck_dumping.specs.inner.Between.{GoesByMarks};
 ghost use Rattle.muck_run.specs.inner.Dumps.{note_of, DumpsLast, IsNotedOn};
 ghost use Rattle.muck_run.specs.inner.Ends.{why_of, MayEnd, MayEndDump, IsScriptWhy, IsBootable, unbegun_at, begun_at, EndsPlay, ComesOutAs, LastKept, HasPlayed, NeverPlayed};
 ghost use Rattle.muck_run.specs.Outcome.{halted, HasRead, HasBegun, EndsAs, IsUnbegun, IsFirstOutside};
@@ -130,6 +131,7 @@ fn last_dump<D: Disk>(
 ) -> Why
     requires alive { (now world.old).dead ≡ false }
     requires idle { (now world.old).dumps.running ≡ None }
+    requires marks { GoesByMarks store.old.marks store.old.log world.old }
     requires mounted { D.tells ≡ true → (mounted : ℕ) × Rests D.seen D.moment D.images D.faults store.old.log first.old second.old mounted world.old }
     ensures plays { (o : Option (List ℕ)) → EndsPlay world.old world.new o result }
     ensures last { DumpsLast world.old world.new }

@@ -13,7 +13,7 @@ use Rattle.spec_dumps.specs.Survival.{IsSafe}
 use Rattle.muck_machine.specs.declared.beginning.Beginning.{Beginning}
 use Rattle.muck_machine.specs.inner.Seats.{Sight, Chair, AllOrderly, Rests, Left, SameLists}
 use Rattle.muck_dumping.specs.inner.Dumps.{by}
-use Rattle.muck_dumping.specs.inner.Between.{IsReady}
+use Rattle.muck_dumping.specs.inner.Between.{IsReady, GoesByMarks}
 use Rattle.muck_dumper.specs.declared.dumping.Why.{Why}
 use Rattle.muck_dumper.specs.declared.dumping.Why.TheVariants.{Fine, NoMemory, Spent}
 
@@ -42,9 +42,9 @@ pub record DumperReady (me : Chair) : Type 0 where
   pub idle : (now (history_seen me.0)).dumps.running ≡ None
 
 -- What the dumper did, by its answer: its items are well formed; and of the history as its seat knows it, with the notes that it made, it has
--- kept all that is said of dumps. It knows which items of what it has seen were others', up to its last turn. Where it was stopped no dump runs, and
+-- kept all that is said of dumps, their marks too. It knows which items of what it has seen were others', up to its last turn. Where it was stopped no dump runs, and
 -- whoever has the world may make the last one.
-pub record DumperDone {D : Type 0} (tells : Bool) (seen : D → List ℕ) (moment : D → ℕ) (images : D → ℕ → List ℕ → Type 0) (faults : D → ℕ) (why : Why) (log log' : Option LogState) (first second first' second' : D) (me me' : Chair) : Type 0 where
+pub record DumperDone {D : Type 0} (tells : Bool) (seen : D → List ℕ) (moment : D → ℕ) (images : D → ℕ → List ℕ → Type 0) (faults : D → ℕ) (why : Why) (log log' : Option LogState) (marks' : Bool) (first second first' second' : D) (me me' : Chair) : Type 0 where
   pub left : Left 9 me'
   pub lists : SameLists me.0 me'.0
   pub sight : StartsWith me'.0.seen me.0.seen
@@ -59,6 +59,7 @@ pub record DumperDone {D : Type 0} (tells : Bool) (seen : D → List ℕ) (momen
       → IsSafe moment images first' second' (history_from me'.0.root known).start mounted (history_from me'.0.root known).entries (history_from me'.0.root known).notes
   pub ready : why ≡ Fine → (mounted : ℕ) → tells ≡ true → IsReady seen moment images faults log first second mounted (history_seen me.0)
       → IsReady seen moment images faults log' first' second' mounted (history_from me'.0.root known)
+  pub marks : why ≡ Fine → GoesByMarks marks' log' (history_from me'.0.root known)
   pub idle : why ≡ Fine → (now (history_from me'.0.root known)).dumps.running ≡ None
   pub first_later : faults first ≤ faults first'
   pub second_later : faults second ≤ faults second'

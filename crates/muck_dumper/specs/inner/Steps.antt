@@ -14,7 +14,7 @@ use Rattle.spec_dumps.specs.Survival.{IsSafe}
 use Rattle.spec_dumps.specs.inner.Holding.{Quietly, Keeps, Rests as HasRests}
 use Rattle.muck_machine.specs.inner.Seats.{Chair, Rests, Left, SameLists}
 use Rattle.muck_dumping.specs.inner.Dumps.{by}
-use Rattle.muck_dumping.specs.inner.Between.{IsReady, IsBatchOfWorld, base_in, IsPending}
+use Rattle.muck_dumping.specs.inner.Between.{IsReady, IsBatchAtCut, base_in, IsPending}
 use Rattle.muck_dumper.specs.declared.deeds.Did.{Did}
 use Rattle.muck_dumper.specs.declared.deeds.Did.TheVariants.{Idled, Began, Over, Failed}
 use Rattle.muck_dumper.specs.declared.holds.Fault.{Fault}
@@ -36,7 +36,7 @@ pub data MadeBy (event : Event) (h k : History) : Type 0 where
 -- what it has kept by that, from the history h to k
 abbrev pub KeptBy : {D : Type 0} → Bool → (D → List ℕ) → (D → ℕ) → (D → ℕ → List ℕ → Type 0) → (D → ℕ) → Option LogState → D → D → Did → History → History → Type 0
 KeptBy tells seen moment images faults log first second (Began p) h k =
-    (runs_dump p.number (now k).dumps ≡ true) × IsBatchOfWorld (base_in log) (now h) p
+    (runs_dump p.number (now k).dumps ≡ true) × IsBatchAtCut (base_in log) k p
     × ((mounted : ℕ) → tells ≡ true → IsReady seen moment images faults log first second mounted h → IsPending seen moment images faults log first second mounted k p)
 KeptBy tells seen moment images faults log first second Failed h k =
     (mounted : ℕ) → tells ≡ true → Keeps seen moment images faults log first second mounted h → IsSafe moment images first second k.start mounted k.entries k.notes

@@ -46,12 +46,26 @@ pub record IsBatchOf (base : List Stored) (objects : List Object) (tune : Tune) 
 abbrev pub IsBatchOfWorld : List Stored → World → Pending → Type 0
 IsBatchOfWorld base w p = IsBatchOf base w.live.objects w.live.board.tune p
 
+-- the same of the world at the last Cut of a history
+abbrev pub IsBatchAtCut : List Stored → History → Pending → Type 0
+IsBatchAtCut base h p = IsBatchOfWorld base (at_cut h.start h.entries) p
+
+-- Dumps by the marks of the objects.
+
+-- where dumps go by marks, a log that is mounted keeps these objects
+abbrev pub HoldsThese : Bool → Option LogState → List Object → Type 0
+HoldsThese marks log objects = marks ≡ true → (x : LogState) → log ≡ Some x → x.chosen.held.world.objects ≡ persist objects
+
+-- those of the world at its last Cut, from which it differs in what is due alone
+abbrev pub GoesByMarks : Bool → Option LogState → History → Type 0
+GoesByMarks marks log h = HoldsThese marks log (at_cut h.start h.entries).live.objects
+
 -- A dump is pending: its Cut is the last one, with the last note; the disks are as they stood then; and its batch is that of the world at
 -- its Cut. Where no log is mounted it is to fail.
 pub record IsPending {D : Type 0} (seen : D → List ℕ) (moment : D → ℕ) (images : D → ℕ → List ℕ → Type 0) (faults : D → ℕ) (log : Option LogState) (first second : D) (mounted : ℕ) (h : History) (p : Pending) : Type 0 where
   pub rests : Rests seen moment images faults log first second mounted h
   pub number : (x : LogState) → log ≡ Some x → number_at mounted h.entries (last_cut h.entries) ≡ after_number x.chosen.held.number
-  pub batch : IsBatchOfWorld (base_in log) (at_cut h.start h.entries) p
+  pub batch : IsBatchAtCut (base_in log) h p
   pub counted : (n : ℕ) (before : Note) → suc (suc n) ≡ length h.notes → slice_get h.notes n ≡ Some before → IsCounted faults first second before
   pub fails : log ≡ None → Fails mounted h (faults first) (faults second)
 

@@ -4,7 +4,7 @@ ghost use Rattle.muck_codec.specs.inner.Stored.{IsStored};
 ghost use Rattle.muck_model.specs.declared.event.Event.{Event};
 ghost use Rattle.spec_live.specs.Consistent.{IsConsistent};
 ghost use Rattle.muck_db.specs.inner.Limits.{IsWithinLimits};
-ghost use Rattle.muck_store.specs.inner.Changes.{LeavesOut};
+ghost use Rattle.muck_store.specs.inner.Changes.{LeavesOut, KeepsUndue};
 ghost use Rattle.muck_store.specs.Forms.{persist};
 ghost use Rattle.spec_admin.specs.Parameters.{IsInRange};
 ghost use Rattle.spec_events.specs.Steps.{is_lawful};
@@ -42,8 +42,24 @@ impl World {
 
     /// A dump of this number begins: what it hands to the log, over what is kept already. The records leave out what is kept so,
     /// and each has a spelling. The world is consistent then, every object within the limits, and what is tuned in its range. It
-    /// compares every object with what is kept, and copies only those that differ. After `NoMemory` the world is dead.
+    /// goes by the marks of the objects, since what isn't due is kept: it looks at what is due alone. After `NoMemory` the world is dead.
     pub fn cut(&mut self, party: u8, k: u64, base: &[Stored]) -> Result<Batch, NoMemory>
+        requires lawful { is_lawful (now self.old) (record { party = party; event = Event.Cut k }) ≡ true }
+        requires kept { KeepsUndue base.now (now self.old).live.objects }
+        ensures records { IfOk result (λ batch. LeavesOut base.now (persist (now self.old).live.objects) batch.records) }
+        ensures storable { IfOk result (λ batch. All IsStored batch.records) }
+        ensures tune { IfOk result (λ batch. batch.tune ≡ (now self.old).live.board.tune) }
+        ensures consistent { OnOk result (IsConsistent (now self.old).live.objects) }
+        ensures limits { OnOk result (IsWithinLimits (now self.old).live.objects) }
+        ensures tuned { OnOk result (IsInRange (now self.old).live.board.tune) }
+        ensures step { OnOk result (self.new ≡ entered self.old (record { party = party; event = Event.Cut k })) }
+        ensures died { OnErr result (self.new ≡ entered self.old (record { party = party; event = Event.Died })) }
+    {
+        self.begin_dump(party, k, base, true)
+    }
+
+    /// The same over whatever is kept: it compares every object with that, and copies only those that differ.
+    pub fn cut_full(&mut self, party: u8, k: u64, base: &[Stored]) -> Result<Batch, NoMemory>
         requires { is_lawful (now self.old) (record { party = party; event = Event.Cut k }) ≡ true }
         ensures records { IfOk result (λ batch. LeavesOut base.now (persist (now self.old).live.objects) batch.records) }
         ensures storable { IfOk result (λ batch. All IsStored batch.records) }
@@ -54,33 +70,48 @@ impl World {
         ensures step { OnOk result (self.new ≡ entered self.old (record { party = party; event = Event.Cut k })) }
         ensures died { OnErr result (self.new ≡ entered self.old (record { party = party; event = Event.Died })) }
     {
-        let Ok(batch) = self.batch(base) else {
-            self.past.lose(party);
-            return Err(NoMemory);
-        };
-        let state = &mut self.state;
-        state.begin_dump(k);
-        self.past.enter(Entry {
-            party,
-            event: Event::Cut { k },
-        });
-        Ok(batch)
+        self.begin_dump(party, k, base, false)
     }
 
-    // The stored form of what of the world isn't kept so. On a dead world nothing is said of it.
-    fn batch(&self, base: &[Stored]) -> Result<Batch, NoMemory>
-        ensures records { (now self.now).dead ≡ false → IfOk result (λ batch. LeavesOut base.now (persist (now self.now).live.objects) batch.records) }
-        ensures storable { IfOk result (λ batch. All IsStored batch.records) }
-        ensures tune { (now self.now).dead ≡ false → IfOk result (λ batch. batch.tune ≡ (now self.now).live.board.tune) }
+    // For contracts alone: a world that isn't dead is consistent, every object is within the limits, and what is tuned in its range.
+    fn judge(&self)
         ensures consistent { (now self.now).dead ≡ false → IsConsistent (now self.now).live.objects }
         ensures limits { (now self.now).dead ≡ false → IsWithinLimits (now self.now).live.objects }
         ensures tuned { (now self.now).dead ≡ false → IsInRange (now self.now).live.board.tune }
     {
         let state = &self.state;
-        // For contracts alone: it says that the world is consistent.
         let _count = state.db.count();
-        let tune = state.board.tune();
-        state.db.cut(state.alloc, base, &tune)
+    }
+
+    // A dump of this number begins, by the marks or by a look at each object.
+    fn begin_dump(
+        &mut self,
+        party: u8,
+        k: u64,
+        base: &[Stored],
+        by_marks: bool,
+    ) -> Result<Batch, NoMemory>
+        requires lawful { is_lawful (now self.old) (record { party = party; event = Event.Cut k }) ≡ true }
+        requires kept { by_marks ≡ true → KeepsUndue base.now (now self.old).live.objects }
+        ensures records { IfOk result (λ batch. LeavesOut base.now (persist (now self.old).live.objects) batch.records) }
+        ensures storable { IfOk result (λ batch. All IsStored batch.records) }
+        ensures tune { IfOk result (λ batch. batch.tune ≡ (now self.old).live.board.tune) }
+        ensures consistent { OnOk result (IsConsistent (now self.old).live.objects) }
+        ensures limits { OnOk result (IsWithinLimits (now self.old).live.objects) }
+        ensures tuned { OnOk result (IsInRange (now self.old).live.board.tune) }
+        ensures step { OnOk result (self.new ≡ entered self.old (record { party = party; event = Event.Cut k })) }
+        ensures died { OnErr result (self.new ≡ entered self.old (record { party = party; event = Event.Died })) }
+    {
+        self.judge();
+        let Ok(batch) = self.state.begin_dump(k, base, by_marks) else {
+            self.past.lose(party);
+            return Err(NoMemory);
+        };
+        self.past.enter(Entry {
+            party,
+            event: Event::Cut { k },
+        });
+        Ok(batch)
     }
 
     /// The dump of this number is stored: who asked for it is told so. After `NoMemory` the world is dead.

@@ -4,6 +4,7 @@ use Rattle.spec_dumps.specs.inner.Holding.{Keeps}
 use Rattle.spec_events.specs.Steps.{is_lawful}
 use Rattle.spec_events.specs.Histories.{History, now}
 use Rattle.muck_dumping.specs.inner.Dumps.{by, note_of}
+use Rattle.muck_dumping.specs.inner.Between.{GoesByMarks}
 use Rattle.muck_dumping.proofs.Beginning.{died_here}
 use Rattle.muck_dumping.proofs.Steps.{cut_runs}
 use Rattle.muck_dumper.specs.inner.Steps.{with_note}
@@ -19,6 +20,9 @@ begin-requires-clause-may g c =
     let same = c.if-idle.ensures.step ∙ c.if-stopped.ensures.step in
     dumper_cuts (now c.idle.new.self) (ap (λ (h : History). (now h).dead) same ∙ sym c.is_dead.ensures.dead ∙ c.if-is_dead.false) (ap (λ (h : History). (now h).dumps.running) same ∙ c.requires.idle)
     (ap (λ (h : History). is_lawful (now h) (by 9 Idle)) c.if-idle.ensures.step ∙ sym c.if-idle.ensures.lawful)
+
+pub begin-requires-clause-marks : goal.begin-requires-clause-marks
+begin-requires-clause-marks g c = subst (λ (h : History). GoesByMarks c.args.store.now.marks c.args.store.now.log h) (sym (c.if-idle.ensures.step ∙ c.if-stopped.ensures.step)) c.requires.marks
 
 pub returns-in-Err-clause-made : goal.returns-in-Err-clause-made
 returns-in-Err-clause-made g c =

@@ -1,8 +1,10 @@
-use Rattle.std.proofs.Common.{Err}
+use Rattle.std.proofs.Common.{sym, subst, Err}
 use Rattle.std.proofs.lemmas.Result.{err_from_is_err_and}
 use Rattle.muck_log.specs.declared.fault.LogFault.TheVariants.{DiskFault}
 use Rattle.spec_events.specs.Own.{Stage}
-use Rattle.muck_dumping.specs.inner.Between.{IsWritten}
+use Rattle.muck_machine.specs.inner.Seats.{Chair}
+use Rattle.muck_dumping.specs.inner.Between.{GoesByMarks, IsWritten}
+use Rattle.muck_dumping.proofs.Ending.{on_ok}
 use Rattle.muck_dumper.specs.inner.Dumping.{history_seen}
 use Rattle.muck_dumper.proofs.Making.{watches_after, stops_after}
 use Rattle.muck_dumper.proofs.holds.fails.Goals as goal
@@ -14,6 +16,11 @@ pub returns-in_err-ends-clause-err : goal.returns-in_err-ends-clause-err
 returns-in_err-ends-clause-err g c = λ r e.
     let p = err_from_is_err_and c.from_residual.result c.from_residual.ensures.1 in
     rw (p.1, p.2) (c.in_err-ends.ensures.err r e)
+
+pub returns-clause-marks : goal.returns-clause-marks
+returns-clause-marks g c = λ goes.
+    on_ok c.mounts.result c.mounts.ensures.same (λ same. subst (λ (x : Chair). GoesByMarks c.mounts.new.store.marks c.mounts.new.store.log (history_seen x.0)) (sym same)
+    (c.mounts.ensures.marks (history_seen c.ends.new.seat.me.0) (c.in_ok-ends.ensures.marks goes)))
 
 pub returns-clause-ok : goal.returns-clause-ok
 returns-clause-ok g c = λ r e.

@@ -1,5 +1,6 @@
 use Rattle.std.proofs.Common.{refl, None, Ok, Err}
 use Rattle.spec_events.specs.Own.{Stage}
+use Rattle.spec_dumps.specs.Fronts.{at_cut}
 use Rattle.spec_dumps.specs.inner.Holding.{Keeps}
 use Rattle.muck_dumping.specs.inner.Between.{IsPending, IsWritten}
 use Rattle.muck_dumping.proofs.AtOnce.{pending_mounted}
@@ -14,6 +15,16 @@ pub write-requires-clause-mounted : goal.write-requires-clause-mounted
 write-requires-clause-mounted g c = λ log tells is.
     let there = c.requires.mounted tells in
     pending_mounted g.D.Disk.seen g.D.Disk.moment g.D.Disk.images g.D.Disk.faults c.args.store.now.log c.args.first.now c.args.second.now there.0 (history_seen c.args.seat.now.me.0) c.args.pending there.1 log is
+
+pub write-requires-clause-batch : goal.write-requires-clause-batch
+write-requires-clause-batch g c =
+    let w = at_cut (history_seen c.args.seat.now.me.0).start (history_seen c.args.seat.now.me.0).entries in (w.live.objects, w.live.board.tune, c.requires.batch)
+
+pub returns-in-Ok-clause-marks : goal.returns-in-Ok-clause-marks
+returns-in-Ok-clause-marks g c = c.ends.ensures.marks (c.write.ensures.marks _ _ c.requires.batch)
+
+pub returns-clause-marks : goal.returns-clause-marks
+returns-clause-marks g c = c.fails.ensures.marks (c.write.ensures.marks _ _ c.requires.batch)
 
 pub returns-in-Ok-clause-ok : goal.returns-in-Ok-clause-ok
 returns-in-Ok-clause-ok g c =

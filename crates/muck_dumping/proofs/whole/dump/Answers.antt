@@ -1,5 +1,7 @@
 use Rattle.std.proofs.Common.{ap, Err}
+use Rattle.spec_dumps.specs.Fronts.{at_cut}
 use Rattle.muck_dumping.specs.inner.Dumps.{Dies}
+use Rattle.muck_dumping.proofs.Marks.{any_ok, unmounted_holds}
 use Rattle.muck_dumping.proofs.Ending.{dumps_dead}
 use Rattle.muck_dumping.proofs.Mounting.{is_disk}
 use Rattle.muck_dumping.proofs.Beginning.{died_here}
@@ -7,6 +9,13 @@ use Rattle.muck_dumping.proofs.whole.dump.Goals as goal
 
 pub dump_mounted-requires-clause-mounted : goal.dump_mounted-requires-clause-mounted
 dump_mounted-requires-clause-mounted g c = λ tells. let there = c.requires.mounted tells in (there.0, c.mount.ensures.keeps there.0 c.args.world.now tells there.1)
+
+pub dump_mounted-requires-clause-marks : goal.dump_mounted-requires-clause-marks
+dump_mounted-requires-clause-marks g c = c.mount.ensures.marks c.args.world.now c.requires.marks
+
+pub returns-in_default-clause-marks : goal.returns-in_default-clause-marks
+returns-in_default-clause-marks g c =
+    any_ok c.dump_unmounted.result (unmounted_holds c.mount.new.self.marks c.mount.new.self.log (at_cut c.dump_unmounted.new.world.start c.dump_unmounted.new.world.entries).live.objects c.in-Err.ensures.none)
 
 pub returns-in-Ok-clause-kept : goal.returns-in-Ok-clause-kept
 returns-in-Ok-clause-kept g c = λ mounted tells v. c.dump_mounted.ensures.kept mounted tells (c.mount.ensures.keeps mounted c.args.world.now tells v)

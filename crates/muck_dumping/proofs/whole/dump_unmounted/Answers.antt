@@ -1,10 +1,15 @@
 use Rattle.std.proofs.Common.{Err}
 use Rattle.muck_log.specs.declared.fault.LogFault.TheVariants.{Stale}
+use Rattle.spec_dumps.specs.Fronts.{at_cut}
 use Rattle.muck_dumping.specs.inner.Dumps.{Dies}
+use Rattle.muck_dumping.proofs.Marks.{unmounted_holds}
 use Rattle.muck_dumping.proofs.Steps.{cut_lives, cut_runs}
 use Rattle.muck_dumping.proofs.AtOnce.{dies_ending, pending_unmounted, disk_unmounted}
 use Rattle.muck_dumping.proofs.Ending.{dumps_unmounted, dumps_dead}
 use Rattle.muck_dumping.proofs.whole.dump_unmounted.Goals as goal
+
+pub begin-requires-clause-marks : goal.begin-requires-clause-marks
+begin-requires-clause-marks g c = unmounted_holds c.args.store.now.marks c.args.store.now.log (at_cut c.args.world.now.start c.args.world.now.entries).live.objects c.requires.unmounted
 
 pub returns-in_default-clause-happened : goal.returns-in_default-clause-happened
 returns-in_default-clause-happened g c = Dies.begun _ c.in_default.ensures.died

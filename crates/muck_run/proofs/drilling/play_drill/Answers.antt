@@ -8,6 +8,9 @@ play-requires-clause-alive c = fresh_alive _ c.requires
 pub play-requires-clause-idle : goal.play-requires-clause-idle
 play-requires-clause-idle c = fresh_idle _ c.requires
 
+pub play-requires-clause-marks : goal.play-requires-clause-marks
+play-requires-clause-marks c = λ on x is. cc
+
 pub play-requires-clause-opened : goal.play-requires-clause-opened
 play-requires-clause-opened c = fresh_opens _ c.requires
 

@@ -2,6 +2,7 @@ use Rattle.std.proofs.Common.{◌≡◌, refl, sym, ◌∙◌, arith, Err, rules
 use Rattle.muck_script.specs.Story.{lines_story}
 use Rattle.spec_dumps.proofs.Quiet.{quiet_one}
 use Rattle.spec_dumps.proofs.Idle.{idle_quiet}
+use Rattle.muck_dumping.proofs.Marks.{goes_quiet}
 use Rattle.muck_run.proofs.Lining.{held_resting, held_quiet}
 use Rattle.muck_run.proofs.Opening.{opens_more}
 use Rattle.muck_run.proofs.Noted.{noted_same, noted_one, noted_then}
@@ -15,6 +16,7 @@ loop-act-init g c = record {
   notes = noted_same _ _ refl;
   fine = refl;
   idle = c.requires.idle;
+  marks = c.requires.marks;
   rests = λ mounted tells r. r;
   first_later = omega arith;
   second_later = omega arith;
@@ -36,6 +38,7 @@ loop-act-preserved g c = record {
   notes = noted_then _ _ _ c.loop-act.invariant.notes c.in_ok-play_line.ensures.notes;
   fine = c.in_ok-play_line.ensures.fine ∙ c.loop-act.invariant.fine;
   idle = c.in_ok-play_line.ensures.idle (λ e. cc);
+  marks = c.in_ok-play_line.ensures.marks (λ e. cc);
   rests = λ mounted tells r. (c.in_ok-play_line.ensures.kept mounted tells (c.loop-act.invariant.rests mounted tells r)).rests (λ e. cc);
   first_later = omega (arith, c.loop-act.invariant.first_later, c.in_ok-play_line.ensures.first_later);
   second_later = omega (arith, c.loop-act.invariant.second_later, c.in_ok-play_line.ensures.second_later);
@@ -73,6 +76,15 @@ returns-then-not-is_stopping-clause-kept g c =
 
 pub returns-then-not-is_stopping-clause-idle : goal.returns-then-not-is_stopping-clause-idle
 returns-then-not-is_stopping-clause-idle g c = λ other. idle_quiet _ _ (quiet_one _ _ _ refl c.halt.ensures) c.loop-act.invariant.idle
+
+pub returns-then-is_stopping-clause-marks : goal.returns-then-is_stopping-clause-marks
+returns-then-is_stopping-clause-marks g c = λ other. c.loop-act.invariant.marks
+
+pub returns-then-not-is_stopping-clause-marks : goal.returns-then-not-is_stopping-clause-marks
+returns-then-not-is_stopping-clause-marks g c = λ other. goes_quiet c.loop-act.store.marks c.loop-act.store.log _ _ (quiet_one _ _ _ refl c.halt.ensures) c.loop-act.invariant.marks
+
+pub returns-else-not-is_stopping-clause-marks : goal.returns-else-not-is_stopping-clause-marks
+returns-else-not-is_stopping-clause-marks g c = λ other. c.loop-act.invariant.marks
 
 pub returns-else-not-is_stopping-clause-kept : goal.returns-else-not-is_stopping-clause-kept
 returns-else-not-is_stopping-clause-kept g c = λ mounted tells r. held_resting _ _ _ _ _ _ _ mounted _ _ (c.loop-act.invariant.rests mounted tells r)

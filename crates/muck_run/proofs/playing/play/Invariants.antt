@@ -2,6 +2,7 @@ use Rattle.std.proofs.Common.{◌≡◌, ℕ, ◌≤◌, true, None, drop}
 use Rattle.spec_dumps.specs.inner.Holding.{Rests}
 use Rattle.spec_events.specs.Histories.{now}
 use Rattle.muck_script.specs.Story.{lines_story}
+use Rattle.muck_dumping.specs.inner.Between.{GoesByMarks}
 use Rattle.muck_run.specs.inner.Dumps.{IsNotedOn}
 use Rattle.muck_run.specs.inner.Opens.{Opens}
 use Rattle.muck_run.proofs.Towards.{Towards}
@@ -14,6 +15,7 @@ invariant-loop-act g l = record {
   notes : IsNotedOn l.fn.world l.world;
   fine : g.K.Sink.faults l.out ≡ g.K.Sink.faults l.fn.out;
   idle : (now l.world).dumps.running ≡ None;
+  marks : GoesByMarks l.store.marks l.store.log l.world;
   rests : (mounted : ℕ) → g.D.Disk.tells ≡ true → Rests g.D.Disk.seen g.D.Disk.moment g.D.Disk.images g.D.Disk.faults l.fn.store.log l.fn.first l.fn.second mounted l.fn.world
       → Rests g.D.Disk.seen g.D.Disk.moment g.D.Disk.images g.D.Disk.faults l.store.log l.first l.second mounted l.world;
   first_later : g.D.Disk.faults l.fn.first ≤ g.D.Disk.faults l.first;

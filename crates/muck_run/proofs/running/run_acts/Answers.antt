@@ -1,6 +1,7 @@
 use Rattle.std.proofs.Common.{inr, refl, ap, Err}
 use Rattle.spec_dumps.proofs.Idle.{idle_quiet}
 use Rattle.spec_dumps.proofs.Quiet.{rests_quiet}
+use Rattle.muck_dumping.proofs.Marks.{unmarked_holds, goes_quiet}
 use Rattle.muck_run.proofs.Called.{dump_may, not_write, either_since}
 use Rattle.muck_run.proofs.Closing.{halted_lives}
 use Rattle.muck_run.proofs.Noted.{noted_then, noted_quiet}
@@ -22,14 +23,24 @@ pub play-requires-clause-opened : goal.play-requires-clause-opened
 play-requires-clause-opened g c = begins_opens 0 c.args.log _ _ c.in-Ok.ensures.world
 
 pub play-requires-clause-mounted : goal.play-requires-clause-mounted
-play-requires-clause-mounted g c = λ tells. (c.args.log.chosen.held.number, rests_started 0 _ _ _ _ _ _ _ (bootable _ c.requires.fine) c.in-Ok.ensures.properties (c.requires.mounted tells) _ _ c.new-store.ensures c.in-Ok.ensures.world)
+play-requires-clause-mounted g c = λ tells. (c.args.log.chosen.held.number, rests_started 0 _ _ _ _ _ _ _ (bootable _ c.requires.fine) c.in-Ok.ensures.properties (c.requires.mounted tells) _ _ c.new-store.ensures.log c.in-Ok.ensures.world)
+
+pub play-requires-clause-marks : goal.play-requires-clause-marks
+play-requires-clause-marks g c = unmarked_holds c.new-store.result.marks c.new-store.result.log _ c.new-store.ensures.marks
+
+pub last_dump-why-requires-clause-marks : goal.last_dump-why-requires-clause-marks
+last_dump-why-requires-clause-marks g c = c.in-Ok-play.ensures.marks (λ e. cc)
+
+pub last_dump-requires-clause-marks : goal.last_dump-requires-clause-marks
+last_dump-requires-clause-marks g c =
+    goes_quiet c.play.new.store.marks c.play.new.store.log _ _ c.stop.ensures.quiet (c.in-Err-WriteFault.ensures.marks (λ e. let is = c.in-Err-WriteFault.field-0-is in cc))
 
 pub last_dump-why-requires-clause-alive : goal.last_dump-why-requires-clause-alive
 last_dump-why-requires-clause-alive g c = c.in-Ok-play.ensures.plays.alive
 
 pub last_dump-why-requires-clause-mounted : goal.last_dump-why-requires-clause-mounted
 last_dump-why-requires-clause-mounted g c = λ tells.
-    let start = rests_started 0 _ _ _ _ _ _ _ (bootable _ c.requires.fine) c.in-Ok.ensures.properties (c.requires.mounted tells) _ _ c.new-store.ensures c.in-Ok.ensures.world in
+    let start = rests_started 0 _ _ _ _ _ _ _ (bootable _ c.requires.fine) c.in-Ok.ensures.properties (c.requires.mounted tells) _ _ c.new-store.ensures.log c.in-Ok.ensures.world in
     (c.args.log.chosen.held.number, (c.in-Ok-play.ensures.kept _ tells start).rests (λ e. cc))
 
 pub returns-in-Ok-play-clause-ends : goal.returns-in-Ok-play-clause-ends
@@ -38,7 +49,7 @@ returns-in-Ok-play-clause-ends g c =
     played _ _ _ _ _ _ _ _ _ c.in-Ok.ensures.world _ _ _ _ _ _ (refl, refl) _ _ _ _ _ c.in-Ok-play.ensures.plays c.in-Ok-play.ensures.fine c.last_dump-why.ensures.why c.last_dump-why.ensures.plays c.last_dump-why.ensures.outcome c.last_dump-why.ensures.last
     (noted_then _ _ _ c.in-Ok-play.ensures.notes c.last_dump-why.ensures.notes)
     (λ tells.
-    let start = rests_started 0 _ _ _ _ _ _ _ (bootable _ c.requires.fine) c.in-Ok.ensures.properties (c.requires.mounted tells) _ _ c.new-store.ensures c.in-Ok.ensures.world in
+    let start = rests_started 0 _ _ _ _ _ _ _ (bootable _ c.requires.fine) c.in-Ok.ensures.properties (c.requires.mounted tells) _ _ c.new-store.ensures.log c.in-Ok.ensures.world in
     c.last_dump-why.ensures.kept _ tells ((c.in-Ok-play.ensures.kept _ tells start).rests (λ e. cc)))
     c.into_tale.ensures.entries c.into_tale.ensures.notes c.into_tale.ensures.lawful
     )
@@ -58,7 +69,7 @@ returns-in-Err-NoMemory-clause-ends g c =
     died _ _ _ _ _ _ _ _ _ c.in-Ok.ensures.world _ _ _ _ _ _ (refl, refl) _ _ _ (broke_by _ _ _ _ _ _ _ c.in-Err-NoMemory.field-0-is c.in-Err-NoMemory.ensures.plays) (c.in-Err-NoMemory.ensures.memory (ap Err c.in-Err-NoMemory.field-0-is))
     c.in-Err-NoMemory.ensures.notes
     (λ tells.
-    let start = rests_started 0 _ _ _ _ _ _ _ (bootable _ c.requires.fine) c.in-Ok.ensures.properties (c.requires.mounted tells) _ _ c.new-store.ensures c.in-Ok.ensures.world in
+    let start = rests_started 0 _ _ _ _ _ _ _ (bootable _ c.requires.fine) c.in-Ok.ensures.properties (c.requires.mounted tells) _ _ c.new-store.ensures.log c.in-Ok.ensures.world in
     (c.in-Err-NoMemory.ensures.kept _ tells start).safe)
     c.into_tale-in-Err-NoMemory.ensures.entries c.into_tale-in-Err-NoMemory.ensures.notes c.into_tale-in-Err-NoMemory.ensures.lawful
     )
@@ -75,7 +86,7 @@ last_dump-requires-clause-idle g c = idle_quiet _ _ c.stop.ensures.quiet (c.in-E
 
 pub last_dump-requires-clause-mounted : goal.last_dump-requires-clause-mounted
 last_dump-requires-clause-mounted g c = λ tells.
-    let start = rests_started 0 _ _ _ _ _ _ _ (bootable _ c.requires.fine) c.in-Ok.ensures.properties (c.requires.mounted tells) _ _ c.new-store.ensures c.in-Ok.ensures.world in
+    let start = rests_started 0 _ _ _ _ _ _ _ (bootable _ c.requires.fine) c.in-Ok.ensures.properties (c.requires.mounted tells) _ _ c.new-store.ensures.log c.in-Ok.ensures.world in
     (c.args.log.chosen.held.number, rests_quiet _ _ _ _ _ _ _ _ _ _ c.stop.ensures.quiet ((c.in-Err-WriteFault.ensures.kept _ tells start).rests (λ e. let is = c.in-Err-WriteFault.field-0-is in cc)))
 
 pub returns-clause-ends : goal.returns-clause-ends
@@ -85,7 +96,7 @@ returns-clause-ends g c =
     c.stop.ensures.halts c.last_dump.ensures.last
     (noted_then _ _ _ c.in-Err-WriteFault.ensures.notes (noted_then _ _ _ (noted_quiet _ _ c.stop.ensures.quiet) c.last_dump.ensures.notes))
     (λ tells.
-    let start = rests_started 0 _ _ _ _ _ _ _ (bootable _ c.requires.fine) c.in-Ok.ensures.properties (c.requires.mounted tells) _ _ c.new-store.ensures c.in-Ok.ensures.world in
+    let start = rests_started 0 _ _ _ _ _ _ _ (bootable _ c.requires.fine) c.in-Ok.ensures.properties (c.requires.mounted tells) _ _ c.new-store.ensures.log c.in-Ok.ensures.world in
     (c.last_dump.ensures.kept _ tells (rests_quiet _ _ _ _ _ _ _ _ _ _ c.stop.ensures.quiet ((c.in-Err-WriteFault.ensures.kept _ tells start).rests (λ e. let is = c.in-Err-WriteFault.field-0-is in cc)))).safe)
     c.into_tale-in-Err-WriteFault.ensures.entries c.into_tale-in-Err-WriteFault.ensures.notes c.into_tale-in-Err-WriteFault.ensures.lawful
     )

@@ -1,4 +1,4 @@
-use Rattle.std.proofs.Common.{◌≡◌, ◌<◌, ◌≤◌, ℕ, List, length, Some, Ok, Err, refl, ap, subst, arith}
+use Rattle.std.proofs.Common.{◌≡◌, ◌<◌, ◌≤◌, ℕ, true, List, length, Some, Ok, Err, refl, ap, subst, arith}
 use Rattle.muck_log.specs.World.{World}
 use Rattle.muck_log.specs.Store.{LogState}
 use Rattle.muck_log.specs.Append.{base_of, payload_of}
@@ -8,6 +8,7 @@ use Rattle.muck_store.specs.Forms.{persist, world_batch}
 use Rattle.muck_dumping.specs.inner.Dumps.{Appended}
 use Rattle.muck_dumping.proofs.Appending.{appended_ok, appended_err}
 use Rattle.muck_dumping.proofs.Fitting.{makes_world, has_few, has_lines}
+use Rattle.muck_dumping.proofs.Marks.{unmounted_holds, appended_holds}
 use Rattle.muck_dumping.proofs.Mounting.{one_log}
 use Rattle.muck_dumping.proofs.store.Store.append.Goals as goal
 
@@ -39,6 +40,21 @@ returns-then-not-is_of_world-clause-wrote g c = λ log es tune tells is left tun
     let n : ℕ = length c.in-Some.log.chosen.held.world.objects in
     let same : n ≡ length log.chosen.held.world.objects = ap (λ (l : LogState). length l.chosen.held.world.objects) (one_log c.args.self.now.log c.in-Some.log log c.in-Some.is is) in
     absurd (too_many n c.args.pending.now.size (length es) count (c.is_of_world.ensures.more c.if-not-is_of_world.true) (omega (arith, same, covers)))
+
+-- it goes by marks where the batch was written
+
+pub returns-in_default-clause-marks : goal.returns-in_default-clause-marks
+returns-in_default-clause-marks g c = λ es tune b. unmounted_holds c.args.self.now.marks c.args.self.now.log es (c.in_default.is)
+
+pub returns-then-not-is_of_world-clause-marks : goal.returns-then-not-is_of_world-clause-marks
+returns-then-not-is_of_world-clause-marks g c = λ es tune b. unmounted_holds c.close.new.self.marks c.close.new.self.log es c.close.ensures
+
+pub returns-in-Ok-clause-marks : goal.returns-in-Ok-clause-marks
+returns-in-Ok-clause-marks g c = λ es tune b.
+    appended_holds true c.args.self.now.log c.in-Some.log c.append.new.self c.args.pending.now es tune c.in-Some.is b (c.is_of_world.ensures.covers c.if-not-is_of_world.false) (c.in-Ok.ensures.whole tt es tune) c.in-Ok.ensures.chosen
+
+pub returns-in-Err-clause-marks : goal.returns-in-Err-clause-marks
+returns-in-Err-clause-marks g c = λ es tune b. unmounted_holds c.close-in-Err.new.self.marks c.close-in-Err.new.self.log es c.close-in-Err.ensures
 
 -- it was asked
 

@@ -3,6 +3,9 @@ use Rattle.spec_dumps.specs.Fronts.{file_most}
 use Rattle.muck_dumping.proofs.Mounting.{no_log, risen, stays_none, stands_again, mounting_fault}
 use Rattle.muck_dumping.proofs.store.Store.mount.Goals as goal
 
+pub returns-in_ok-mount-clause-marks : goal.returns-in_ok-mount-clause-marks
+returns-in_ok-mount-clause-marks g c = λ h goes. λ on x is. cc
+
 pub returns-in_err-mount-clause-keeps : goal.returns-in_err-mount-clause-keeps
 returns-in_err-mount-clause-keeps g c = λ mounted h tells r.
     stays_none g.D.Disk.seen g.D.Disk.moment g.D.Disk.images g.D.Disk.faults mounted c.args.self.now.log (no_log c.args.self.now.log (c.is_none.ensures ∙ ap not c.if-is_none.true)) _ _ _ _ h r
