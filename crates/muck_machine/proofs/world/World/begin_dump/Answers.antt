@@ -12,7 +12,7 @@ begin_dump-requires c = λ on.
     holds_here P c.self.inside.past _ _ c.self.invariant c.self.view_is (c.requires.kept on) (alive_now (now c.args.self.now) _ c.requires.lawful refl)
 
 pub invariant_of-self : goal.invariant_of-self
-invariant_of-self c = rw c.lose.ensures (keeps_lost c.self.inside.past c.args.party c.self.inside.state c.begin_dump.new.state c.self.invariant)
+invariant_of-self c = rw c.lose.ensures (keeps_lost c.self.inside.past c.args.party c.self.inside.state c.begin_dump.new.self c.self.invariant)
 
 pub invariant_of-self-2 : goal.invariant_of-self-2
 invariant_of-self-2 c =
