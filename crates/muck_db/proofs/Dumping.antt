@@ -1,11 +1,11 @@
 -- The change marks at the moments of a dump, and what a dump may leave out.
-use Rattle.std.proofs.Common.{◌≡◌, ℕ, List, refl, sym, ◌∙◌, ap, subst, map, Bool, true, false, not}
+use Rattle.std.proofs.Common.{◌≡◌, ℕ, ◌<◌, List, refl, sym, ◌∙◌, ap, subst, map, length, Bool, true, false, not}
 use Rattle.std.proofs.lemmas.Bool.{false≢true}
 use Rattle.std.specs.List.{slice_get}
 use Rattle.spec_live.specs.declared.saving.Saving.{Saving}
 use Rattle.spec_live.specs.Objects.{Entry}
 use Rattle.spec_live.specs.Consistent.{IsConsistent}
-use Rattle.spec_live.specs.Saving.{is_due, on_saving, all_saving}
+use Rattle.spec_live.specs.Saving.{is_due, saving_in, on_saving, all_saving}
 use Rattle.spec_live.proofs.Savings.{length_resaved, object_resaved, list_resaved, mark_resaved, kind_resaved}
 use Rattle.spec_live.proofs.Ties.{consistent_seen}
 use Rattle.muck_codec.specs.declared.stored.Stored.{Stored}

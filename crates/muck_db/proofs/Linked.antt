@@ -4,7 +4,7 @@ use Rattle.std.proofs.lemmas.Bool.{cases_eq, ne_eqb, eq-eqb}
 use Rattle.std.specs.Option.{option_and_then}
 use Rattle.spec_live.specs.declared.saving.Saving.TheVariants.{Due}
 use Rattle.spec_live.specs.Chain.{IsChain, Ends, Member, IsApart, follower, without, put_at}
-use Rattle.spec_live.specs.Objects.{changed_at, is_exit, kind_in, place_in, list_in}
+use Rattle.spec_live.specs.Objects.{Entry, changed_at, is_exit, kind_in, place_in, list_in}
 use Rattle.spec_live.specs.Saving.{front, next_in, links_in}
 use Rattle.spec_live.proofs.Chains.{chain_frame, chain_below, chain_apart, chain_without_first, chain_without, without_same}
 use Rattle.spec_live.proofs.Lists.{same_place, put_same, put_other, length_changed}

@@ -178,14 +178,14 @@ fn is_passed(extent: Extent, slots: &Vec<Slot>, k: u32) -> bool
 }
 
 // Whether a number is left out: it isn't looked at, or its object is kept so. It is compared in place with what is kept, which takes no memory.
-fn is_left_out(extent: Extent, base: &[Stored], slots: &Vec<Slot>, k: u32, blank: &Object) -> bool
+fn is_left_out(extent: Extent, base: &[Stored], slots: &Vec<Slot>, k: u32, object: &Object) -> bool
     requires order { HasOrder slots.now.items }
     requires known { k < length slots.now.items }
-    requires blank { blank.now ≡ garbage }
+    requires object { object_in (entries_of slots.now.items) k ≡ Some object.now }
     requires may { MayLook extent base.now (entries_of slots.now.items) }
     ensures { result ≡ true → slice_get base.now k ≡ stored_at (entries_of slots.now.items) k }
 {
-    is_passed(extent, slots, k) || is_kept(base, slots, k, object_at(slots, k, blank))
+    is_passed(extent, slots, k) || is_kept(base, slots, k, object)
 }
 
 // What is stored of each object that is looked at and isn't kept so; only what differs is copied. It passes over all slots, and reads the change mark
@@ -206,8 +206,8 @@ pub fn records_of(
     let n = slots.len() as u32;
     let mut records = Row::new(alloc)?;
     for k in 0..n {
-        if !is_left_out(extent, base, slots, k, &blank) {
-            let object = object_at(slots, k, &blank);
+        let object = object_at(slots, k, &blank);
+        if !is_left_out(extent, base, slots, k, object) {
             records.push(record_of(alloc, slots, k, object)?)?;
         }
     }

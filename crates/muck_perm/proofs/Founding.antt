@@ -1,7 +1,7 @@
 -- What making an object, and then setting a field of it, makes of the world of a guard.
-use Rattle.std.proofs.Common.{◌≡◌, ℕ, Bool, true, false, cond, ◌||◌, ◌&&◌, Option, Some, None, Result, Ok, Err, refl, sym, ◌∙◌, ap, subst, List}
+use Rattle.std.proofs.Common.{◌≡◌, ℕ, Bool, true, false, cond, eqb, not, ◌||◌, ◌&&◌, Option, Some, None, Result, Ok, Err, refl, sym, ◌∙◌, ap, subst, List}
 use Rattle.muck_db.proofs.Showing.{alive_number}
-use Rattle.std.proofs.lemmas.Bool.{false≢true}
+use Rattle.std.proofs.lemmas.Bool.{false≢true, eq-eqb}
 use Rattle.std.specs.Prelude.{nat_lt}
 use Rattle.std.specs.List.{slice_get, slice_set}
 use Rattle.std.specs.Option.{option_map_or, option_and_then}
@@ -11,11 +11,16 @@ use Rattle.muck_model.specs.declared.dbref.Kind.TheVariants.{Thing, Exit, Progra
 use Rattle.spec_live.specs.declared.object.Object.{Object}
 use Rattle.spec_live.specs.declared.fault.DbFault.{DbFault}
 use Rattle.spec_live.specs.declared.fault.DbFault.TheVariants.{NoSuchObject, WrongKind}
-use Rattle.spec_live.specs.Objects.{Entry, dbref_of, nothing, home, same, is_exit, is_player, is_program, is_garbage, kind_in, object_in, number_in, object_at, changed_at}
-use Rattle.spec_live.specs.Moving.{Does}
+use Rattle.spec_live.specs.Objects.{Entry, dbref_of, nothing, home, same, is_exit, is_player, is_program, is_garbage, kind_in, object_in, number_in, object_at, changed_at, on_object, with_object}
+use Rattle.spec_live.specs.declared.saving.Saving.{Saving}
+use Rattle.spec_live.specs.declared.saving.Saving.TheVariants.{Due}
+use Rattle.spec_live.specs.Saving.{saving_in, links_in, same_links}
+use Rattle.spec_live.specs.Moving.{Does, set_down, moved}
 use Rattle.spec_live.specs.Making.{grown, new_object, created, create_check, Creates}
 use Rattle.spec_live.specs.Setting.{checked, checked_both, has_link, may_link, may_live, link_check, home_check, level_check, set_at, with_link, with_home, with_level}
 use Rattle.spec_live.proofs.Readers.{kind_is, kind_moved}
+use Rattle.spec_live.proofs.Savings.{saving_relinked}
+use Rattle.spec_live.proofs.Dues.{saving_down}
 use Rattle.spec_live.proofs.Checks.{IsThere, number_there}
 use Rattle.spec_live.proofs.CreationLaws.{may_create, Begins, begins, grown_kind, named_kind, other_kind}
 use Rattle.muck_db.proofs.Writes.{set_back}
@@ -135,13 +140,28 @@ founds_refused kind name owner place change g es fault c = by_cases (create_chec
     by_cases (Ok p) c = (c.0, ap (λ z. with_objects z g) c.1)
     by_cases (Err other) c = (c.0, ap (λ z. with_objects z g) c.1)
 
-set_same : (n : ℕ) (es : List Entry) → set_at (λ o. o) n es ≡ es
-unfolding changed_at
-set_same n es = by_cases (slice_get es n) refl
+-- what is due already stays as it is where its object is set to what it is
+same_due : (x : Entry) → x.saving ≡ Due → on_object (λ o. o) x ≡ x
+same_due x s = ap (λ (z : Saving). record x { saving = z }) (sym s)
+
+set_same : (n : ℕ) (es : List Entry) → saving_in es n ≡ Due → set_at (λ o. o) n es ≡ es
+unfolding changed_at saving_in
+set_same n es due = by_cases (slice_get es n) refl due
   where
-    by_cases : (q : Option Entry) → slice_get es n ≡ q → option_map_or (λ e. slice_set es n e) q es ≡ es
-    by_cases None e = refl
-    by_cases (Some x) e = set_back es n x e
+    by_cases : (q : Option Entry) → slice_get es n ≡ q → option_map_or (λ (e : Entry). e.saving) q Due ≡ Due → option_map_or (λ e. slice_set es n (on_object (λ o. o) e)) q es ≡ es
+    by_cases None e s = refl
+    by_cases (Some x) e s = ap (λ z. slice_set es n z) (same_due x s) ∙ set_back es n x e
+
+created_due : (n : ℕ) (kind : Kind) (name : List ℕ) (owner : Dbref) (to : ℕ) (es : List Entry) → saving_in (created n kind name owner to es) n ≡ Due
+unfolding created moved
+created_due n kind name owner to es =
+    let made : List Entry = changed_at n (with_object (new_object n kind name owner)) (grown n es) in
+    let down : saving_in (set_down n to made) n ≡ Due = saving_down made n to n ∙ ap (λ b. cond (b || eqb n to) Due (saving_in made n)) (eq-eqb n n refl) in
+    saving_relinked made (set_down n to made) n ∙ by_cases (not (same_links (links_in made n) (links_in (set_down n to made) n))) (saving_in (set_down n to made) n) down
+  where
+    by_cases : (b : Bool) (s : Saving) → s ≡ Due → cond b Due s ≡ Due
+    by_cases true s e = refl
+    by_cases false s e = e
 
 pub founds_plain : (kind : Kind) (name : List ℕ) (owner place : Dbref) (g : Guard) (es : List Entry) (result : Result Dbref DbFault)
     → Creates (create_check kind owner place (objects_of g)) kind name owner (objects_of g) es result
@@ -150,7 +170,7 @@ unfolding created_so
 founds_plain kind name owner place g es (Ok d) c = by_cases (create_check kind owner place (objects_of g)) c
   where
     by_cases : (check : Result (ℕ × ℕ) DbFault) → Creates check kind name owner (objects_of g) es (Ok d) → Founds check (λ n to. created_so n kind name owner to (λ o. o)) g (with_objects es g) (Ok d)
-    by_cases (Ok p) c = (c.0, written g es _ (c.1 ∙ sym (set_same p.0 (created p.0 kind name owner p.1 (objects_of g)))))
+    by_cases (Ok p) c = (c.0, written g es _ (c.1 ∙ sym (set_same p.0 (created p.0 kind name owner p.1 (objects_of g)) (created_due p.0 kind name owner p.1 (objects_of g)))))
     by_cases (Err other) c = absurd c
 founds_plain kind name owner place g es (Err fault) c = founds_refused kind name owner place _ g es fault c
 

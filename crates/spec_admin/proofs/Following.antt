@@ -1,5 +1,6 @@
 -- What follows a line of a keeper.
 use Rattle.std.proofs.Common.{◌≡◌, ℕ, Bool, true, false, List, refl, Option, Some, None}
+use Rattle.muck_model.specs.declared.dbref.Dbref.{Dbref}
 use Rattle.muck_model.specs.declared.tune.Tune.{Tune}
 use Rattle.spec_live.specs.Lives.{Live, Change, reading, either}
 use Rattle.spec_live.proofs.Keeping.{keeps_either}

@@ -1,9 +1,10 @@
 -- What a line of a keeper does is open to who types it.
 use Rattle.std.proofs.Common.{◌≡◌, ℕ, true, List, refl, subst, Option, Some, None}
 use Rattle.muck_model.specs.declared.dbref.Dbref.{Dbref}
+use Rattle.muck_model.specs.declared.dbref.Denial.{Denial}
 use Rattle.muck_model.specs.declared.tune.Tune.{Tune}
 use Rattle.spec_live.specs.Objects.{Entry, dbref_of}
-use Rattle.spec_live.specs.Lives.{Live, ◌▸◌, draw, tell, unchanged}
+use Rattle.spec_live.specs.Lives.{Live, Change, ◌▸◌, draw, tell, unchanged}
 use Rattle.spec_live.proofs.Keeping.{keeps_followed, keeps_reading, keeps_either, keeps_where}
 use Rattle.spec_rights.specs.declared.act.Actor.{Actor}
 use Rattle.spec_rights.specs.declared.act.Act.TheVariants.{Wizard, Password}
@@ -11,7 +12,7 @@ use Rattle.spec_rights.specs.Verdict.{is_master}
 use Rattle.spec_rights.specs.Asking.{refused}
 use Rattle.spec_rights.specs.Changing.{booted}
 use Rattle.spec_rights.specs.Licence.{Freedom, Judge, nobody}
-use Rattle.spec_rights.proofs.Licences.{Quiet, Stays, Ends, Whole, Always, itself, judge, quiet_order, stays_behind, ends_quiet, ends_stays, ends_quietly, ends_asked, keeps_asked}
+use Rattle.spec_rights.proofs.Licences.{Quiet, Stays, Ends, Whole, Always, itself, judge, quiet_order, stays_behind, ends_quiet, ends_stays, ends_quietly, ends_asked, whole_quiet, keeps_asked}
 use Rattle.spec_rights.proofs.Shown.{shown, quiet_tell, quiet_draw, quiet_refused}
 use Rattle.spec_rights.proofs.Changes.{stays_password}
 use Rattle.spec_rights.proofs.Leaving.{stays_booted}
