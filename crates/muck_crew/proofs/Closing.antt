@@ -224,7 +224,7 @@ module _ (m : Note) (world : History) (f : IsFresh m world) (v : Chair) (begins 
       fresh = ap (λ (c : Chair). c.0.own) is;
       idle = ap (λ (h : History). (now h).dumps.running) (seen_history) ∙ now_idle;
     };
-    goes = subst (λ (h : History). GoesByMarks marks log h) (sym seen_history) goes;
+    marks = subst (λ (h : History). GoesByMarks marks log h) (sym seen_history) goes;
     mounted = λ x. let y = mounts x in (y.0, subst (λ (h : History). HasLog seen moment images faults log a b y.0 h) (sym seen_history) y.1);
   }
     where
