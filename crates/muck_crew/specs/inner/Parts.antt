@@ -11,9 +11,9 @@ use Rattle.muck_machine.specs.inner.Seats.{Sight, Chair}
 use Rattle.muck_crew.specs.declared.seats.Part.{Part}
 
 -- The seat of the dumper may begin, with the store and the disks.
-pub record IsAble {D : Type 0} (tells : Bool) (seen : D → List ℕ) (moment : D → ℕ) (images : D → ℕ → List ℕ → Type 0) (faults : D → ℕ) (log : Option LogState) (marks : Bool) (first second : D) (me : Chair) : Type 0 where
+pub record IsAble {D : Type 0} (tells : Bool) (seen : D → List ℕ) (moment : D → ℕ) (images : D → ℕ → List ℕ → Type 0) (faults : D → ℕ) (log : Option LogState) (by_marks : Bool) (first second : D) (me : Chair) : Type 0 where
   pub ready : DumperReady me
-  pub marks : GoesByMarks marks log (history_seen me.0)
+  pub marks : GoesByMarks by_marks log (history_seen me.0)
   pub mounted : tells ≡ true → (mounted : ℕ) × HasLog seen moment images faults log first second mounted (history_seen me.0)
 
 -- Seats as they are given out.
