@@ -6,7 +6,7 @@ use Rattle.muck_dumping.proofs.Marks.{unmarked_holds}
 use Rattle.muck_crew.proofs.whole.serve_links.Goals as goal
 
 pub run-requires-clause-marks : goal.run-requires-clause-marks
-run-requires-clause-marks g c κs = unmarked_holds c.new-store.result.marks c.new-store.result.log (at_cut c.args.world.start c.args.world.entries).live.objects c.new-store.ensures.marks
+run-requires-clause-marks g c κs within = unmarked_holds c.new-store.result.marks c.new-store.result.log (at_cut c.args.world.start c.args.world.entries).live.objects c.new-store.ensures.marks
 
 pub finish-why-requires-clause-marks : goal.finish-why-requires-clause-marks
 finish-why-requires-clause-marks g c = c.in-Ok.ensures.marks
