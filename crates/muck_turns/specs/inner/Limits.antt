@@ -2,7 +2,7 @@
 use Rattle.std.specs.Prelude.{◌≡◌, ◌⊎◌, ℕ, suc, ◌<◌, ◌≤◌, ℤ, Bool, true, false, Option, Some, None}
 use Rattle.muck_model.specs.declared.tune.Tune.{Tune}
 use Rattle.muf_model.specs.Source.{Source}
-use Rattle.muf_model.specs.Unit.{Outcome, goes, asks, units}
+use Rattle.muf_model.specs.Unit.{Outcome, asks, units}
 use Rattle.muf_model.specs.Chains.{taken}
 use Rattle.spec_events.specs.declared.starting.Agent.{Agent}
 use Rattle.spec_events.specs.World.{World}

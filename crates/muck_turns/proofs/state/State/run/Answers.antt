@@ -1,4 +1,4 @@
-use Rattle.std.proofs.Common.{◌+◌, true, false, Some, arith, sym, ap, ◌∙◌}
+use Rattle.std.proofs.Common.{◌+◌, Some, arith, sym, ap, ◌∙◌}
 use Rattle.std.proofs.lemmas.Int.{to_z-of_z}
 use Rattle.muck_queue.specs.Queues.{standing}
 use Rattle.spec_events.specs.inner.Stints.{many_counted}
