@@ -125,7 +125,7 @@ fn perform(
         PlayWord::Get => done(take(guard, d, &typed_of(alloc, word, rest)?, first.object)),
         PlayWord::Drop => done(drop(guard, d, &typed_of(alloc, word, rest)?, first.object)),
         PlayWord::Inventory => done(inventory(guard, d)),
-        PlayWord::Home => done(go_home(guard, d)),
+        PlayWord::Home => done(go_home(guard, d, &typed_of(alloc, word, rest)?)),
         PlayWord::Examine => done(examine(guard, d, first.object)),
         PlayWord::Who => done(who(guard, d)),
         PlayWord::Quit => {

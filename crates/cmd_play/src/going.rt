@@ -14,7 +14,7 @@ ghost use Rattle.cmd_common.specs.inner.Plays.{Plays};
 
 use crate::looking::look;
 use crate::messages::{message_or, message_to_others, show_both};
-use crate::typed::{exit_typed, word_typed};
+use crate::typed::exit_typed;
 use cmd_common::{cant_be_done, is_program, show_others};
 use muck_match::{ExitHit, HOME, NOTHING, exit_for};
 use muck_model::{Dbref, Line, NoMemory};
@@ -125,16 +125,15 @@ fn walk_home(guard: &mut Guard, d: u32, typed: &Typed, home: Dbref) -> Result<()
 
 /// The player walks home, which others see, and looks; or the world refuses it.
 #[tactic(auto, unfolding(spec_commands::specs::Going::gone_home, spec_commands::specs::Going::gone, spec_commands::specs::Finding::where_so, spec_live::specs::Lives::reading, spec_live::specs::Lives::either))]
-pub fn go_home(guard: &mut Guard, d: u32) -> Result<(), NoMemory>
-    ensures { Did (gone_home d guard.old.actor) guard.old guard.new result }
+pub fn go_home(guard: &mut Guard, d: u32, typed: &Typed) -> Result<(), NoMemory>
+    ensures { Did (gone_home d guard.old.actor typed.now) guard.old guard.new result }
 {
     let player = guard.actor().player;
     let home = home_at(guard, player);
     if !movable(guard, player, home) {
         return cant_be_done(guard, d);
     }
-    let typed = word_typed(guard.alloc(), b"home")?;
-    walk_home(guard, d, &typed, home)
+    walk_home(guard, d, typed, home)
 }
 
 // The player goes through an exit, where the world allows it.

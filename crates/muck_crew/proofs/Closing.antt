@@ -11,7 +11,6 @@ use Rattle.turn_lock.specs.declared.view.Taken.{Taken}
 use Rattle.turn_lock.specs.declared.view.Place.TheVariants.{Idle}
 use Rattle.turn_lock.specs.inner.Turns.{kept_of, left_after, newcomer}
 use Rattle.turn_lock.proofs.Parts.{has_more}
-use Rattle.muck_log.specs.Store.{LogState}
 use Rattle.muck_model.specs.declared.event.Entry.{Entry}
 use Rattle.muck_model.specs.declared.event.Event.{Event}
 use Rattle.muck_model.specs.declared.event.Event.TheVariants.{Died}
@@ -28,7 +27,8 @@ use Rattle.muck_machine.specs.declared.beginning.Beginning.{Beginning}
 use Rattle.muck_machine.specs.inner.Beginnings.{beginning, begun}
 use Rattle.muck_machine.specs.inner.Seats.{Sight, Chair, Rests, AllOrderly}
 use Rattle.muck_machine.proofs.Seating.{begun_settled}
-use Rattle.muck_dumping.specs.inner.Between.{IsReady as HasLog, GoesByMarks}
+use Rattle.muck_dumping.specs.declared.store.Store.{Store}
+use Rattle.muck_dumping.specs.inner.Between.{IsReady as HasLog, Knows}
 use Rattle.muck_dumper.specs.inner.Dumping.{history_from, history_seen}
 use Rattle.muck_porter.specs.inner.Porter.{PorterReady}
 use Rattle.muck_crew.specs.declared.seats.Part.{Part}
@@ -172,7 +172,7 @@ fresh_history m world f =
     ap (λ (b : Beginning). history_from (b ∷ []) []) (fresh_begun m world f)
     ∙ sym (ap (λ (es : List Entry). record world { entries = es }) f.entries
     ∙ ap (λ (ns : List Note). record world { entries = []; notes = ns }) f.notes
-    ∙ ap (λ (o : Option (ℕ × List Rattle.spec_events.specs.declared.logged.Count.Count)). let k : History = record { start = world.start; entries = []; notes = m ∷ []; counted = o } in k) f.counted)
+    ∙ ap (λ (o : Option Rattle.muck_model.specs.declared.note.Counted.Counted). let k : History = record { start = world.start; entries = []; notes = m ∷ []; counted = o } in k) f.counted)
 
 none_orderly : (ls : List Logged) → ls ≡ [] → AllOrderly ls
 none_orderly ls none i l at = absurd (some-ne-none l (sym (sym (ap (λ (xs : List Logged). get_elem? xs i) none) ∙ at)))
@@ -215,17 +215,17 @@ module _ (m : Note) (world : History) (f : IsFresh m world) (v : Chair) (begins 
           world_or [] d = d
           world_or (z ∷ zs) d = z.world
 
-  pub ready_dumper : {D : Type 0} (tells : Bool) (seen : D → List ℕ) (moment : D → ℕ) (images : D → ℕ → List ℕ → Type 0) (faults : D → ℕ) (log : Option LogState) (marks : Bool) (a b : D) (me : Chair)
-      → me ≡ (newcomer 9 (given_to n v.0), []) → GoesByMarks marks log world → (tells ≡ true → (mounted : ℕ) × HasLog seen moment images faults log a b mounted world) → IsAble tells seen moment images faults log marks a b me
+  pub ready_dumper : {D : Type 0} (tells : Bool) (seen : D → List ℕ) (moment : D → ℕ) (images : D → ℕ → List ℕ → Type 0) (faults : D → ℕ) (store : Store) (a b : D) (me : Chair)
+      → me ≡ (newcomer 9 (given_to n v.0), []) → Knows store world → (tells ≡ true → (mounted : ℕ) × HasLog seen moment images faults store.log a b mounted world) → IsAble tells seen moment images faults store a b me
   unfolding now
-  ready_dumper tells seen moment images faults log marks a b me is goes mounts = record {
+  ready_dumper tells seen moment images faults store a b me is knows mounts = record {
     ready = record {
       rests = rests_new 9 m world me f (ap (λ (c : Chair). c.1) is) (ap (λ (c : Chair). c.0.place) is) (ap (λ (c : Chair). c.0.party) is) (ap (λ (c : Chair). c.0.seen) is ∙ given_seen) (ap (λ (c : Chair). c.0.own) is) root;
       fresh = ap (λ (c : Chair). c.0.own) is;
       idle = ap (λ (h : History). (now h).dumps.running) (seen_history) ∙ now_idle;
     };
-    marks = subst (λ (h : History). GoesByMarks marks log h) (sym seen_history) goes;
-    mounted = λ x. let y = mounts x in (y.0, subst (λ (h : History). HasLog seen moment images faults log a b y.0 h) (sym seen_history) y.1);
+    knows = subst (λ (h : History). Knows store h) (sym seen_history) knows;
+    mounted = λ x. let y = mounts x in (y.0, subst (λ (h : History). HasLog seen moment images faults store.log a b y.0 h) (sym seen_history) y.1);
   }
     where
       root : me.0.root ≡ beginning world ∷ []

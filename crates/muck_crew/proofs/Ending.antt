@@ -10,29 +10,32 @@ use Rattle.turn_lock.specs.declared.view.Taken.{Taken}
 use Rattle.turn_lock.specs.declared.view.Place.{Place}
 use Rattle.turn_lock.specs.declared.view.Place.TheVariants.{Idle, Told}
 use Rattle.turn_lock.specs.inner.Turns.{kept_of, left_after, newcomer, taken_in}
-use Rattle.muck_log.specs.Store.{LogState}
 use Rattle.muck_model.specs.declared.event.Entry.{Entry}
 use Rattle.muck_model.specs.declared.event.Event.{Event}
 use Rattle.muck_model.specs.declared.event.Event.TheVariants.{StopSeen, Died}
 use Rattle.muck_model.specs.declared.note.Note.{Note}
+use Rattle.muck_model.specs.declared.note.Counted.{Counted}
 use Rattle.spec_dumps.specs.inner.Holding.{Quietly}
 use Rattle.spec_dumps.proofs.Quiet.{safe_quiet, keeps_quiet}
 use Rattle.spec_dumps.proofs.Idle.{idle_quiet}
 use Rattle.spec_events.specs.declared.logged.Logged.{Logged}
 use Rattle.spec_events.specs.World.{World}
 use Rattle.spec_events.specs.Histories.{History, now, after, AllLawful, by_porter}
-use Rattle.spec_events.specs.Logged.{logged, logged_by, entries_of, events_of, notes_of, IsSettled, IsPlaced, IsOrderly, bare_item}
-use Rattle.spec_events.specs.Own.{IsWellFormed}
+use Rattle.spec_events.specs.Logged.{logged, logged_by, entries_of, events_of, notes_of, count_from, IsSettled, IsPlaced, IsOrderly, bare_item}
+use Rattle.spec_events.specs.Own.{IsWellFormed, IsOver}
+use Rattle.spec_events.proofs.Owning.{over_stop, over_died}
 use Rattle.spec_events.proofs.Logging.{entries_logged, entries_append, events_append, notes_append, rebuilt}
 use Rattle.spec_talks.specs.Talks.{talks}
+use Rattle.spec_serve.specs.Marks.{LinksNote, counts_in, IsLinksNote}
 use Rattle.spec_serve.specs.Promises.{PromisedOf, OpenWorkedOff}
 use Rattle.muck_machine.specs.declared.beginning.Beginning.{Beginning}
 use Rattle.muck_machine.specs.inner.Beginnings.{beginning, begun}
 use Rattle.muck_machine.specs.inner.Seats.{Sight, Chair, AllOrderly, SameLists}
 use Rattle.muck_machine.proofs.Seating.{settled_begun, others_none, others_quiet, orderly_back}
-use Rattle.muck_dumping.specs.inner.Between.{IsReady as HasLog, GoesByMarks}
-use Rattle.muck_dumping.proofs.Marks.{goes_quiet}
+use Rattle.muck_dumping.specs.declared.store.Store.{Store}
+use Rattle.muck_dumping.specs.inner.Between.{IsReady as HasLog, Knows}
 use Rattle.muck_dumper.specs.inner.Dumping.{history_from, history_seen, DumperDone}
+use Rattle.muck_dumping.proofs.Knowing.{knows_quiet}
 use Rattle.muck_dumper.specs.declared.dumping.Why.{Why as DumperWhy}
 use Rattle.muck_dumper.specs.declared.dumping.Why.TheVariants as dumper
 use Rattle.muck_worker.specs.inner.Working.{WorkerDone}
@@ -40,14 +43,14 @@ use Rattle.muck_worker.specs.declared.working.Why.TheVariants as worker
 use Rattle.muck_porter.specs.inner.Notes.{note_in}
 use Rattle.muck_porter.specs.inner.Kept.{Account}
 use Rattle.muck_porter.specs.Times.{Timely}
-use Rattle.muck_porter.proofs.Whole.{kept_whole, timed_whole}
+use Rattle.muck_porter.proofs.Whole.{note_whole, kept_whole, timed_whole, noted_whole}
 use Rattle.muck_porter.specs.inner.Porter.{PorterDone, HasStopped as PorterStopped}
 use Rattle.muck_porter.specs.declared.porting.Why.{Why as PorterWhy}
 use Rattle.muck_porter.specs.declared.porting.Why.TheVariants as porter
 use Rattle.muck_crew.specs.declared.seats.Part.{Part}
 use Rattle.muck_crew.specs.declared.serving.Way.{Way}
 use Rattle.muck_crew.specs.declared.serving.Way.TheVariants.{Wanted, Spent}
-use Rattle.muck_crew.specs.Shared.{IsParty, done_by, EndsStopped, LeavesWorkedOff}
+use Rattle.muck_crew.specs.Shared.{IsParty, done_by, IsThrough, AllOver, EndsStopped, LeavesWorkedOff}
 use Rattle.muck_crew.specs.inner.Parts.{given_to, AreDealt, AreOver, all_in, AreDone}
 use Rattle.muck_crew.specs.inner.Runs.{IsFresh, SomeWorker, AllFine, IsEndOf, HasStopped, HasRun}
 use Rattle.muck_crew.proofs.Seating.{given_low, given_count}
@@ -66,6 +69,9 @@ pub record Shut (v : Sight) (h : History) : Type 0 where
 -- what a party did, whose items these are
 pub formed_of : (p : ℕ) (h : History) (own : List Logged) → own ≡ own_of logged_by p (logged h) → IsWellFormed p (events_of own) → IsWellFormed p (done_by p h.entries)
 formed_of p h own is formed = subst (IsWellFormed p) (ap events_of is ∙ sym (done_own p h)) formed
+
+pub over_of : (p : ℕ) (h : History) (own : List Logged) → own ≡ own_of logged_by p (logged h) → IsOver p (events_of own) → IsOver p (done_by p h.entries)
+over_of p h own is over = subst (IsOver p) (ap events_of is ∙ sym (done_own p h)) over
 
 pub stopped_of : (p : ℕ) (h : History) (own front : List Logged) (l : Logged) → own ≡ own_of logged_by p (logged h) → own ≡ front ++ l ∷ [] → l.entry.event ≡ StopSeen → EndsStopped p h.entries
 stopped_of p h own front l is ends stop =
@@ -86,11 +92,27 @@ spent_of h seen front most =
     count [] = refl
     count (l ∷ ls) = ap suc (count ls)
 
+-- What the dumper did last.
+
+dumper_cases : (why : DumperWhy) → (why ≡ dumper.Fine) ⊎ ((why ≡ dumper.NoMemory) ⊎ (why ≡ dumper.Spent))
+dumper_cases dumper.Fine = inl refl
+dumper_cases dumper.NoMemory = inr (inl refl)
+dumper_cases dumper.Spent = inr (inr refl)
+
+over_behind : (p : ℕ) (own front : List Logged) (l : Logged) (event : Event) → own ≡ front ++ l ∷ [] → l.entry.event ≡ event → IsWellFormed p (events_of own)
+    → (IsWellFormed p (events_of front ++ event ∷ []) → IsOver p (events_of front ++ event ∷ [])) → IsOver p (events_of own)
+over_behind p own front l event is last formed over =
+    let same : events_of own ≡ events_of front ++ event ∷ [] = ap events_of is ∙ events_append front (l ∷ []) ∙ ap (λ (x : Event). events_of front ++ x ∷ []) last in
+    subst (IsOver p) (sym same) (over (subst (IsWellFormed p) same formed))
+
+too_many : {n : ℕ} → n < 2 ^ 62 → 2 ^ 62 ≤ n → ⊥
+too_many few many = omega (arith, few, many)
+
 module _ {D : Type 0} (tells : Bool) (seen : D → List ℕ) (moment : D → ℕ) (images : D → ℕ → List ℕ → Type 0) (faults : D → ℕ) (shows : Bool) (b k : Account) (workers : ℕ) (way : Way) (pw : PorterWhy) (dw : DumperWhy)
-    (log log' : Option LogState) (marks' : Bool) (f s f' s' : D) (world h : History) (m : Note) (fresh : IsFresh m world) (few : workers < 9)
+    (store store' : Store) (f s f' s' : D) (world h : History) (m : Note) (fresh : IsFresh m world) (few : workers < 9)
     (parts parts' : List Part) (table : TableId) (v0 s2 sp o o' e : Chair) (begins : Begins v0 world)
     (e2 : s2 ≡ (left_after 9 (given_to workers v0.0), v0.1)) (eo : o ≡ (newcomer 9 (given_to workers v0.0), [])) (dealt : AreDealt table workers v0.0 parts)
-    (pd : PorterDone pw shows b k s2 sp) (dd : DumperDone tells seen moment images faults dw log log' marks' f s f' s' o o') (wd : AreDone parts parts')
+    (pd : PorterDone pw shows b k s2 sp) (dd : DumperDone tells seen moment images faults dw store store' f s f' s' o o') (wd : AreDone parts parts')
     (ended : IsEndOf way pw dw parts') (ee : e ≡ (all_in parts' (taken_in sp.0 o'.0), sp.1)) (shut : Shut e.0 h) (placed : IsPlaced h) (lawful : AllLawful h.start h.entries) where
   -- the first seat
   same : SameButJoined e.0 sp.0
@@ -183,6 +205,25 @@ module _ {D : Type 0} (tells : Bool) (seen : D → List ℕ) (moment : D → ℕ
   owns (suc i) (inl low) = let p' = part_of i low in let one = worked i p'.0 p'.1 in formed_of (suc i) h p'.0.seat.me.0.own one.own one.done.formed
   owns (suc i) (inr nine) = subst (λ (p : ℕ). IsWellFormed p (done_by p h.entries)) (sym nine) (formed_of 9 h o'.0.own own9 dd.formed)
 
+  over9 : length h.entries < 2 ^ 62 → IsOver 9 (events_of o'.0.own)
+  over9 few = elim (dumper_cases dw) [
+    | inl fine ↦ (let q = dd.fine fine in over_behind 9 o'.0.own q.0 q.1 StopSeen q.2 (ap (λ (x : Entry). x.event) q.3) dd.formed (over_stop 9 (events_of q.0)))
+    | inr rest ↦ elim rest [
+      | inl dead ↦ (let q = dd.dead dead in over_behind 9 o'.0.own q.0 q.1 Died q.2 (ap (λ (x : Entry). x.event) q.3) dd.formed (over_died 9 (events_of q.0)))
+      | inr spent ↦ absurd (too_many few (spent_of h o'.0.seen seen9 (dd.spent spent)))
+    ]
+  ]
+
+  -- but where all turns were had, what each of them did is over
+  overs : length h.entries < 2 ^ 62 → AllOver workers h.entries
+  overs few zero is = inr (over_of 0 h sp.0.own own0 (pd.ended (λ e. too_many few (spent_of h sp.0.seen seen0 (pd.spent e)))))
+  overs few (suc i) (inl low) =
+      let p' = part_of i low in
+      let one = worked i p'.0 p'.1 in
+      inr (over_of (suc i) h p'.0.seat.me.0.own one.own (one.done.over (λ e. too_many few (spent_of h p'.0.seat.me.0.seen one.saw (one.done.spent e)))))
+  overs few (suc i) (inr nine) =
+      subst (λ (p : ℕ). IsThrough p h.entries) (sym nine) (inr (over_of 9 h o'.0.own own9 (over9 few)))
+
   -- who has seen the stop
   record AllStopped : Type 0 where
     pub porter_too : PorterStopped pw
@@ -255,27 +296,41 @@ module _ {D : Type 0} (tells : Bool) (seen : D → List ℕ) (moment : D → ℕ
       ∙ ap (history_from (beginning world ∷ [])) (ap (λ (c : Chair). c.0.seen) eo ∙ ap (λ (u : Sight). u.seen) (given_same workers v0.0) ∙ begins.unseen)
       ∙ fresh_history m world fresh
 
-  began : (mounted : ℕ) → HasLog seen moment images faults log f s mounted world → HasLog seen moment images faults log f s mounted (history_seen o.0)
-  began mounted x = subst (λ (y : History). HasLog seen moment images faults log f s mounted y) (sym seen_world) x
+  began : (mounted : ℕ) → HasLog seen moment images faults store.log f s mounted world → HasLog seen moment images faults store.log f s mounted (history_seen o.0)
+  began mounted x = subst (λ (y : History). HasLog seen moment images faults store.log f s mounted y) (sym seen_world) x
 
-  pub goes : HasStopped way → GoesByMarks marks' log' h
-  goes stop = goes_quiet marks' log' (history_from o'.0.root dd.known) h quiet9 (dd.marks (all_stopped stop).dumper_too)
+  pub stands : HasStopped way → Knows store' h
+  stands stop = knows_quiet store' (history_from o'.0.root dd.known) h quiet9 (dd.stands (all_stopped stop).dumper_too)
+
+  -- The note of the links.
+
+  counted0 : h.counted ≡ count_from 0 (logged h)
+  counted0 = sym (ap (λ (x : History). x.counted) (rebuilt m h settled0 placed))
+
+  noted0 : note_in sp.0.own ≡ counts_in h.counted
+  noted0 = ap note_in own0 ∙ sym (note_whole (logged h) shut.allowed) ∙ ap counts_in (sym counted0)
+
+  links_note : IsLinksNote h.counted h.start h.entries
+  links_note =
+      subst (λ (c : Option Counted). IsLinksNote c h.start h.entries) (sym counted0)
+      (subst (λ (es : List Entry). IsLinksNote (count_from 0 (logged h)) h.start es) (entries_logged h) (noted_whole b.answers k.answers sp.0 h.start m (logged h) root9 seen0 own0 shut.allowed pd.timed))
 
   -- What the links carried.
 
   lawful_logged : AllLawful h.start (entries_of (logged h))
   lawful_logged = subst (AllLawful h.start) (sym (entries_logged h)) lawful
 
-  promise : shows ≡ true → PromisedOf (note_in sp.0.own) b.links h.start h.entries k.links
+  promise : shows ≡ true → PromisedOf (counts_in h.counted) b.links h.start h.entries k.links
   promise x =
-      subst (λ (es : List Entry). PromisedOf (note_in sp.0.own) b.links h.start es k.links) (entries_logged h)
-      (kept_whole b.links sp.0 k.links h.start m (logged h) root9 seen0 own0 lawful_logged (pd.kept x))
+      subst (λ (c : LinksNote). PromisedOf c b.links h.start h.entries k.links) noted0
+      (subst (λ (es : List Entry). PromisedOf (note_in sp.0.own) b.links h.start es k.links) (entries_logged h)
+      (kept_whole b.links sp.0 k.links h.start m (logged h) root9 seen0 own0 lawful_logged (pd.kept x)))
 
   by_clock : Timely b.answers k.answers h.start h.entries
   by_clock = subst (Timely b.answers k.answers h.start) (entries_logged h) (timed_whole b.answers k.answers sp.0 h.start m (logged h) root9 seen0 own0 lawful_logged pd.timed)
 
-  off : shows ≡ true → HasStopped way → LeavesWorkedOff (note_in sp.0.own) h.start h.entries k.links
-  off x stop =
+  off_own : shows ≡ true → HasStopped way → LeavesWorkedOff (note_in sp.0.own) h.start h.entries k.links
+  off_own x stop =
       let q = pd.stopped (all_stopped stop).porter_too x in
       let seen_is : entries_of sp.0.seen ≡ entries_of q.before ++ by_porter StopSeen ∷ [] = ap entries_of q.seen ∙ entries_append q.before (q.last ∷ []) ∙ ap (λ (y : Entry). entries_of q.before ++ y ∷ []) q.entry in (
         entries_of q.before,
@@ -284,7 +339,11 @@ module _ {D : Type 0} (tells : Bool) (seen : D → List ℕ) (moment : D → ℕ
         subst (λ (es : List Entry). OpenWorkedOff (note_in sp.0.own) (after h.start (entries_of q.before)) (talks h.start es) k.links) seen_is (q.worked h.start m root9),
       )
 
-  pub has_run : HasRun tells seen moment images faults shows b k workers way log log' f s f' s' world h
+  off : shows ≡ true → HasStopped way → LeavesWorkedOff (counts_in h.counted) h.start h.entries k.links
+  off x stop =
+      subst (λ (c : LinksNote). LeavesWorkedOff c h.start h.entries k.links) noted0 (off_own x stop)
+
+  pub has_run : HasRun tells seen moment images faults shows b k workers way store.log store'.log f s f' s' world h
   has_run = record {
     start = start0;
     since = notes_of (logged h);
@@ -292,7 +351,8 @@ module _ {D : Type 0} (tells : Bool) (seen : D → List ℕ) (moment : D → ℕ
     placed = placed;
     lawful = lawful;
     shared = record { known = parties; own = owns };
-    counted = note_in sp.0.own;
+    over = overs;
+    marked = links_note;
     promised = promise;
     ports = pd.ports;
     timely = by_clock;
@@ -303,8 +363,8 @@ module _ {D : Type 0} (tells : Bool) (seen : D → List ℕ) (moment : D → ℕ
     dead = dead_by;
     alone = λ is. let x = subst (λ (y : Way). IsEndOf y pw dw parts') is ended in last9 x.0;
     spent = spent_by;
-    safe = λ mounted x log_is. safe_quiet moment images f' s' mounted (history_from o'.0.root dd.known) h quiet9 (dd.safe mounted x (began mounted log_is));
-    ready = λ stop mounted x log_is. keeps_quiet seen moment images faults log' f' s' mounted (history_from o'.0.root dd.known) h quiet9 (dd.ready (all_stopped stop).dumper_too mounted x (began mounted log_is)).keeps;
+    safe = λ mounted x log_is. safe_quiet moment images faults f' s' mounted (history_from o'.0.root dd.known) h quiet9 (dd.safe mounted x (began mounted log_is));
+    ready = λ stop mounted x log_is. keeps_quiet seen moment images faults store'.log f' s' mounted (history_from o'.0.root dd.known) h quiet9 (dd.ready (all_stopped stop).dumper_too mounted x (began mounted log_is)).keeps;
     idle = λ stop. idle_quiet (history_from o'.0.root dd.known) h quiet9 (dd.idle (all_stopped stop).dumper_too);
     first_later = dd.first_later;
     second_later = dd.second_later;

@@ -5,7 +5,7 @@ use Rattle.muck_model.specs.declared.event.Event.{Event}
 use Rattle.muck_model.specs.declared.event.Event.TheVariants.{StopSeen}
 use Rattle.spec_events.specs.World.{World}
 use Rattle.spec_events.specs.Histories.{after, by_porter}
-use Rattle.spec_events.specs.Own.{IsWellFormed}
+use Rattle.spec_events.specs.Own.{IsWellFormed, IsOver}
 use Rattle.spec_talks.specs.Parties.{own_entries}
 use Rattle.spec_talks.specs.Talks.{talks}
 use Rattle.spec_serve.specs.Marks.{LinksNote}
@@ -23,6 +23,13 @@ done_by party tale = map (λ (e : Entry). e.event) (own_entries party tale)
 pub record IsShared (workers : ℕ) (tale : List Entry) : Type 0 where
   pub known : (i : ℕ) (e : Entry) → slice_get tale i ≡ Some e → IsParty workers e.party
   pub own : (party : ℕ) → IsParty workers party → IsWellFormed party (done_by party tale)
+
+-- what a party did is over, where it did anything: no claim of it is left open, and no dump
+abbrev pub IsThrough : ℕ → List Entry → Type 0
+IsThrough party tale = (done_by party tale ≡ []) ⊎ IsOver party (done_by party tale)
+
+abbrev pub AllOver : ℕ → List Entry → Type 0
+AllOver workers tale = (party : ℕ) → IsParty workers party → IsThrough party tale
 
 -- what a party did ends with the stop, which it saw
 abbrev pub EndsStopped : ℕ → List Entry → Type 0

@@ -9,7 +9,7 @@ use crate::seats::{Part, Parts};
 use muck_disk::Disk;
 use muck_dumper::{Why as DumperWhy, dumper};
 use muck_dumping::Store;
-use muck_io::{Clock, Gate, Rest, YieldRest};
+use muck_io::{Clock, Gate, Rest};
 use muck_links::Links;
 use muck_machine::World;
 use muck_porter::{Why as PorterWhy, porter};
@@ -71,17 +71,18 @@ fn dump_beside<W: Threads + Wait + Sync, D: Disk + Send, G: Gate + Sync, R: Rest
     rest: &R,
 ) -> DumperWhy
     requires own { seat.old.table_id ≡ turn.now.table.shared.table_id }
-    requires dumper { IsAble D.tells D.seen D.moment D.images D.faults store.old.log store.old.marks first.old second.old seat.old.me }
+    requires dumper { IsAble D.tells D.seen D.moment D.images D.faults store.old first.old second.old seat.old.me }
     requires workers { All (λ p. IsReady turn.now.table.shared.table_id p) parts.old.all.items }
     ensures own { (seat.new.table_id ≡ seat.old.table_id) × (seat.new.id ≡ seat.old.id) }
-    ensures dumper { DumperDone D.tells D.seen D.moment D.images D.faults result store.old.log store.new.log store.new.marks first.old second.old first.new second.new seat.old.me seat.new.me }
+    ensures dumper { DumperDone D.tells D.seen D.moment D.images D.faults result store.old store.new first.old second.old first.new second.new seat.old.me seat.new.me }
     ensures workers { AreDone parts.old.all.items parts.new.all.items }
+    ensures attached { (D.attached first.new ≡ D.attached first.old) × (D.attached second.new ≡ D.attached second.old) }
 {
     let (why, ()) = join_mut(
         rt,
         &mut ||
-            requires { (seat.now.table_id ≡ turn.now.table.shared.table_id) × IsAble D.tells D.seen D.moment D.images D.faults store.now.log store.now.marks first.now second.now seat.now.me }
-            ensures { (seat.exit.now.table_id ≡ seat.entry.now.table_id) × (seat.exit.now.id ≡ seat.entry.now.id) × DumperDone D.tells D.seen D.moment D.images D.faults result store.entry.now.log store.exit.now.log store.exit.now.marks first.entry.now second.entry.now first.exit.now second.exit.now seat.entry.now.me seat.exit.now.me }
+            requires { (seat.now.table_id ≡ turn.now.table.shared.table_id) × IsAble D.tells D.seen D.moment D.images D.faults store.now first.now second.now seat.now.me }
+            ensures { (seat.exit.now.table_id ≡ seat.entry.now.table_id) × (seat.exit.now.id ≡ seat.entry.now.id) × DumperDone D.tells D.seen D.moment D.images D.faults result store.entry.now store.exit.now first.entry.now second.entry.now first.exit.now second.exit.now seat.entry.now.me seat.exit.now.me × (D.attached first.exit.now ≡ D.attached first.entry.now) × (D.attached second.exit.now ≡ D.attached second.entry.now) }
         { dumper(rt, alloc, turn, seat, store, first, second, gate, rest) },
         &mut ||
             requires { All (λ p. IsReady turn.now.table.shared.table_id p) parts.now.all.items }
@@ -116,23 +117,24 @@ pub fn all_beside<
 ) -> (PorterWhy, DumperWhy)
     requires own { (seat.old.table_id ≡ turn.now.table.shared.table_id) × (other.old.table_id ≡ turn.now.table.shared.table_id) }
     requires porter { PorterReady seat.old.me }
-    requires dumper { IsAble D.tells D.seen D.moment D.images D.faults store.old.log store.old.marks first.old second.old other.old.me }
+    requires dumper { IsAble D.tells D.seen D.moment D.images D.faults store.old first.old second.old other.old.me }
     requires workers { All (λ p. IsReady turn.now.table.shared.table_id p) parts.old.all.items }
     ensures own { (seat.new.table_id ≡ seat.old.table_id) × (seat.new.id ≡ seat.old.id) × (other.new.table_id ≡ other.old.table_id) }
     ensures tells { L.tells links.new ≡ L.tells links.old }
     ensures porter { PorterDone result.0 (L.tells links.old) (account (L.told links.old) (L.listening links.old) (C.answers clock.old)) (account (L.told links.new) (L.listening links.new) (C.answers clock.new)) seat.old.me seat.new.me }
-    ensures dumper { DumperDone D.tells D.seen D.moment D.images D.faults result.1 store.old.log store.new.log store.new.marks first.old second.old first.new second.new other.old.me other.new.me }
+    ensures dumper { DumperDone D.tells D.seen D.moment D.images D.faults result.1 store.old store.new first.old second.old first.new second.new other.old.me other.new.me }
     ensures workers { AreDone parts.old.all.items parts.new.all.items }
+    ensures attached { (D.attached first.new ≡ D.attached first.old) × (D.attached second.new ≡ D.attached second.old) }
 {
     join_mut(
         rt,
         &mut ||
             requires { (seat.now.table_id ≡ turn.now.table.shared.table_id) × PorterReady seat.now.me }
             ensures { (seat.exit.now.table_id ≡ seat.entry.now.table_id) × (seat.exit.now.id ≡ seat.entry.now.id) × (L.tells links.exit.now ≡ L.tells links.entry.now) × PorterDone result (L.tells links.entry.now) (account (L.told links.entry.now) (L.listening links.entry.now) (C.answers clock.entry.now)) (account (L.told links.exit.now) (L.listening links.exit.now) (C.answers clock.exit.now)) seat.entry.now.me seat.exit.now.me }
-        { porter(rt, alloc, turn, seat, links, clock, gate, &YieldRest) },
+        { porter(rt, alloc, turn, seat, links, clock, gate, rest) },
         &mut ||
-            requires { (other.now.table_id ≡ turn.now.table.shared.table_id) × IsAble D.tells D.seen D.moment D.images D.faults store.now.log store.now.marks first.now second.now other.now.me × All (λ p. IsReady turn.now.table.shared.table_id p) parts.now.all.items }
-            ensures { (other.exit.now.table_id ≡ other.entry.now.table_id) × (other.exit.now.id ≡ other.entry.now.id) × DumperDone D.tells D.seen D.moment D.images D.faults result store.entry.now.log store.exit.now.log store.exit.now.marks first.entry.now second.entry.now first.exit.now second.exit.now other.entry.now.me other.exit.now.me × AreDone parts.entry.now.all.items parts.exit.now.all.items }
+            requires { (other.now.table_id ≡ turn.now.table.shared.table_id) × IsAble D.tells D.seen D.moment D.images D.faults store.now first.now second.now other.now.me × All (λ p. IsReady turn.now.table.shared.table_id p) parts.now.all.items }
+            ensures { (other.exit.now.table_id ≡ other.entry.now.table_id) × (other.exit.now.id ≡ other.entry.now.id) × DumperDone D.tells D.seen D.moment D.images D.faults result store.entry.now store.exit.now first.entry.now second.entry.now first.exit.now second.exit.now other.entry.now.me other.exit.now.me × AreDone parts.entry.now.all.items parts.exit.now.all.items × (D.attached first.exit.now ≡ D.attached first.entry.now) × (D.attached second.exit.now ≡ D.attached second.entry.now) }
         {
             dump_beside(
                 rt, alloc, turn, other, parts, store, first, second, gate, rest,

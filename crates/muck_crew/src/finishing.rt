@@ -2,7 +2,7 @@
 ghost use Rattle.std.specs.Prelude.{◌≡◌, ℕ, true, false, None};
 ghost use Rattle.spec_dumps.specs.inner.Holding.{Keeps};
 ghost use Rattle.spec_events.specs.Histories.{now};
-ghost use Rattle.muck_dumping.specs.inner.Between.{GoesByMarks};
+ghost use Rattle.muck_dumping.specs.inner.Between.{Knows};
 ghost use Rattle.muck_crew.specs.inner.Runs.{HasStopped};
 ghost use Rattle.muck_crew.specs.inner.Finished.{why_of, why_by, HasDump, IsFinish};
 
@@ -10,6 +10,7 @@ use crate::serving::Way;
 use crate::why::Why;
 use muck_disk::Disk;
 use muck_dumping::{Store, dump};
+use muck_io::{Gate, place};
 use muck_log::LogFault;
 use muck_machine::World;
 use muck_model::NoMemory;
@@ -49,45 +50,52 @@ fn why_by(deaf: bool, answer: Result<Option<LogFault>, NoMemory>) -> Why
     }
 }
 
-// The last dump, in a world that isn't dead.
-fn last_dump<D: Disk>(
+// The last dump, in a world that isn't dead, behind the gate.
+fn last_dump<D: Disk, G: Gate>(
     alloc: Global,
     deaf: bool,
     world: &mut World,
     store: &mut Store,
     first: &mut D,
     second: &mut D,
+    gate: &G,
 ) -> Why
     requires alive { (now world.old).dead ≡ false }
     requires idle { (now world.old).dumps.running ≡ None }
-    requires marks { GoesByMarks store.old.marks store.old.log world.old }
+    requires knows { Knows store.old world.old }
     requires mounted { D.tells ≡ true → (mounted : ℕ) × Keeps D.seen D.moment D.images D.faults store.old.log first.old second.old mounted world.old }
-    ensures { HasDump D.tells D.seen D.moment D.images D.faults deaf store.old.log first.old second.old first.new second.new world.old world.new result }
+    ensures dump { HasDump D.tells D.seen D.moment D.images D.faults deaf store.old.log first.old second.old first.new second.new world.old world.new result }
+    ensures first_attached { D.attached first.new ≡ D.attached first.old }
+    ensures second_attached { D.attached second.new ≡ D.attached second.old }
 {
+    gate.pass(place::BEFORE_DUMP);
     let answer = dump(alloc, world, 0, store, first, second);
     why_by(deaf, answer)
 }
 
 /// What a run comes to, once all parts have returned: where all have seen the stop, the last dump is made by the first party.
-pub fn finish<D: Disk>(
+pub fn finish<D: Disk, G: Gate>(
     alloc: Global,
     way: Way,
     world: &mut World,
     store: &mut Store,
     first: &mut D,
     second: &mut D,
+    gate: &G,
 ) -> Why
     requires idle { HasStopped way → (now world.old).dumps.running ≡ None }
-    requires marks { HasStopped way → GoesByMarks store.old.marks store.old.log world.old }
+    requires knows { HasStopped way → Knows store.old world.old }
     requires mounted { HasStopped way → D.tells ≡ true → (mounted : ℕ) × Keeps D.seen D.moment D.images D.faults store.old.log first.old second.old mounted world.old }
-    ensures { IsFinish D.tells D.seen D.moment D.images D.faults way store.old.log first.old second.old first.new second.new world.old world.new result }
+    ensures finish { IsFinish D.tells D.seen D.moment D.images D.faults way store.old.log first.old second.old first.new second.new world.old world.new result }
+    ensures first_attached { D.attached first.new ≡ D.attached first.old }
+    ensures second_attached { D.attached second.new ≡ D.attached second.old }
 {
     if world.is_dead() {
         return Why::NoMemory;
     }
     match way {
-        Way::Stopped => last_dump(alloc, false, world, store, first, second),
-        Way::Deaf => last_dump(alloc, true, world, store, first, second),
+        Way::Stopped => last_dump(alloc, false, world, store, first, second, gate),
+        Way::Deaf => last_dump(alloc, true, world, store, first, second, gate),
         Way::Wanted => {
             world.died(9);
             Why::NoMemory

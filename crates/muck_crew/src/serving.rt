@@ -1,6 +1,6 @@
 // All parts of a server over one world, until the run is over.
 ghost use Rattle.std.specs.Prelude.{◌≡◌, ◌<◌, ◌≤◌, ℕ, List, [], true, IfOk, OnErr, vec_capacity};
-ghost use Rattle.muck_dumping.specs.inner.Between.{IsReady as HasLog, GoesByMarks};
+ghost use Rattle.muck_dumping.specs.inner.Between.{IsReady as HasLog, Knows};
 ghost use Rattle.muck_model.specs.declared.note.Note.{Note};
 ghost use Rattle.muck_porter.specs.inner.Kept.{account};
 ghost use Rattle.muck_crew.specs.inner.Runs.{IsFresh, IsWhy, IsEndOf, HasStopped, HasRun};
@@ -96,12 +96,14 @@ pub fn run<
     requires none { parts.all.items ≡ [] }
     requires room { workers ≤ vec_capacity parts.all }
     requires fresh { (mounting : Note) × IsFresh mounting world }
-    requires marks { GoesByMarks store.old.marks store.old.log world }
+    requires knows { Knows store.old world }
     requires mounted { D.tells ≡ true → (mounted : ℕ) × HasLog D.seen D.moment D.images D.faults store.old.log first.old second.old mounted world }
     ensures tells { L.tells links.new ≡ L.tells links.old }
     ensures none { OnErr result ((links.new ≡ links.old) × (clock.new ≡ clock.old) × (first.new ≡ first.old) × (second.new ≡ second.old)) }
-    ensures marks { IfOk result (λ r. HasStopped r.0 → GoesByMarks store.new.marks store.new.log r.1) }
+    ensures knows { IfOk result (λ r. HasStopped r.0 → Knows store.new r.1) }
     ensures ran { IfOk result (λ r. HasRun D.tells D.seen D.moment D.images D.faults (L.tells links.old) (account (L.told links.old) (L.listening links.old) (C.answers clock.old)) (account (L.told links.new) (L.listening links.new) (C.answers clock.new)) workers r.0 store.old.log store.new.log first.old second.old first.new second.new world r.1) }
+    ensures first_attached { D.attached first.new ≡ D.attached first.old }
+    ensures second_attached { D.attached second.new ≡ D.attached second.old }
 {
     let (turn, seat) = Turn::new(alloc, world)?;
     let mut seat = seat;

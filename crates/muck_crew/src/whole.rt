@@ -50,6 +50,8 @@ pub fn serve_links<
     ensures tells { L.tells links.new ≡ L.tells links.old }
     ensures none { IfNone result ((links.new ≡ links.old) × (clock.new ≡ clock.old) × (first.new ≡ first.old) × (second.new ≡ second.old)) }
     ensures served { IfSome result (λ r. HasServed D.tells D.seen D.moment D.images D.faults (L.tells links.old) (account (L.told links.old) (L.listening links.old) (C.answers clock.old)) (account (L.told links.new) (L.listening links.new) (C.answers clock.new)) workers r.0 (Some log) first.old second.old first.new second.new world r.1) }
+    ensures first_attached { D.attached first.new ≡ D.attached first.old }
+    ensures second_attached { D.attached second.new ≡ D.attached second.old }
 {
     let mut store = Store::new(log);
     match run(
@@ -57,7 +59,7 @@ pub fn serve_links<
     ) {
         Ok((way, world)) => {
             let mut world = world;
-            let why = finish(alloc, way, &mut world, &mut store, first, second);
+            let why = finish(alloc, way, &mut world, &mut store, first, second, gate);
             Some((why, world))
         }
         Err(_) => None,

@@ -1,2 +1,4 @@
 pub mod Replay
 pub mod Memory
+pub mod Rows
+pub mod Laws

@@ -1,17 +1,20 @@
 // A file of the system, which tells nothing.
-ghost use Rattle.std.specs.Prelude.{◌≡◌, ◌≤◌, length, IfOk, IfSome, OnOk, OnErr};
+ghost use Rattle.std.specs.Prelude.{◌≡◌, ◌≤◌, length, IfOk, OnOk, OnErr};
 ghost use Rattle.muck_io.specs.Faults.{Rose};
 
+use crate::opened::{length_of, opened};
+use crate::unsynced::{Unsynced, fill, put};
 use crate::{Disk, DiskFault};
 use std::fs;
-use std::os::unix::fs::FileExt;
 use std::rt::Files;
 
-/// A file of the system, which is made where there is none. Nothing is said of its bytes.
+/// A file of the system, which is made where there is none, and which no other process attaches as long as this one has
+/// it. Nothing is said of its bytes.
 #[derive(Drop)]
 pub struct FileDisk<R> {
     rt: R,
     file: Option<fs::File>,
+    unsynced: Unsynced,
     faults: u64,
 }
 
@@ -23,6 +26,7 @@ impl<R> FileDisk<R> {
         FileDisk {
             rt,
             file: None,
+            unsynced: Unsynced::none(),
             faults: 0,
         }
     }
@@ -35,41 +39,6 @@ impl<R> FileDisk<R> {
         self.faults = self.faults.saturating_add(1);
         DiskFault
     }
-}
-
-fn open<R: Files<File = fs::File>>(rt: &R, name: &str) -> Option<fs::File> {
-    fs::OpenOptions::new()
-        .read(true)
-        .write(true)
-        .create(true)
-        .open(rt, name)
-        .ok()
-}
-
-fn length_of(file: &fs::File) -> Option<u64> {
-    let data = file.metadata().ok()?;
-    Some(data.len())
-}
-
-// Reads until the buffer is full or the file ends.
-fn fill(file: &fs::File, at: u64, buf: &mut [u8]) -> Option<usize>
-    ensures { IfSome result (λ n. n ≤ length buf.new) }
-{
-    let mut got = 0;
-    while got < buf.len() {
-        let n = file
-            .read_at(&mut buf[got..], at.saturating_add(got as u64))
-            .ok()?;
-        if n == 0 {
-            return Some(got);
-        }
-        got += n;
-    }
-    Some(got)
-}
-
-fn put(file: &fs::File, at: u64, bytes: &[u8]) -> bool {
-    file.write_all_at(bytes, at).is_ok()
 }
 
 impl<R: Files<File = fs::File>> Disk for FileDisk<R> {
@@ -90,7 +59,10 @@ impl<R: Files<File = fs::File>> Disk for FileDisk<R> {
     ghost seen_left = { λ _ _. tt };
 
     fn attach(&mut self, name: &str) -> Result<(), DiskFault> {
-        self.file = open(&self.rt, name);
+        // An earlier file is let go first, and its lock with it.
+        self.file = None;
+        self.unsynced = Unsynced::none();
+        self.file = opened(&self.rt, name);
         if self.file.is_some() {
             return Ok(());
         }
@@ -117,6 +89,7 @@ impl<R: Files<File = fs::File>> Disk for FileDisk<R> {
 
     fn write_at(&mut self, at: u64, bytes: &[u8]) -> Result<(), DiskFault> {
         if let Some(file) = &self.file {
+            self.unsynced = self.unsynced.with(at, bytes.len());
             if put(file, at, bytes) {
                 return Ok(());
             }
@@ -126,10 +99,12 @@ impl<R: Files<File = fs::File>> Disk for FileDisk<R> {
 
     fn sync(&mut self) -> Result<(), DiskFault> {
         if let Some(file) = &self.file {
-            if file.sync_all().is_ok() {
+            if self.unsynced.sync(file) {
+                self.unsynced = Unsynced::none();
                 return Ok(());
             }
         }
+        self.unsynced = self.unsynced.failing();
         Err(self.fault())
     }
 }

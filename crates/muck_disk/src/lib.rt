@@ -6,8 +6,12 @@ mod disk;
 mod fail;
 mod file;
 mod memory;
+mod opened;
+mod rows;
+mod unsynced;
 
 pub use disk::{Disk, DiskFault};
 pub use fail::FailDisk;
 pub use file::FileDisk;
 pub use memory::{Call, MemDisk};
+pub use rows::laws_hold;

@@ -1,9 +1,9 @@
 // A disk in memory, which keeps the list of all calls.
-ghost use Rattle.std.specs.Prelude.{◌≡◌, ◌≤◌, ◌+◌, ◌-◌, ◌<◌, min, ◌++◌, [], ◌∷◌, List, length, take, drop, reverse, true, false, IfOk, OnOk, OnErr};
+ghost use Rattle.std.specs.Prelude.{◌≡◌, ◌≤◌, ◌+◌, ◌-◌, ◌<◌, min, ◌++◌, [], ◌∷◌, List, length, take, drop, reverse, true, false, option_map, Some, IfOk, OnOk, OnErr};
 ghost use Rattle.muck_io.specs.Faults.{Rose};
-ghost use Rattle.muck_disk.specs.Images.{Elapses, Torn, written};
+ghost use Rattle.muck_disk.specs.Images.{Elapses, Only, Same, Torn, written};
 ghost use Rattle.muck_disk.specs.declared.memory.Call.TheVariants.{Wrote};
-ghost use Rattle.muck_disk.specs.inner.Replay.{left_at, seen_at, seen_after, seen_by, all_within, is_within};
+ghost use Rattle.muck_disk.specs.inner.Replay.{left_at, image_at, synced_at, torn_to, seen_at, seen_after, seen_by, all_within, is_within};
 
 use crate::{Disk, DiskFault};
 use muck_model::{ByteList, NoMemory};
@@ -54,23 +54,18 @@ fn torn(
     old: &[u8],
     at: usize,
     n: usize,
-    room: usize,
+    room: u128,
     byte: u8,
 ) -> Result<Vec<u8>, AllocError>
-    ensures { IfOk result (λ v. Torn at n old.now v.items) }
+    requires { min at room ≤ length old.now }
+    ensures { IfOk result (λ v. v.items ≡ torn_to room byte old.now at n) }
 {
     if at > old.len() {
         return old.to_vec(alloc);
     }
-    let end = at.saturating_add(n);
-    let stop = end.min(old.len().max(room));
-    let fill = vec![in alloc; byte; stop - at]?;
-    if end < old.len() {
-        return spliced(alloc, old, at, &fill);
-    }
-    let mut next = old.split_at(at).0.to_vec(alloc)?;
-    next.extend_from_slice(&fill)?;
-    Ok(next)
+    let end = (at as u128 + n as u128).min((old.len() as u128).max(room));
+    let fill = vec![in alloc; byte; (end - at as u128) as usize]?;
+    spliced(alloc, old, at, &fill)
 }
 
 // What a crash may leave after call `i` too: what a read gives, an image, and how long the image may grow.
@@ -78,7 +73,7 @@ fn torn(
 struct Replay {
     seen: Vec<u8>,
     left: Vec<u8>,
-    room: usize,
+    room: u128,
 }
 
 fn one_more(
@@ -93,9 +88,11 @@ fn one_more(
     requires within { all_within first.now (reverse calls.now) ≡ true }
     requires i { i < length calls.now }
     requires seen { now.seen.items ≡ seen_at first.now calls.now i }
-    requires left { left_at first.now calls.now i now.left.items }
+    requires left { now.left.items ≡ image_at kept byte first.now calls.now i }
+    requires room { now.room ≡ synced_at first.now calls.now i + kept }
     ensures seen { IfOk result (λ r. r.seen.items ≡ seen_at first.now calls.now (i + 1)) }
-    ensures left { IfOk result (λ r. left_at first.now calls.now (i + 1) r.left.items) }
+    ensures left { IfOk result (λ r. r.left.items ≡ image_at kept byte first.now calls.now (i + 1)) }
+    ensures room { IfOk result (λ r. r.room ≡ synced_at first.now calls.now (i + 1) + kept) }
 {
     let Replay { seen, left, room } = now;
     match &calls[i] {
@@ -110,7 +107,7 @@ fn one_more(
         Call::Synced { done } => {
             if *done {
                 let left = seen.as_slice().to_vec(alloc)?;
-                let room = left.len().saturating_add(kept as usize);
+                let room = left.len() as u128 + kept as u128;
                 return Ok(Replay { seen, left, room });
             }
             Ok(Replay { seen, left, room })
@@ -151,16 +148,17 @@ impl MemDisk {
         self.calls.len() as u64
     }
 
-    /// An image that a crash at this moment may leave: written bytes that aren't synced are `torn`, and of the part past
-    /// the old end the first `kept` bytes are there.
+    /// The image that a crash at this moment may leave of which each written byte that isn't synced is `torn`, and of
+    /// those past the synced end the first `kept` are there.
     pub fn image(&self, moment: u64, kept: u64, torn: u8) -> Result<ByteList, NoMemory>
         requires { moment ≤ length self.now.calls.items }
-        ensures { IfOk result (λ v. left_at self.now.first.items self.now.calls.items moment v) }
+        ensures image { IfOk result (λ v. v ≡ image_at kept torn self.now.first.items self.now.calls.items moment) }
+        ensures left { IfOk result (λ v. left_at self.now.first.items self.now.calls.items moment v) }
     {
         let mut now = Replay {
             seen: self.first.to_vec(self.alloc)?,
             left: self.first.to_vec(self.alloc)?,
-            room: self.first.len().saturating_add(kept as usize),
+            room: self.first.len() as u128 + kept as u128,
         };
         for i in 0..moment as usize {
             now = one_more(self.alloc, &self.first, &self.calls, i, now, kept, torn)?;
@@ -240,7 +238,7 @@ impl MemDisk {
 impl Disk for MemDisk {
     ghost use Rattle.std.specs.Prelude.{length, true, Option, option_map, List, ℕ};
     ghost use Rattle.muck_disk.specs.inner.Replay.{left_at};
-    ghost use Rattle.muck_disk.specs.inner.Memory.{mem_seen_left};
+    ghost use Rattle.muck_disk.specs.inner.Memory.{left_of, Leaves, Passes, mem_seen_left};
 
     ghost tells = { true };
 
@@ -256,7 +254,14 @@ impl Disk for MemDisk {
 
     ghost seen_left = { λ d _. mem_seen_left d };
 
-    fn attach(&mut self, name: &str) -> Result<(), DiskFault> {
+    fn attach(&mut self, name: &str) -> Result<(), DiskFault>
+        ensures name { OnOk result (option_map (λ v. v.items) self.new.name ≡ Some name.now) }
+        ensures seen { self.new.bytes.items ≡ self.old.bytes.items }
+        ensures time { Passes self.old self.new Same }
+        ensures leaves { Leaves (left_of self.old) (left_of self.new) Same }
+        ensures later { self.old.faults ≤ self.new.faults }
+        ensures cause { OnErr result (Rose self.old.faults self.new.faults) }
+    {
         let Ok(kept) = name.as_bytes().to_vec(self.alloc) else {
             return Err(self.fault());
         };
@@ -267,28 +272,62 @@ impl Disk for MemDisk {
         Err(self.fault())
     }
 
-    fn size(&mut self) -> Result<u64, DiskFault> {
+    fn size(&mut self) -> Result<u64, DiskFault>
+        ensures size { IfOk result (λ n. n ≡ length self.old.bytes.items) }
+        ensures keeps { self.new.name ≡ self.old.name }
+        ensures seen { self.new.bytes.items ≡ self.old.bytes.items }
+        ensures time { Passes self.old self.new Same }
+        ensures leaves { Leaves (left_of self.old) (left_of self.new) Same }
+        ensures later { self.old.faults ≤ self.new.faults }
+        ensures cause { OnErr result (Rose self.old.faults self.new.faults) }
+    {
         if self.note(Call::Asked).is_ok() {
             return Ok(self.bytes.len() as u64);
         }
         Err(self.fault())
     }
 
-    fn read(&mut self, at: u64, buf: &mut [u8]) -> Result<usize, DiskFault> {
+    fn read(&mut self, at: u64, buf: &mut [u8]) -> Result<usize, DiskFault>
+        ensures fits { IfOk result (λ n. n ≤ length buf.new) }
+        ensures count { IfOk result (λ n. n ≡ min (length self.old.bytes.items - at) (length buf.new)) }
+        ensures bytes { IfOk result (λ n. take n buf.new ≡ take n (drop at self.old.bytes.items)) }
+        ensures keeps { self.new.name ≡ self.old.name }
+        ensures seen { self.new.bytes.items ≡ self.old.bytes.items }
+        ensures time { Passes self.old self.new Same }
+        ensures leaves { Leaves (left_of self.old) (left_of self.new) Same }
+        ensures later { self.old.faults ≤ self.new.faults }
+        ensures cause { OnErr result (Rose self.old.faults self.new.faults) }
+    {
         if self.note(Call::Asked).is_ok() {
             return Ok(copied(&self.bytes, at, buf));
         }
         Err(self.fault())
     }
 
-    fn write_at(&mut self, at: u64, bytes: &[u8]) -> Result<(), DiskFault> {
+    fn write_at(&mut self, at: u64, bytes: &[u8]) -> Result<(), DiskFault>
+        requires { at ≤ length self.old.bytes.items }
+        ensures written { OnOk result (self.new.bytes.items ≡ written self.old.bytes.items at bytes.now) }
+        ensures keeps { self.new.name ≡ self.old.name }
+        ensures time { Passes self.old self.new (Torn at (length bytes.now)) }
+        ensures leaves { OnOk result (Leaves (left_of self.old) (left_of self.new) (Torn at (length bytes.now))) }
+        ensures later { self.old.faults ≤ self.new.faults }
+        ensures cause { OnErr result (Rose self.old.faults self.new.faults) }
+    {
         let Ok(()) = self.write(at, bytes) else {
             return Err(self.fault());
         };
         Ok(())
     }
 
-    fn sync(&mut self) -> Result<(), DiskFault> {
+    fn sync(&mut self) -> Result<(), DiskFault>
+        ensures durable { OnOk result (Only self.new.bytes.items (left_of self.new)) }
+        ensures keeps { self.new.name ≡ self.old.name }
+        ensures seen { self.new.bytes.items ≡ self.old.bytes.items }
+        ensures time { Passes self.old self.new Same }
+        ensures leaves { OnErr result (Leaves (left_of self.old) (left_of self.new) Same) }
+        ensures later { self.old.faults ≤ self.new.faults }
+        ensures cause { OnErr result (Rose self.old.faults self.new.faults) }
+    {
         let Ok(()) = self.note(Call::Synced { done: true }) else {
             return Err(self.fault());
         };

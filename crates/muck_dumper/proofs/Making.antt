@@ -54,8 +54,8 @@ watches_after tells seen moment images faults (Err e) log log' f s f' s' from P 
 -- or memory was wanted for it
 pub stops_after : {D : Type 0} (tells : Bool) (seen : D → List ℕ) (moment : D → ℕ) (images : D → ℕ → List ℕ → Type 0) (faults : D → ℕ) (r : Result (Unit {0}) Fault) (log : Option LogState) (f s f' s' : D) (from : Stage) (P : ℕ → Type 0) (x y z : Chair) →
     Settles tells seen moment images faults log f s from P x y →
-    IfErr r (λ fault. Stops tells moment images f' s' fault Stage.unbound (λ mounted. Keeps seen moment images faults log f s mounted (history_seen y.0)) y z) →
-    IfErr r (λ fault. Stops tells moment images f' s' fault from P x z)
+    IfErr r (λ fault. Stops tells moment images faults f' s' fault Stage.unbound (λ mounted. Keeps seen moment images faults log f s mounted (history_seen y.0)) y z) →
+    IfErr r (λ fault. Stops tells moment images faults f' s' fault from P x z)
 stops_after tells seen moment images faults (Ok a) log f s f' s' from P x y z t stopped = tt
 stops_after tells seen moment images faults (Err fault) log f s f' s' from P x y z t stopped =
-    stops_behind tells moment images f' s' fault from Stage.unbound P (λ mounted. Keeps seen moment images faults log f s mounted (history_seen y.0)) x y z t.moves (λ mounted on p. (t.kept mounted on p).keeps) stopped
+    stops_behind tells moment images faults f' s' fault from Stage.unbound P (λ mounted. Keeps seen moment images faults log f s mounted (history_seen y.0)) x y z t.moves (λ mounted on p. (t.kept mounted on p).keeps) stopped

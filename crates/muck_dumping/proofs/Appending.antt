@@ -1,10 +1,10 @@
 -- What the log answers to a batch that makes a whole world.
-use Rattle.std.proofs.Common.{◌≡◌, ◌⊎◌, inl, inr, ℕ, ◌≤◌, Bool, true, false, ◌&&◌, List, [], ◌∷◌, length, refl, sym, ap, subst, ◌∙◌, arith, Option, Some, None, Result, Ok, Err}
+use Rattle.std.proofs.Common.{◌≡◌, ◌⊎◌, inl, inr, ℕ, ◌+◌, ◌≤◌, Bool, true, false, ◌&&◌, List, [], ◌∷◌, length, refl, sym, ap, subst, ◌∙◌, arith, Option, Some, None, Result, Ok, Err}
 use Rattle.std.proofs.lemmas.Bool.{le-leb}
 use Rattle.muck_codec.specs.declared.stored.Batch.{Batch}
 use Rattle.muck_log.specs.World.{World as Kept, laid, is_between, tune_fits}
 use Rattle.muck_log.specs.Store.{Chosen, LogState, LeavesBoth, IsMounted, target, after_batch, stored}
-use Rattle.muck_log.specs.Append.{IsAppended, IsNext, IsTouching, LoadsEither, payload_of}
+use Rattle.muck_log.specs.Append.{IsAppended, IsNext, IsTouching, LoadsEither, more_of, payload_of}
 use Rattle.muck_log.specs.declared.fault.LogFault.{LogFault}
 use Rattle.muck_log.specs.declared.fault.LogFault.TheVariants.{NoMemory, DiskFault, Damaged, StoreFull, Stale}
 use Rattle.muck_model.specs.declared.tune.Tune.{Tune}
@@ -45,6 +45,8 @@ module _ {D : Type 0} (seen : D → List ℕ) (moment : D → ℕ) (images : D �
     second_later = omega arith;
     first_kept = λ t c low left. left;
     second_kept = λ t c low left. left;
+    first_stays = λ t c low left. left;
+    second_stays = λ t c low left. left;
     each = λ t u c d t_low t_high u_low u_high left_c left_d. inl (loads c d (at t c t_low t_high left_c) (at_second u d u_low u_high left_d));
   }
     where
@@ -71,19 +73,26 @@ module _ {D : Type 0} (seen : D → List ℕ) (moment : D → ℕ) (images : D �
     abbrev Made : Type 0
     Made = laid (payload_of log batch) (target log.chosen).held.world ≡ Some made
 
-    pub appended_ok : (left : Option LogState) → left ≡ Some new → Made → IsNext log new (payload_of log batch) → IsMounted seen moment images new f' s' → Said payload left (Ok tt)
-    appended_ok left is makes next there =
-        let said : Said (payload_of log batch) left (Ok tt) = record { any = any made makes; answer = (new, is, next, there, makes) } in
+    pub appended_ok : (left : Option LogState) → left ≡ Some new → Made → IsNext log new (payload_of log batch) → IsMounted seen moment images new f' s' → (target log.chosen).place + more_of log (payload_of log batch) ≤ log.most → Said payload left (Ok tt)
+    appended_ok left is makes next there fits =
+        let said : Said (payload_of log batch) left (Ok tt) = record { any = any made makes; answer = (new, is, next, there, makes, fits) } in
         subst (λ bytes. Said bytes left (Ok tt)) same said
 
     untouched : (fault : LogFault) → (IsTouching (Err fault) → ⊥) → IsTouching (Err fault) ⊎ ((f' ≡ f) × (s' ≡ s)) → LeavesBoth moment images f s f' s' (LoadsEither log.chosen (after_batch log.chosen (payload_of log batch) made))
     untouched fault none e = elim e [ inl touched ↦ absurd (none touched) | inr same ↦ stays_as log f s f' s' _ m same.0 same.1 ]
 
+    -- it still stands on the disks
+    still : (fault : LogFault) → (IsTouching (Err fault) → ⊥) → IsTouching (Err fault) ⊎ ((f' ≡ f) × (s' ≡ s)) → IsMounted seen moment images log f' s'
+    still fault none e = elim e [
+      | inl touched ↦ absurd (none touched)
+      | inr same ↦ subst (λ (x : D). IsMounted seen moment images log x s') (sym same.0) (subst (λ (y : D). IsMounted seen moment images log f y) (sym same.1) m)
+    ]
+
     refused : (fault : LogFault) (left : Option LogState) → left ≡ None → IsAppended log new batch (Err fault) → IsTouching (Err fault) ⊎ ((f' ≡ f) × (s' ≡ s)) → (IsTouching (Err fault) → Made) → Said (payload_of log batch) left (Err fault)
     refused NoMemory left is said e makes = record { any = untouched NoMemory (λ t. t) e; answer = is }
     refused DiskFault left is said e makes = record { any = any made (makes tt); answer = is }
     refused (Damaged second at) left is said e makes = absurd said
-    refused (StoreFull end more) left is said e makes = record { any = untouched (StoreFull end more) (λ t. t) e; answer = (is, said.1, said.2, said.3) }
+    refused (StoreFull end more) left is said e makes = record { any = untouched (StoreFull end more) (λ t. t) e; answer = (is, said.1, said.2, said.3, still (StoreFull end more) (λ t. t) e) }
     refused Stale left is said e makes = let fresh = m.fresh in let stale = said.0 in cc
 
     pub appended_err : (fault : LogFault) (left : Option LogState) → left ≡ None → IsAppended log new batch (Err fault) → IsTouching (Err fault) ⊎ ((f' ≡ f) × (s' ≡ s)) → (IsTouching (Err fault) → Made) → Said payload left (Err fault)

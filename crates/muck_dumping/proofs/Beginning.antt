@@ -1,5 +1,5 @@
 -- A dump begins, and is pending until it is written.
-use Rattle.std.proofs.Common.{◌≡◌, inl, ℕ, suc, List, [], ◌∷◌, length, refl, sym, ap, ◌∙◌, subst, arith, Option, Some}
+use Rattle.std.proofs.Common.{◌≡◌, ℕ, suc, List, [], ◌∷◌, length, refl, sym, ap, ◌∙◌, subst, arith, Option, Some, None}
 use Rattle.std.specs.Prelude.{slice_get, All}
 use Rattle.muck_model.specs.declared.event.Event.TheVariants.{Cut, Died}
 use Rattle.muck_model.specs.declared.note.Note.{Note}
@@ -14,19 +14,16 @@ use Rattle.muck_log.specs.File.{after_number}
 use Rattle.muck_log.specs.Store.{LogState, IsMounted}
 use Rattle.spec_events.specs.World.{World}
 use Rattle.spec_events.specs.Histories.{History, now, entered, noted}
-use Rattle.spec_dumps.specs.Survival.{IsSafe}
-use Rattle.spec_dumps.specs.inner.Holding.{IsCounted, Quietly, Keeps}
+use Rattle.spec_dumps.specs.Survival.{HasNumber, IsSafe}
+use Rattle.spec_dumps.specs.inner.Holding.{Quietly, Keeps, FailedLast}
 use Rattle.spec_dumps.proofs.Lists.{got_on, length_last}
-use Rattle.spec_dumps.proofs.Quiet.{quiet_one, safe_quiet, keeps_quiet, rests_quiet, same_cut, same_number, fails_quiet}
-use Rattle.spec_dumps.proofs.Cutting.{rests_on, cut_noted, number_end}
+use Rattle.spec_dumps.proofs.Quiet.{quiet_one, safe_quiet, keeps_quiet, rests_quiet, same_cut, same_number, rises_quiet}
+use Rattle.spec_dumps.proofs.Cutting.{rests_on, cut_noted, number_mounted, number_failed, number_end}
 use Rattle.muck_dumping.specs.declared.parts.Pending.{Pending}
 use Rattle.muck_dumping.specs.inner.Dumps.{note_of, by, HasRisen}
 use Rattle.muck_dumping.specs.inner.Between.{IsReady, IsBatchOfWorld, base_in, IsPending}
 use Rattle.muck_dumping.proofs.Steps.{at_note}
 use Rattle.muck_dumping.proofs.Marks.{batch_at_cut}
-
-same_note : (x y : Note) → Some x ≡ Some y → x ≡ y
-same_note x y e = cc
 
 -- what is said of a batch behind a note
 pub batch_noted : (base : List Stored) (h k : History) (note : Note) (p : Pending) → k ≡ noted h note → LeavesOut base (persist (now k).live.objects) p.batch.records → All IsStored p.batch.records → p.batch.tune ≡ (now k).live.board.tune →
@@ -44,19 +41,19 @@ batch_noted base h k note p is records storable tuning size consistent limits tu
 module _ {D : Type 0} (seen : D → List ℕ) (moment : D → ℕ) (images : D → ℕ → List ℕ → Type 0) (faults : D → ℕ) (log : Option LogState) (f s : D) (mounted : ℕ) where
   -- Memory was wanted, behind a note or without one.
 
-  pub died_noted : (h k : History) (party : ℕ) → Keeps seen moment images faults log f s mounted h → k ≡ entered (noted h (note_of moment faults f s h)) (by party Died) → IsSafe moment images f s k.start mounted k.entries k.notes
+  pub died_noted : (h k : History) (party : ℕ) → Keeps seen moment images faults log f s mounted h → k ≡ entered (noted h (note_of moment faults f s h)) (by party Died) → IsSafe moment images faults f s k.start mounted k.entries k.notes
   died_noted h k party v is =
-      (rests_on seen moment images faults log f s mounted h (note_of moment faults f s h) (by party Died) k is v (refl, refl) (omega arith, omega arith) refl refl (λ n before there got fails. cc)).keeps.safe
+      (rests_on seen moment images faults log f s mounted h (note_of moment faults f s h) (by party Died) k is v (refl, refl) (refl, refl) refl refl (λ n before there got fails. cc) (λ n i at cuts. cc)).keeps.safe
 
-  pub died_here : (h k : History) (party : ℕ) → Keeps seen moment images faults log f s mounted h → k ≡ entered h (by party Died) → IsSafe moment images f s k.start mounted k.entries k.notes
-  died_here h k party v is = safe_quiet moment images f s mounted h k (quiet_one h k (by party Died) refl is) v.safe
+  pub died_here : (h k : History) (party : ℕ) → Keeps seen moment images faults log f s mounted h → k ≡ entered h (by party Died) → IsSafe moment images faults f s k.start mounted k.entries k.notes
+  died_here h k party v is = safe_quiet moment images faults f s mounted h k (quiet_one h k (by party Died) refl is) v.safe
 
   pub mounted_there : (h : History) → Keeps seen moment images faults log f s mounted h → (x : LogState) → log ≡ Some x → IsMounted seen moment images x f s
   mounted_there h v x is = (subst (λ (l : Option LogState). Keeps seen moment images faults l f s mounted h) is v).usable.0
 
   -- It begins.
   module _ (h : History) (party n : ℕ) (p : Pending) (ready : IsReady seen moment images faults log f s mounted h) (batch : IsBatchOfWorld (base_in log) (now h) p)
-      (number : (x : LogState) → log ≡ Some x → n ≡ after_number x.chosen.held.number) where
+      (left : (x : D) → images x (moment x) (seen x)) (number : (x : LogState) → log ≡ Some x → n ≡ after_number x.chosen.held.number) (failed : log ≡ None → FailedLast n h) where
     abbrev note : Note
     note = note_of moment faults f s h
 
@@ -69,19 +66,16 @@ module _ {D : Type 0} (seen : D → List ℕ) (moment : D → ℕ) (images : D �
         let last : length h.notes ≡ suc i = omega (arith, end, length_last h.notes note) in
         (sym (got_on h.notes (note ∷ []) i (omega (arith, last))) ∙ there, last)
 
-    counts : (i : ℕ) (before : Note) → suc (suc i) ≡ length begun.notes → slice_get begun.notes i ≡ Some before → IsCounted faults f s before
-    counts i before end there =
-        let it = before_is i before end there in
-        let at : i ≡ ready.keeps.last = omega (arith, it.1, ready.keeps.end) in
-        subst (λ (x : Note). IsCounted faults f s x) (same_note ready.keeps.note before (sym ready.keeps.is ∙ ap (slice_get h.notes) (sym at) ∙ it.0)) ready.keeps.counted
+    has_number : (o : Option LogState) → log ≡ o → HasNumber images f s h.entries h.notes ready.keeps.last note n
+    has_number None is = let v = failed is in number_failed images f s h note ready.keeps.last n ready.keeps.end v (ready.risen is v.last v.note v.is v.end)
+    has_number (Some x) is = number_mounted seen moment images x f s h note ready.keeps.last n (mounted_there h ready.keeps x is) (left f) (left s) (refl, refl) (number x is)
 
     pub pending_begun : IsPending seen moment images faults log f s mounted begun p
     pending_begun = record {
-      rests = cut_noted seen moment images faults log f s mounted h begun note party n ready.keeps refl refl (refl, refl) (omega arith, omega arith);
+      rests = cut_noted seen moment images faults log f s mounted h begun note party n ready.keeps refl refl (refl, refl) (refl, refl) (has_number log refl);
       number = λ x is. number_end mounted h.entries party n ∙ number x is;
       batch = batch_at_cut (base_in log) h begun note party n p refl batch;
-      counted = counts;
-      fails = λ is i before end there. let it = before_is i before end there in inl (ready.risen is i before it.0 it.1);
+      fails = λ is. λ i before end there. let it = before_is i before end there in ready.risen is i before it.0 it.1;
     }
 
     pub pending_as : (k : History) → k ≡ begun → IsPending seen moment images faults log f s mounted k p
@@ -105,6 +99,5 @@ module _ {D : Type 0} (seen : D → List ℕ) (moment : D → ℕ) (images : D �
           rests = rests_quiet seen moment images faults log f s mounted h k q v.rests;
           number = λ x is. same_number mounted h k q placed ∙ v.number x is;
           batch = subst (λ (w : World). IsBatchOfWorld (base_in log) w p) (sym (same_cut mounted h k q placed)) v.batch;
-          counted = λ n before end there. v.counted n before (end ∙ notes_on) (ap (λ (ns : List Note). slice_get ns n) (sym q.grew.notes) ∙ there);
-          fails = λ is. fails_quiet mounted h k q placed (faults f) (faults s) (v.fails is);
+          fails = λ is. rises_quiet h k q faults f s (v.fails is);
         }

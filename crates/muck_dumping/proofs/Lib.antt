@@ -9,3 +9,4 @@ pub mod Beginning
 pub mod Writing
 pub mod Ending
 pub mod AtOnce
+pub mod Knowing

@@ -39,7 +39,7 @@ use Rattle.muck_dumping.proofs.Steps.{cut_live}
 none_some : (o : Option LogState) (x : LogState) → o ≡ None → o ≡ Some x → ⊥
 none_some o x e g = cc
 
-both_ways : (b : Bool) → b ≡ false → b ≡ true → ⊥
+pub both_ways : (b : Bool) → b ≡ false → b ≡ true → ⊥
 both_ways b e g = cc
 
 pub unmounted_holds : (marks : Bool) (o : Option LogState) (es : List Object) → o ≡ None → HoldsThese marks o es

@@ -1,8 +1,7 @@
 -- The log is mounted again.
-use Rattle.std.proofs.Common.{◌≡◌, ◌⊎◌, inl, inr, ℕ, ◌≤◌, List, refl, sym, ap, ◌∙◌, subst, arith, Option, Some, None, Result, Ok, Err, IsSome}
-use Rattle.std.specs.Prelude.{is_some, false, slice_get}
+use Rattle.std.proofs.Common.{◌≡◌, ◌⊎◌, inl, inr, ℕ, ◌≤◌, List, refl, sym, subst, arith, Option, Some, None, Result, Ok, Err, IsSome}
+use Rattle.std.specs.Prelude.{is_some, false}
 use Rattle.muck_io.specs.Faults.{Rose}
-use Rattle.muck_model.specs.declared.note.Note.{Note}
 use Rattle.muck_log.specs.inner.Mount.{IsMountedAs, IsMountFault}
 use Rattle.muck_log.specs.Store.{LogState, LeavesOnly, stored}
 use Rattle.muck_log.specs.declared.fault.LogFault.{LogFault}
@@ -32,15 +31,8 @@ module _ {D : Type 0} (seen : D → List ℕ) (moment : D → ℕ) (images : D �
   -- a count rose since the last note
   pub risen : (log : Option LogState) (f s f' s' : D) (h : History) → Keeps seen moment images faults log f s mounted h → Rose (faults f) (faults f') ⊎ Rose (faults s) (faults s') → HasRisen faults f' s' h
   risen log f s f' s' h v rose n note is end =
-      let last : n ≡ v.last = omega (arith, end, v.end) in
-      let same = only note v.note (sym is ∙ ap (slice_get h.notes) last ∙ v.is) in
-      elim rose [
-        | inl r ↦ inl (omega (arith, r, v.counted.0, ap (λ (x : Note). x.first_faults) same))
-        | inr r ↦ inr (omega (arith, r, v.counted.1, ap (λ (x : Note). x.second_faults) same))
-      ]
-    where
-      only : (x y : Note) → Some x ≡ Some y → x ≡ y
-      only x y e = cc
+      let count = v.safe.rise.past n note is in
+      elim rose [ inl r ↦ inl (omega (arith, r, count.0)) | inr r ↦ inr (omega (arith, r, count.1)) ]
 
   module _ (o : Option LogState) (is : o ≡ None) (f s f' s' : D) (h : History) (r : Keeps seen moment images faults o f s mounted h)
       (a : LeavesOnly moment images f f' (images f (moment f))) (b : LeavesOnly moment images s s' (images s (moment s))) (first_later : faults f ≤ faults f') (second_later : faults s ≤ faults s') where

@@ -2,7 +2,6 @@
 ghost use Rattle.std.specs.Prelude.{◌≡◌, ◌⊎◌, ◌<◌, ◌≤◌, ℕ, true, false, length, List, Option, Some, None, All, OnOk, OnErr, IfErr, IsErrOf, IsSome};
 ghost use Rattle.muck_codec.specs.inner.Stored.{IsStored};
 ghost use Rattle.muck_io.specs.Faults.{Rose};
-ghost use Rattle.muck_log.specs.File.{after_number};
 ghost use Rattle.muck_log.specs.Store.{LogState, IsMounted};
 ghost use Rattle.muck_model.specs.declared.tune.Tune.{Tune};
 ghost use Rattle.muck_log.specs.World.{tune_fits};
@@ -14,7 +13,7 @@ ghost use Rattle.spec_dumps.specs.inner.Holding.{Keeps};
 ghost use Rattle.spec_events.specs.Histories.{History};
 ghost use Rattle.spec_live.specs.Objects.{Entry};
 ghost use Rattle.muck_dumping.specs.inner.Dumps.{HasRisen, IsMountingFault, Appended};
-ghost use Rattle.muck_dumping.specs.inner.Between.{IsReady, IsBatchOf, HoldsThese, GoesByMarks, base_in};
+ghost use Rattle.muck_dumping.specs.inner.Between.{IsReady, IsBatchOf, HoldsThese, GoesByMarks, Knows, base_in, next_number};
 
 use crate::parts::Pending;
 use muck_codec::Stored;
@@ -69,7 +68,7 @@ impl Store {
     ) -> Result<(), LogFault>
         ensures some { OnOk result (IsSome self.new.log) }
         ensures none { OnErr result (self.new.log ≡ None) }
-        ensures marks { (h : History) → GoesByMarks self.old.marks self.old.log h → GoesByMarks self.new.marks self.new.log h }
+        ensures knows { (h : History) → Knows self.old h → Knows self.new h }
 
         // Nothing is lost by it. What the disks show is no damaged store; it can't be mounted where a count of faults rose since the last note, or
         // memory is wanted.
@@ -78,6 +77,8 @@ impl Store {
         ensures fault { (mounted : ℕ) (h : History) → D.tells ≡ true → Keeps D.seen D.moment D.images D.faults self.old.log first.old second.old mounted h → IfErr result IsMountingFault }
         ensures risen { (mounted : ℕ) (h : History) → D.tells ≡ true → Keeps D.seen D.moment D.images D.faults self.old.log first.old second.old mounted h
             → IsErrOf result LogFault.DiskFault → HasRisen D.faults first.new second.new h }
+        ensures first_attached { D.attached first.new ≡ D.attached first.old }
+        ensures second_attached { D.attached second.new ≡ D.attached second.old }
         ensures first_later { D.faults first.old ≤ D.faults first.new }
         ensures second_later { D.faults second.old ≤ D.faults second.new }
         ensures cause { IsErrOf result LogFault.DiskFault → Rose (D.faults first.old) (D.faults first.new) ⊎ Rose (D.faults second.old) (D.faults second.new) }
@@ -91,7 +92,7 @@ impl Store {
 
     // The number of the next dump.
     pub(crate) fn next(&self) -> u64
-        ensures { (log : LogState) → self.now.log ≡ Some log → result ≡ after_number log.chosen.held.number }
+        ensures { result ≡ next_number self.now }
     {
         match &self.log {
             Some(log) => log.next(),
@@ -124,7 +125,8 @@ impl Store {
 
     // The log has to be mounted again, and the next dump has this number.
     fn close(&mut self, number: u64)
-        ensures { self.new.log ≡ None }
+        ensures none { self.new.log ≡ None }
+        ensures number { self.new.number ≡ number }
     {
         self.number = number;
         self.log = None;
@@ -143,11 +145,14 @@ impl Store {
         requires mounted { (log : LogState) → D.tells ≡ true → self.old.log ≡ Some log → IsMounted D.seen D.moment D.images log first.old second.old }
         ensures some { OnOk result (IsSome self.new.log) }
         ensures none { OnErr result (self.new.log ≡ None) }
+        ensures number { OnErr result (self.new.number ≡ next_number self.old) }
         ensures marks { (es : List Entry) (tune : Tune) → IsBatchOf (base_in self.old.log) es tune pending.now → HoldsThese self.new.marks self.new.log es }
         ensures wrote { (log : LogState) (es : List Entry) (tune : Tune) → D.tells ≡ true → self.old.log ≡ Some log → LeavesOut (base_of log) (persist es) pending.now.batch.records → pending.now.batch.tune ≡ tune → pending.now.size ≡ length es
             → tune_fits tune ≡ true → 2 ≤ length es → length log.chosen.held.world.objects ≤ length es
             → Appended D.seen D.moment D.images (payload_of log (world_batch es tune)) (record { objects = persist es; tune = tune }) log self.new.log first.old second.old first.new second.new result }
         ensures stale { self.old.log ≡ None → (result ≡ Err LogFault.Stale) × ((first.new ≡ first.old) × (second.new ≡ second.old)) }
+        ensures first_attached { D.attached first.new ≡ D.attached first.old }
+        ensures second_attached { D.attached second.new ≡ D.attached second.old }
         ensures first_later { D.faults first.old ≤ D.faults first.new }
         ensures second_later { D.faults second.old ≤ D.faults second.new }
         ensures cause { IsErrOf result LogFault.DiskFault → Rose (D.faults first.old) (D.faults first.new) ⊎ Rose (D.faults second.old) (D.faults second.new) }

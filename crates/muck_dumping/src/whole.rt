@@ -5,7 +5,7 @@ ghost use Rattle.spec_dumps.specs.inner.Holding.{Keeps};
 ghost use Rattle.spec_events.specs.Histories.{now};
 ghost use Rattle.spec_events.specs.Steps.{may_cut};
 ghost use Rattle.muck_dumping.specs.inner.Dumps.{Dumps, HasDumped};
-ghost use Rattle.muck_dumping.specs.inner.Between.{IsReady, GoesByMarks};
+ghost use Rattle.muck_dumping.specs.inner.Between.{IsReady, Knows};
 
 use crate::parts::{begin, end, write};
 use crate::store::Store;
@@ -26,8 +26,10 @@ fn dump_unmounted<D: Disk>(
 ) -> Result<Option<LogFault>, NoMemory>
     requires alive { (now world.old).dead ≡ false }
     requires may { may_cut (now world.old) party ≡ true }
+    requires knows { Knows store.now world.old }
     requires unmounted { store.now.log ≡ None }
     ensures happened { HasDumped party world.old world.new result }
+    ensures knows { OnOk result (Knows store.now world.new) }
     ensures same { IfOk result (λ o. o ≡ Some fault) }
     ensures kept { (mounted : ℕ) → D.tells ≡ true → fault ≡ LogFault.DiskFault → IsReady D.seen D.moment D.images D.faults store.now.log first.now second.now mounted world.old
         → Dumps D.seen D.moment D.images D.faults store.now.log first.now second.now mounted world.new result }
@@ -52,12 +54,14 @@ fn dump_mounted<D: Disk>(
     requires alive { (now world.old).dead ≡ false }
     requires may { may_cut (now world.old) party ≡ true }
     requires some { IsSome store.old.log }
-    requires marks { GoesByMarks store.old.marks store.old.log world.old }
+    requires knows { Knows store.old world.old }
     requires mounted { D.tells ≡ true → (mounted : ℕ) × Keeps D.seen D.moment D.images D.faults store.old.log first.old second.old mounted world.old }
     ensures happened { HasDumped party world.old world.new result }
-    ensures marks { OnOk result (GoesByMarks store.new.marks store.new.log world.new) }
+    ensures knows { OnOk result (Knows store.new world.new) }
     ensures kept { (mounted : ℕ) → D.tells ≡ true → Keeps D.seen D.moment D.images D.faults store.old.log first.old second.old mounted world.old
         → Dumps D.seen D.moment D.images D.faults store.new.log first.new second.new mounted world.new result }
+    ensures first_attached { D.attached first.new ≡ D.attached first.old }
+    ensures second_attached { D.attached second.new ≡ D.attached second.old }
     ensures first_later { D.faults first.old ≤ D.faults first.new }
     ensures second_later { D.faults second.old ≤ D.faults second.new }
     ensures cause { IfOk result (λ o. o ≡ Some LogFault.DiskFault → Rose (D.faults first.old) (D.faults first.new) ⊎ Rose (D.faults second.old) (D.faults second.new)) }
@@ -96,12 +100,14 @@ pub fn dump<D: Disk>(
 ) -> Result<Option<LogFault>, NoMemory>
     requires alive { (now world.old).dead ≡ false }
     requires may { may_cut (now world.old) party ≡ true }
-    requires marks { GoesByMarks store.old.marks store.old.log world.old }
+    requires knows { Knows store.old world.old }
     requires mounted { D.tells ≡ true → (mounted : ℕ) × Keeps D.seen D.moment D.images D.faults store.old.log first.old second.old mounted world.old }
     ensures happened { HasDumped party world.old world.new result }
-    ensures marks { OnOk result (GoesByMarks store.new.marks store.new.log world.new) }
+    ensures knows { OnOk result (Knows store.new world.new) }
     ensures kept { (mounted : ℕ) → D.tells ≡ true → Keeps D.seen D.moment D.images D.faults store.old.log first.old second.old mounted world.old
         → Dumps D.seen D.moment D.images D.faults store.new.log first.new second.new mounted world.new result }
+    ensures first_attached { D.attached first.new ≡ D.attached first.old }
+    ensures second_attached { D.attached second.new ≡ D.attached second.old }
     ensures first_later { D.faults first.old ≤ D.faults first.new }
     ensures second_later { D.faults second.old ≤ D.faults second.new }
     ensures cause { IfOk result (λ o. o ≡ Some LogFault.DiskFault → Rose (D.faults first.old) (D.faults first.new) ⊎ Rose (D.faults second.old) (D.faults second.new)) }

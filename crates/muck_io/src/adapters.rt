@@ -1,14 +1,52 @@
 // A source, a sink and a clock over those of std. They tell no bytes and no answers.
 ghost use Rattle.std.specs.Prelude.{◌≡◌, None};
+ghost use Rattle.std.specs.Io.{ReadsAtMost, WritesAtMost};
 ghost use Rattle.muck_io.specs.inner.Clock.{Answers};
 
 use crate::{Clock, Got, Put, Sink, Source};
-use std::io::{Read, Write};
+use std::io::{Error, ErrorKind, Read, Result, Write};
 use std::marker::Model;
 use std::time::{SystemTime, UNIX_EPOCH};
 
-/// A source over a reader, as the standard input. An error of the reader is a fault. Contracts see
-/// it as its count of faults.
+// How often a call that a signal interrupts is made.
+const TRIES: u32 = 1000;
+
+// One read, made again where a signal interrupts it.
+fn read_again<R: Read>(reader: &mut R, buf: &mut [u8]) -> Result<usize>
+    ensures bound { ReadsAtMost result buf.new }
+{
+    for _ in 0..TRIES {
+        match reader.read(buf) {
+            Ok(n) => return Ok(n),
+            Err(error) => {
+                if error.kind() != ErrorKind::Interrupted {
+                    return Err(error);
+                }
+            }
+        }
+    }
+    Err(Error::from(ErrorKind::Interrupted))
+}
+
+// One write, made again where a signal interrupts it.
+fn write_again<W: Write>(writer: &mut W, bytes: &[u8]) -> Result<usize>
+    ensures bound { WritesAtMost result bytes.now }
+{
+    for _ in 0..TRIES {
+        match writer.write(bytes) {
+            Ok(n) => return Ok(n),
+            Err(error) => {
+                if error.kind() != ErrorKind::Interrupted {
+                    return Err(error);
+                }
+            }
+        }
+    }
+    Err(Error::from(ErrorKind::Interrupted))
+}
+
+/// A source over a reader, as the standard input. An error of the reader is a fault, but for a read that a
+/// signal interrupts, which is made again. Contracts see it as its count of faults.
 #[derive(Drop)]
 pub struct ReaderSource<R: Read + Drop> {
     reader: R,
@@ -38,7 +76,7 @@ impl<R: Read + Drop> Source for ReaderSource<R> {
     ghost faults = { λ s. s };
 
     fn read(&mut self, buf: &mut [u8]) -> Got {
-        match self.reader.read(buf) {
+        match read_again(&mut self.reader, buf) {
             Ok(0) => Got::End,
             Ok(n) => Got::Bytes(n),
             Err(_) => {
@@ -49,8 +87,9 @@ impl<R: Read + Drop> Source for ReaderSource<R> {
     }
 }
 
-/// A sink over a writer, as the standard output. An error of the writer is a fault, and so is a write
-/// that takes nothing of a piece that has bytes. Contracts see it as its count of faults.
+/// A sink over a writer, as the standard output. An error of the writer is a fault, but for a write that a
+/// signal interrupts, which is made again; and so is a write that takes nothing of a piece that has bytes.
+/// Contracts see it as its count of faults.
 #[derive(Drop)]
 pub struct WriterSink<W: Write + Drop> {
     writer: W,
@@ -80,7 +119,7 @@ impl<W: Write + Drop> Sink for WriterSink<W> {
     ghost faults = { λ s. s };
 
     fn write(&mut self, bytes: &[u8]) -> Put {
-        match self.writer.write(bytes) {
+        match write_again(&mut self.writer, bytes) {
             Ok(n) => {
                 if n == 0 && !bytes.is_empty() {
                     self.faults = self.faults.saturating_add(1);

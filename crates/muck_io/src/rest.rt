@@ -1,9 +1,12 @@
 // What a thread does while it waits.
 
-/// What a thread that waits for its turn does between two looks.
+/// What a thread does while it waits. Neither call changes anything that a contract sees.
 pub trait Rest {
-    /// Rests. It changes nothing that a contract sees.
+    /// Rests, where there is nothing to do for a while.
     fn rest(&self);
+
+    /// Waits for a moment: for its turn between two looks, or between two rounds of work that comes at any time.
+    fn pause(&self);
 }
 
 /// No rest at all: the thread looks again at once.
@@ -12,6 +15,8 @@ pub struct NoRest;
 
 impl Rest for NoRest {
     fn rest(&self) {}
+
+    fn pause(&self) {}
 }
 
 /// The rest of a thread that leaves the processor to others.
@@ -20,6 +25,10 @@ pub struct YieldRest;
 
 impl Rest for YieldRest {
     fn rest(&self) {
+        self.pause();
+    }
+
+    fn pause(&self) {
         std::thread::yield_now();
     }
 }

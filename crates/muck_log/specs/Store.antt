@@ -89,6 +89,7 @@ MayBe place bytes old new = IsKept place old new ⊎ IsDone place bytes old new
 pub record LeavesOnly {D : Type 0} (moment : D → ℕ) (images : D → ℕ → List ℕ → Type 0) (old new : D) (P : List ℕ → Type 0) : Type 0 where
   pub later : moment old ≤ moment new
   pub kept : (t : ℕ) (c : List ℕ) → t ≤ moment old → images new t c → images old t c
+  pub stays : (t : ℕ) (c : List ℕ) → t ≤ moment old → images old t c → images new t c
   pub each : (t : ℕ) (c : List ℕ) → moment old ≤ t → t ≤ moment new → images new t c → P c
 
 -- What a log knows.
@@ -114,6 +115,8 @@ pub record LeavesBoth {D : Type 0} (moment : D → ℕ) (images : D → ℕ → 
   pub second_later : moment second ≤ moment second'
   pub first_kept : (t : ℕ) (c : List ℕ) → t ≤ moment first → images first' t c → images first t c
   pub second_kept : (t : ℕ) (c : List ℕ) → t ≤ moment second → images second' t c → images second t c
+  pub first_stays : (t : ℕ) (c : List ℕ) → t ≤ moment first → images first t c → images first' t c
+  pub second_stays : (t : ℕ) (c : List ℕ) → t ≤ moment second → images second t c → images second' t c
   pub each : (t u : ℕ) (c d : List ℕ) → moment first ≤ t → t ≤ moment first' → moment second ≤ u → u ≤ moment second' → images first' t c → images second' u d → P c d
 
 -- a batch is being written into one of them

@@ -1,5 +1,5 @@
 -- A world stays the one after its history.
-use Rattle.std.proofs.Common.{◌≡◌, ◌≢◌, ℕ, Bool, true, false, cond, List, [], ◌∷◌, ◌++◌, refl, sym, ◌∙◌, ap, subst, find, ◌||◌, Option, None, Some, Result, Ok, Err, OnOk, length}
+use Rattle.std.proofs.Common.{◌≡◌, ◌≢◌, ℕ, zero, suc, Bool, true, false, cond, List, [], ◌∷◌, ◌++◌, refl, sym, ◌∙◌, ap, subst, find, ◌||◌, Option, None, Some, Result, Ok, Err, OnOk, length}
 use Rattle.std.proofs.lemmas.Bool.{cond-true, cond-false}
 use Rattle.std.specs.Prelude.{ℤ}
 use Rattle.std.specs.Option.{option_map}
@@ -10,8 +10,12 @@ use Rattle.muck_model.specs.declared.event.Event.TheVariants.{Died}
 use Rattle.muck_model.specs.declared.memory.NoMemory.{NoMemory}
 use Rattle.muck_model.specs.declared.note.Note.{Note}
 use Rattle.muck_queue.specs.Queues.{next_due}
-use Rattle.spec_events.specs.declared.logged.Count.{Count}
-use Rattle.spec_events.specs.World.{World}
+use Rattle.muck_queue.specs.inner.Numbered.{IsNumbered}
+use Rattle.muck_model.specs.declared.note.Count.{Count}
+use Rattle.muck_model.specs.declared.tune.Tune.{Tune}
+use Rattle.spec_live.specs.Objects.{Entry as Kept, mark_in}
+use Rattle.spec_live.specs.Start.{first_objects}
+use Rattle.spec_events.specs.World.{World, booted}
 use Rattle.spec_events.specs.Steps.{is_free, happened, effect, is_died, is_lawful, is_allowed, next_ready, next_process}
 use Rattle.spec_events.specs.Histories.{History, after, now, AllLawful}
 use Rattle.spec_events.specs.Logged.{ArePlaced, IsCountPlaced, IsPlaced}
@@ -21,7 +25,7 @@ use Rattle.spec_events.proofs.Reached.{sound-effect, died_lawful}
 use Rattle.spec_events.proofs.Runs.{after-append, lawful-append}
 use Rattle.spec_events.proofs.Logging.{placed_entered, placed_noted, placed_linked}
 use Rattle.muck_machine.specs.declared.past.Past.{Past}
-use Rattle.muck_machine.specs.inner.Keeping.{Keeps, history, told, remarked, counted_at_end, lost, Concludes}
+use Rattle.muck_machine.specs.inner.Keeping.{AreTold, Keeps, history, told, remarked, counted_at_end, lost, Concludes}
 
 one_more : (start : World) (entries : List Entry) (e : Entry) → after start (entries ++ e ∷ []) ≡ happened (after start entries) e.party e.event
 unfolding effect
@@ -44,15 +48,17 @@ keeps_told p state next e k alive may other is =
       dies = ap (λ (w : World). w.dead) whole ∙ dead-happened e.event (after p.origin p.tale.entries) e.party other ∙ k.dies;
       sound = λ h. subst IsSound (sym (after-append p.tale.entries (e ∷ []) p.origin)) (sound-effect (after p.origin p.tale.entries) e (not_died e.event other) may (k.sound alive));
       lives = λ h. is ∙ ap (λ w. happened w e.party e.event) (k.lives alive) ∙ sym whole;
+      told = k.told;
+      numbered = k.numbered;
     }
 
 -- a note changes nothing of what is kept
 pub keeps_noted : (p : Past) (note : Note) (state : World) → note.entries ≡ length p.tale.entries → Keeps p state → Keeps (remarked note p) state
-keeps_noted p note state at k = record { grows = refl; lawful = k.lawful; placed = placed_noted (history p) note at k.placed; dies = k.dies; sound = k.sound; lives = k.lives }
+keeps_noted p note state at k = record { grows = refl; lawful = k.lawful; placed = placed_noted (history p) note at k.placed; dies = k.dies; sound = k.sound; lives = k.lives; told = k.told; numbered = k.numbered }
 
 -- nor does that of the links
 pub keeps_linked : (p : Past) (cs : List Count) (state : World) → Keeps p state → Keeps (counted_at_end cs p) state
-keeps_linked p cs state k = record { grows = k.grows; lawful = k.lawful; placed = placed_linked (history p) cs k.placed; dies = k.dies; sound = k.sound; lives = k.lives }
+keeps_linked p cs state k = record { grows = refl; lawful = k.lawful; placed = placed_linked (history p) cs k.placed; dies = k.dies; sound = k.sound; lives = k.lives; told = k.told; numbered = k.numbered }
 
 -- memory was wanted, whatever stood before
 pub keeps_lost : (p : Past) (party : ℕ) (state next : World) → Keeps p state → Keeps (lost party p) next
@@ -63,6 +69,8 @@ keeps_lost p party state next k = record {
   dies = ap (λ (w : World). w.dead) (one_more p.origin p.tale.entries (record { party = party; event = Died }));
   sound = λ h. cc;
   lives = λ h. cc;
+  told = k.told;
+  numbered = k.numbered;
 }
 
 -- where something other than Died is lawful, the world isn't dead
@@ -122,11 +130,23 @@ unfolding now is_lawful
 lawful_as p allowed state h e k v alive is =
     is ∙ ap (λ w. is_allowed w e.party e.event) (k.lives alive ∙ ap now v) ∙ sym (cond-false _ _ _ (dead_seen p state h k v ∙ alive))
 
+-- of the objects of which a world is booted, where nothing is to be told of them; and of the first ones nothing is
+pub told_begun : (objects : List Kept) (tune : Tune) (moment start : ℕ) → AreTold objects → AreTold (booted objects tune moment start).live.objects
+unfolding booted
+told_begun objects tune moment start h = h
+
+pub told_first : AreTold first_objects
+unfolding first_objects mark_in
+told_first zero = refl
+told_first (suc zero) = refl
+told_first (suc (suc n)) = refl
+
 -- a world begins, in which nothing has happened yet
-pub keeps_begun : (p : Past) (state : World) → p.tale ≡ record { entries = []; notes = []; open_ended = true } → p.counting ≡ None → p.dead ≡ false → IsSound p.origin → state ≡ p.origin → Keeps p state
-keeps_begun p state t uncounted alive sound is =
+pub keeps_begun : (p : Past) (state : World) → p.tale ≡ record { entries = []; notes = []; counted = None; open_ended = true } → p.dead ≡ false → IsSound p.origin → AreTold p.origin.live.objects → IsNumbered p.origin.queue → state ≡ p.origin → Keeps p state
+keeps_begun p state t alive sound told numbered is =
     let none : p.tale.entries ≡ [] = ap (λ (x : Told). x.entries) t in
     let unnoted : p.tale.notes ≡ [] = ap (λ (x : Told). x.notes) t in
+    let uncounted : p.tale.counted ≡ None = ap (λ (x : Told). x.counted) t in
     record {
       grows = ap (λ (x : Told). x.open_ended) t;
       lawful = subst (AllLawful p.origin) (sym none) tt;
@@ -134,6 +154,8 @@ keeps_begun p state t uncounted alive sound is =
       dies = ap (λ (es : List Entry). (after p.origin es).dead) none ∙ sound.alive ∙ sym alive;
       sound = λ h. subst (λ (es : List Entry). IsSound (after p.origin es)) (sym none) sound;
       lives = λ h. is ∙ sym (ap (after p.origin) none);
+      told = told;
+      numbered = numbered;
     }
 
 -- where it isn't, it is the state that is kept
@@ -199,4 +221,4 @@ alive_if_found w d e = alive w.dead _ e where
 
 -- nothing happened, and the state is as it was
 pub keeps_same : (p : Past) (state next : World) → Keeps p state → next ≡ state → Keeps p next
-keeps_same p state next k e = record { grows = k.grows; lawful = k.lawful; placed = k.placed; dies = k.dies; sound = k.sound; lives = λ h. e ∙ k.lives h }
+keeps_same p state next k e = record { grows = k.grows; lawful = k.lawful; placed = k.placed; dies = k.dies; sound = k.sound; lives = λ h. e ∙ k.lives h; told = k.told; numbered = k.numbered }

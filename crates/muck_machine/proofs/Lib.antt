@@ -3,3 +3,4 @@ pub mod Coming
 pub mod Choosing
 pub mod Taken
 pub mod Seating
+pub mod Licences

@@ -1,7 +1,6 @@
 // How a history began, for contracts alone.
-use muck_model::Note;
+use muck_model::{Count, Note};
 use muck_turns::Origin;
-use spec_events::Count;
 use std::collections::LinkedList;
 
 /// What of a history none of its entries has: the world as it began, and the notes that stand before no entry, which is that of the

@@ -2,7 +2,6 @@
 #![tactic(auto)]
 
 mod beginning;
-mod counting;
 mod past;
 mod world;
 

@@ -3,10 +3,9 @@ ghost use Rattle.std.specs.Prelude.{◌≡◌, true, length};
 ghost use Rattle.muck_machine.specs.inner.Keeping.{told, remarked, counted_at_end, lost, Concludes};
 ghost use Rattle.spec_talks.specs.Counts.{counts};
 
-use crate::counting::{Counted, Counting};
 use muck_disk::Disk;
 use muck_links::Links;
-use muck_model::{Entry, Event, NoMemory, Noted, Tale};
+use muck_model::{Entry, Event, NoMemory, Noted, NotedLinks, Tale};
 use muck_turns::Origin;
 
 /// How a world began, each entry since, the notes between, and whether memory was wanted in the midst of something.
@@ -14,7 +13,6 @@ use muck_turns::Origin;
 pub struct Past {
     pub origin: Origin,
     pub tale: Tale,
-    pub counting: Counting,
     pub dead: bool,
 }
 
@@ -37,11 +35,12 @@ impl Past {
     }
 
     /// What each link had refused is noted behind the entries so far; `N` names that note. It takes no memory.
-    pub fn note_links<N: Counted, L: Links>(&mut self, _links: &L)
-        requires { N.counted ≡ (length self.old.tale.entries, counts (L.told _links.now).sessions) }
+    pub fn note_links<N: NotedLinks, L: Links>(&mut self, _links: &L)
+        requires grows { self.old.tale.open_ended ≡ true }
+        requires named { N.counted ≡ record { entries = length self.old.tale.entries; counts = counts (L.told _links.now).sessions } }
         ensures { self.new ≡ counted_at_end (counts (L.told _links.now).sessions) self.old }
     {
-        self.counting.note::<N>();
+        self.tale.count::<N>();
     }
 
     /// Memory was wanted by a party.

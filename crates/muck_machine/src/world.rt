@@ -1,5 +1,5 @@
 // The world with its history.
-ghost use Rattle.std.specs.Prelude.{◌≡◌, ◌≤◌, IfOk, OnOk, OnErr, MatchOption, length, take, min, true, false, if◌then◌else◌, nat_lt, is_some, option_copied, [], List, ℕ, None};
+ghost use Rattle.std.specs.Prelude.{◌≡◌, ◌≤◌, IfOk, IfSome, OnOk, OnErr, MatchOption, length, take, min, true, false, if◌then◌else◌, nat_lt, is_some, option_copied, [], List, ℕ, None};
 ghost use Rattle.std.specs.Option.{option_map_or};
 ghost use Rattle.muck_model.specs.declared.event.Event.{Event};
 ghost use Rattle.muck_queue.specs.Queues.{is_tied};
@@ -8,13 +8,16 @@ ghost use Rattle.spec_events.specs.World.{starting, booted, connection, queue_of
 ghost use Rattle.spec_events.specs.Steps.{is_lawful, has_claim, is_there, next_ready, next_process};
 ghost use Rattle.spec_events.specs.Histories.{now, entered, by_porter, AllLawful};
 ghost use Rattle.spec_events.specs.Logged.{IsPlaced};
+ghost use Rattle.spec_events.specs.Licences.{EventLicensed};
+ghost use Rattle.spec_events.specs.Sections.{IsWhole};
+ghost use Rattle.spec_events.specs.Slices.{awake, units_of};
 ghost use Rattle.muck_machine.specs.declared.world.Sliced.TheVariants.{Ran, Lost};
 ghost use Rattle.muck_machine.specs.inner.Claims.{slice_event};
+ghost use Rattle.muck_machine.specs.inner.Keeping.{AreTold};
 
 mod dumping;
 mod sharing;
 
-use crate::counting::Counting;
 use crate::past::Past;
 use muck_board::{Board, Connection};
 use muck_db::{Db, Persisted};
@@ -76,9 +79,10 @@ pub enum Sliced {
 
 impl World {
     /// The world of these objects and parameters at this second, in which nobody is connected and nothing has happened
-    /// yet; its random numbers begin with `start`.
+    /// yet; its random numbers begin with `start`. The objects are as a store held them: of none of them a change is still to be told.
     pub fn boot(alloc: Global, from: Persisted, moment: u64, start: u64) -> Result<Self, NoMemory>
-        requires { IsInRange from.tune }
+        requires tune { IsInRange from.tune }
+        requires told { AreTold from.db }
         ensures { IfOk result (λ w. w ≡ record { start = booted from.db from.tune moment start; entries = []; notes = []; counted = None }) }
     {
         let Persisted { db, tune } = from;
@@ -90,7 +94,6 @@ impl World {
         };
         let origin = Origin::new(alloc, &begun)?;
         let tale = Tale::new(alloc)?;
-        let counting = Counting::new(alloc)?;
         let Begun { db, tune, .. } = begun;
         Ok(World {
             state: State {
@@ -106,14 +109,13 @@ impl World {
             past: Past {
                 origin,
                 tale,
-                counting,
                 dead: false,
             },
         })
     }
 
     /// Room Zero and One as they are at first, and nobody connected: nothing has happened yet.
-    #[tactic(auto, unfolding(spec_events::specs::World::starting, spec_live::specs::Boards::first_tune))]
+    #[tactic(auto, unfolding(spec_events::specs::World::starting, spec_live::specs::Boards::first_tune), using(crate::proofs::Keepings::told_first))]
     pub fn starting(alloc: Global) -> Result<Self, NoMemory>
         ensures { IfOk result (λ w. w ≡ record { start = starting; entries = []; notes = []; counted = None }) }
     {
@@ -133,6 +135,7 @@ impl World {
     pub fn into_tale(self) -> Tale
         ensures entries { result.entries ≡ self.entries }
         ensures notes { result.notes ≡ self.notes }
+        ensures counted { result.counted ≡ self.counted }
         ensures lawful { AllLawful self.start result.entries }
     {
         let World { past, .. } = self;
@@ -283,10 +286,12 @@ impl World {
     }
 
     /// The first line of the lowest connection with a line that may be done is done; answers that connection, and
-    /// `None` exactly where there is none, and then nothing happened. After `NoMemory` the world is dead.
+    /// `None` exactly where there is none, and then nothing happened. What changes is open to who gave the line (`licensed`). After
+    /// `NoMemory` the world is dead.
     pub fn exec(&mut self, party: u8) -> Result<Option<u32>, NoMemory>
         ensures found { IfOk result (λ found. found ≡ next_ready (now self.old)) }
         ensures step { IfOk result (λ found. MatchOption found (self.new ≡ self.old) (λ d. self.new ≡ entered self.old (record { party = party; event = Event.Exec d }))) }
+        ensures licensed { IfOk result (λ found. IfSome found (λ d. EventLicensed (Event.Exec d) (now self.old) (now self.new))) }
         ensures died { OnErr result (self.new ≡ entered self.old (record { party = party; event = Event.Died })) }
     {
         let Some(d) = self.next_ready() else {
@@ -323,12 +328,15 @@ impl World {
     }
 
     /// A process that this party has claimed runs for one slice; where it has ended since, that is learned. The claim is over
-    /// then. After `NoMemory` the world is dead.
+    /// then. What each unit changes is open to the level at which its program runs (`licensed`), and a section of a program in preempt lies
+    /// in this one slice (`whole`). After `NoMemory` the world is dead.
     pub fn slice(&mut self, party: u8, pid: i32) -> Result<Sliced, NoMemory>
         requires alive { (now self.old).dead ≡ false }
         requires claim { has_claim party pid (now self.old) ≡ true }
         ensures ran { IfOk result (λ sliced. sliced ≡ (if is_there pid (now self.old) then Ran else Lost)) }
         ensures step { IfOk result (λ sliced. self.new ≡ entered self.old (record { party = party; event = slice_event pid sliced })) }
+        ensures licensed { IfOk result (λ sliced. EventLicensed (slice_event pid sliced) (now self.old) (now self.new)) }
+        ensures whole { IfOk result (λ sliced. sliced ≡ Ran → IsWhole (now self.old).live.board.tune pid (awake pid (now self.old)) (units_of pid (now self.old))) }
         ensures died { OnErr result (self.new ≡ entered self.old (record { party = party; event = Event.Died })) }
     {
         if !self.has_process(pid) {

@@ -11,7 +11,6 @@ use Rattle.muck_model.specs.declared.event.Entry.{Entry}
 use Rattle.muck_model.specs.declared.event.Event.{Event}
 use Rattle.muck_model.specs.declared.event.Event.TheVariants.{Opened, Input, Closed, Moment, Take, Halt, StopSeen, Died}
 use Rattle.muck_model.specs.declared.note.Note.{Note}
-use Rattle.spec_events.specs.declared.logged.Count.{Count}
 use Rattle.spec_events.specs.declared.logged.Logged.{Logged}
 use Rattle.spec_events.specs.World.{World, queue_of}
 use Rattle.spec_events.specs.Histories.{after, AllLawful, by_porter}
@@ -28,6 +27,7 @@ use Rattle.spec_serve.specs.Accounts.{Cause, Agrees}
 use Rattle.spec_serve.specs.Promises.{Tally, HaltCause, Promised, PromisedOf}
 use Rattle.spec_serve.specs.inner.Keeping.{Peer, new_peer}
 use Rattle.spec_serve.specs.inner.Books.{BooksOf}
+use Rattle.spec_serve.proofs.Counted.{counts_made}
 use Rattle.spec_serve.proofs.Noting.{books_noted, agrees_noted}
 use Rattle.spec_serve.proofs.Pairs.{all2_map}
 use Rattle.spec_serve.proofs.Promising.{books_promised}
@@ -91,7 +91,7 @@ module _ (noted noted' : Bool) (k : Told) (v v' : Sight) (w : World) (event : Ev
       where
         from : Marked noted noted' k w turn.item.counted → noted' ≡ is_some (note_in v'.own)
         from (Marked.kept same none free) = same ∙ known ∙ ap is_some (sym (note_after ∙ ap (first_note (note_in v.own)) none ∙ first_none (note_in v.own)))
-        from (Marked.made was now_is stopping is) = now_is ∙ ap is_some (sym (note_after ∙ ap (λ (o : LinksNote). first_note o turn.item.counted) (none_before was) ∙ is))
+        from (Marked.made was now_is stopping alive is) = now_is ∙ ap is_some (sym (note_after ∙ ap (λ (o : LinksNote). first_note o turn.item.counted) (none_before was) ∙ is))
 
     -- the books with that note
     books_marked : (b : Tally) (n : ℕ) (peers : List Peer) (coming : Option ℕ) (u : World) (h : List Entry) → BooksOf (note_in v.own) b u h (tally k n) peers coming → BooksOf (note_in v'.own) b u h (tally k n) peers coming
@@ -99,7 +99,7 @@ module _ (noted noted' : Bool) (k : Told) (v v' : Sight) (w : World) (event : Ev
       where
         from : Marked noted noted' k w turn.item.counted → BooksOf (note_in v'.own) b u h (tally k n) peers coming
         from (Marked.kept same none free) = subst (λ (o : LinksNote). BooksOf o b u h (tally k n) peers coming) (sym (note_after ∙ ap (first_note (note_in v.own)) none ∙ first_none (note_in v.own))) bk
-        from (Marked.made was now_is stopping is) =
+        from (Marked.made was now_is stopping alive is) =
             subst (λ (o : LinksNote). BooksOf o b u h (tally k n) peers coming) (sym (note_after ∙ ap (λ (o : LinksNote). first_note o turn.item.counted) (none_before was) ∙ is))
             (books_noted b (talks u h) (worlds_at is_halt u h) (tally k n) peers coming (subst (λ (o : LinksNote). BooksOf o b u h (tally k n) peers coming) (none_before was) bk))
 
@@ -107,14 +107,22 @@ module _ (noted noted' : Bool) (k : Told) (v v' : Sight) (w : World) (event : Ev
     promised_marked : (b : Tally) (n : ℕ) (ts : List Talk) (hs : List World) → Promised (note_in v.own) b ts hs (tally k n) → Promised (note_in v'.own) b ts hs (tally k n)
     promised_marked b n ts hs p = from turn.marked
       where
-        with_note : (cs : List Count) → Promised None b ts hs (tally k n) → Promised (Some cs) b ts hs (tally k n)
-        with_note cs q = record { mine = q.mine; extra = q.extra; whole = q.whole; single = q.single; agree = all2_map (Agrees None) (Agrees (Some cs)) (agrees_noted cs) ts q.mine q.agree; halts = q.halts }
+        with_note : Promised None b ts hs (tally k n) → Promised (Some (counts k.sessions)) b ts hs (tally k n)
+        with_note q = record {
+          mine = q.mine;
+          extra = q.extra;
+          whole = q.whole;
+          single = q.single;
+          agree = all2_map (Agrees None) (Agrees (Some (counts k.sessions))) (agrees_noted (counts k.sessions)) ts q.mine q.agree;
+          counts = counts_made k.sessions;
+          halts = q.halts;
+        }
 
         from : Marked noted noted' k w turn.item.counted → Promised (note_in v'.own) b ts hs (tally k n)
         from (Marked.kept same none free) = subst (λ (o : LinksNote). Promised o b ts hs (tally k n)) (sym (note_after ∙ ap (first_note (note_in v.own)) none ∙ first_none (note_in v.own))) p
-        from (Marked.made was now_is stopping is) =
+        from (Marked.made was now_is stopping alive is) =
             subst (λ (o : LinksNote). Promised o b ts hs (tally k n)) (sym (note_after ∙ ap (λ (o : LinksNote). first_note o turn.item.counted) (none_before was) ∙ is))
-            (with_note (counts k.sessions) (subst (λ (o : LinksNote). Promised o b ts hs (tally k n)) (none_before was) p))
+            (with_note (subst (λ (o : LinksNote). Promised o b ts hs (tally k n)) (none_before was) p))
 
     -- how an entry leads from books to books, with the note that there is then
     abbrev pub Moves : Tally → Tally → Tally → List Peer → List Peer → Option ℕ → Option ℕ → Type 0

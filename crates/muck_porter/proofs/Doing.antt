@@ -13,7 +13,8 @@ use Rattle.spec_events.specs.declared.logged.Logged.{Logged}
 use Rattle.spec_events.specs.World.{World}
 use Rattle.spec_events.specs.Histories.{by_porter}
 use Rattle.spec_events.specs.Logged.{entries_of, events_of}
-use Rattle.spec_events.specs.Own.{Stage, IsWellFormed}
+use Rattle.spec_events.specs.Own.{Stage, IsWellFormed, IsOver}
+use Rattle.spec_events.proofs.Owning.{over_with}
 use Rattle.spec_talks.specs.Parties.{worlds_at, is_halt}
 use Rattle.spec_talks.specs.Talks.{talks}
 use Rattle.spec_serve.specs.Marks.{LinksNote}
@@ -60,14 +61,14 @@ linked_books b v k k' n peers coming i p p' at step bk u m root =
       nobody = bi.nobody;
       later = bi.later;
       books = subst (λ (x : Told). BooksOf (note_in v.own) b u (entries_of v.seen) (tally x n) (set peers i p') coming) (sym step.told)
-          (books_linked (note_in v.own) b (talks u (entries_of v.seen)) (worlds_at is_halt u (entries_of v.seen)) (tally k n) peers coming i p p' step.change at step.number step.link step.keeps bi.books);
+          (books_linked (note_in v.own) b (talks u (entries_of v.seen)) (worlds_at is_halt u (entries_of v.seen)) (tally k n) peers coming i p p' step.change at step.number step.link step.refuses step.keeps bi.books);
     }
 
 pub lost_books : (b : Tally) (v : Sight) (k k' : Told) (n : ℕ) (peers : List Peer) (coming : Option ℕ) (i : ℕ) (p : Peer) → get_elem? peers i ≡ some p → LinkLoss (note_in v.own) p k k'
     → BooksAt b v (tally k n) peers coming → PromisedIn b v v.seen (tally k' n)
 lost_books b v k k' n peers coming i p at loss bk u m root =
     subst (λ (x : Told). PromisedOf (note_in v.own) b u (entries_of v.seen) (tally x n)) (sym loss.told)
-    (books_lost (note_in v.own) b (talks u (entries_of v.seen)) (worlds_at is_halt u (entries_of v.seen)) (tally k n) peers coming i p loss.change at loss.agrees (bk u m root).books)
+    (books_lost (note_in v.own) b (talks u (entries_of v.seen)) (worlds_at is_halt u (entries_of v.seen)) (tally k n) peers coming i p loss.change at loss.link loss.refuses loss.agrees (bk u m root).books)
 
 -- no call for a link asks to listen
 
@@ -129,6 +130,9 @@ module _ (noted noted' : Bool) (k : Told) (me me' : Chair) (w : World) (event : 
   pub died_over : IsFree me.0.own → event ≡ Died → Over me'
   died_over free is = over_at me' Stage.ended r (stage_died me.0.own me'.0.own turn.item turn.own (turn.entry ∙ ap by_porter is) free)
 
+  pub died_ended : IsFree me.0.own → event ≡ Died → IsOver 0 (events_of me'.0.own)
+  died_ended free is = over_with 0 (events_of me'.0.own) Stage.ended (stage_died me.0.own me'.0.own turn.item turn.own (turn.entry ∙ ap by_porter is) free) refl
+
   pub turn_resting : Resting noted' me'
   turn_resting = record { rests = r; known = turn_noted noted noted' k me.0 me'.0 w event turn known }
 
@@ -172,6 +176,9 @@ module _ (noted noted' : Bool) (k : Told) (me me' : Chair) (w : World) (event : 
 
   pub die_over : IsFree me.0.own → (did : Did) (ps : List Peer) → DidAs Die did noted' ps w event → Over me'
   die_over free did ps is = died_over noted noted' k me me' w event r turn known free (die_is did ps is)
+
+  pub die_ended : IsFree me.0.own → (did : Did) (ps : List Peer) → DidAs Die did noted' ps w event → IsOver 0 (events_of me'.0.own)
+  die_ended free did ps is = died_ended noted noted' k me me' w event r turn known free (die_is did ps is)
 
   -- a deed for which memory was wanted
   pub dead_did : (deed : Deed) (did : Did) (ps : List Peer) → did ≡ Dead → DidAs deed did noted' ps w event → event ≡ Died

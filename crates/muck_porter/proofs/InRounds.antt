@@ -8,9 +8,11 @@ use Rattle.muck_model.specs.declared.event.Event.TheVariants.{Opened, Exec, Clai
 use Rattle.muck_model.specs.declared.note.Note.{Note}
 use Rattle.spec_events.specs.World.{World}
 use Rattle.spec_events.specs.Histories.{after, by_porter}
-use Rattle.spec_events.specs.Logged.{logged_by, entries_of}
+use Rattle.spec_events.specs.Logged.{logged_by, entries_of, events_of}
 use Rattle.spec_events.specs.declared.logged.Logged.{Logged}
-use Rattle.spec_events.specs.Own.{Stage, next, stage_of}
+use Rattle.spec_events.specs.Own.{Stage, next, stage_of, IsWellFormed, IsOver}
+use Rattle.spec_events.proofs.Logging.{events_append}
+use Rattle.spec_events.proofs.Owning.{over_with, over_stop}
 use Rattle.turn_lock.specs.Histories.{own_of}
 use Rattle.spec_talks.specs.Parties.{worlds_at, is_halt}
 use Rattle.spec_talks.specs.Talks.{talks}
@@ -47,7 +49,7 @@ use Rattle.muck_porter.proofs.Items.{same_world}
 use Rattle.muck_porter.proofs.Timing.{timed_fresh}
 use Rattle.muck_porter.proofs.Stages.{stage_item, stage_free, same_claim}
 use Rattle.muck_porter.proofs.Carrying.{IsQuiet, quiet_moment, quiet_stop, carries_opened, carries_halted, promised_in, kept_now}
-use Rattle.muck_porter.proofs.Doing.{over_at, turn_resting, moment_ready, moment_carries, quiet_carries, died_ends, died_over, timed_ready}
+use Rattle.muck_porter.proofs.Doing.{over_at, turn_resting, moment_ready, moment_carries, quiet_carries, died_ends, died_over, died_ended, timed_ready}
 
 -- where a link may come
 
@@ -203,6 +205,9 @@ module _ (noted noted' : Bool) (k : Told) (me me' : Chair) (w : World) (event : 
     pub slice_over : (pid : ℤ) → IsAt (Stage.claimed pid) me.0.own → event ≡ Died → Over me'
     slice_over pid at is = over_at me' Stage.ended r (stage_item me.0.own me'.0.own turn.item Died (Stage.claimed pid) Stage.ended turn.own (turn.entry ∙ ap by_porter is) at refl)
 
+    pub slice_ended : (pid : ℤ) → IsAt (Stage.claimed pid) me.0.own → event ≡ Died → IsOver 0 (events_of me'.0.own)
+    slice_ended pid at is = over_with 0 (events_of me'.0.own) Stage.ended (stage_item me.0.own me'.0.own turn.item Died (Stage.claimed pid) Stage.ended turn.own (turn.entry ∙ ap by_porter is) at refl) refl
+
   -- Work, at once behind a moment.
   module _ (timed : ReadyTimed noted me) (ps : List Peer) (worked : Worked) where
     free_before : IsFree me.0.own
@@ -264,6 +269,9 @@ module _ (noted noted' : Bool) (k : Told) (me me' : Chair) (w : World) (event : 
 
     pub work_over : worked ≡ WorkedDead → WorkedAs worked event → Over me'
     work_over is x = died_over noted noted' k me me' w event r turn timed.resting.known free_before (subst (λ (y : Worked). WorkedAs y event) is x)
+
+    pub work_ended : worked ≡ WorkedDead → WorkedAs worked event → IsOver 0 (events_of me'.0.own)
+    work_ended is x = died_ended noted noted' k me me' w event r turn timed.resting.known free_before (subst (λ (y : Worked). WorkedAs y event) is x)
 
 pub time_never : (did : Did) (noted : Bool) (ps : List Peer) (w : World) (event : Event) → did ≡ Done → DidAs Time did noted ps w event → ⊥
 time_never did noted ps w event is x = subst (λ (y : Did). DidAs Time y noted ps w event) is x
@@ -427,3 +435,10 @@ comes_as v v' K K' ps ps' o o' coming is = subst (λ (x : Option Peer). Carries 
 
 pub ends_as : (v v' : Sight) (K K' : Tally) (ps : List Peer) (o o' : Option Peer) → o ≡ o' → Ends v v' K K' ps (number_in o') → Ends v v' K K' ps (number_in o)
 ends_as v v' K K' ps o o' is = subst (λ (x : Option Peer). Ends v v' K K' ps (number_in x)) (sym is)
+
+-- The porter has seen the stop: its own entries are over.
+pub stop_over : (own : List Logged) → EndsWithStop own → IsWellFormed 0 (events_of own) → IsOver 0 (events_of own)
+stop_over own ends formed =
+    let events : events_of own ≡ events_of ends.0 ++ StopSeen ∷ [] =
+    ap events_of ends.2 ∙ events_append ends.0 (ends.1 ∷ []) ∙ ap (λ e. events_of ends.0 ++ e.event ∷ []) ends.3 in
+    subst (IsOver 0) (sym events) (over_stop 0 (events_of ends.0) (subst (IsWellFormed 0) events formed))

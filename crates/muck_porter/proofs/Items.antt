@@ -1,13 +1,12 @@
 -- Items of a history.
 use Rattle.std.proofs.Common.{◌≡◌, ℕ, suc, false, List, [], ◌∷◌, ◌++◌, refl, ap, Some, None}
 use Rattle.std.specs.Prelude.{is_some}
-use Rattle.std.specs.Option.{option_map}
 use Rattle.muck_model.specs.declared.note.Note.{Note}
-use Rattle.spec_events.specs.declared.logged.Count.{Count}
+use Rattle.muck_model.specs.declared.note.Count.{Count}
 use Rattle.spec_events.specs.declared.logged.Logged.{Logged}
 use Rattle.spec_events.specs.World.{World}
 use Rattle.spec_events.specs.Logged.{NoCounts, placed_count, count_from}
-use Rattle.spec_serve.specs.Marks.{LinksNote}
+use Rattle.spec_serve.specs.Marks.{LinksNote, counts_in}
 use Rattle.muck_machine.specs.declared.beginning.Beginning.{Beginning}
 use Rattle.muck_machine.specs.inner.Beginnings.{begun}
 use Rattle.muck_porter.specs.inner.Notes.{first_note, note_in}
@@ -47,10 +46,10 @@ some_is None e = refl
 some_is (Some cs) e = cc
 
 -- the note of a history, by its items
-pub note_count : (n : ℕ) (ls : List Logged) → option_map (λ c. c.1) (count_from n ls) ≡ note_in ls
+pub note_count : (n : ℕ) (ls : List Logged) → counts_in (count_from n ls) ≡ note_in ls
 note_count n [] = refl
 note_count n (l ∷ ls) = from l.counted (note_count (suc n) ls)
   where
-    from : (o : LinksNote) → option_map (λ c. c.1) (count_from (suc n) ls) ≡ note_in ls → option_map (λ c. c.1) (placed_count n o (count_from (suc n) ls)) ≡ first_note o (note_in ls)
+    from : (o : LinksNote) → counts_in (count_from (suc n) ls) ≡ note_in ls → counts_in (placed_count n o (count_from (suc n) ls)) ≡ first_note o (note_in ls)
     from None e = e
     from (Some cs) e = refl

@@ -1,4 +1,5 @@
 pub mod Items
+pub mod Noted
 pub mod Timing
 pub mod Stages
 pub mod Turning

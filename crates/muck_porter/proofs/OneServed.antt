@@ -11,7 +11,8 @@ use Rattle.muck_model.specs.declared.event.Event.TheVariants.{Input, Closed, Tak
 use Rattle.spec_events.specs.declared.logged.Logged.{Logged}
 use Rattle.spec_events.specs.World.{World}
 use Rattle.spec_events.specs.Histories.{by_porter}
-use Rattle.spec_events.specs.Own.{Stage}
+use Rattle.spec_events.specs.Logged.{events_of}
+use Rattle.spec_events.specs.Own.{Stage, IsOver}
 use Rattle.spec_serve.specs.inner.Keeping.{Peer}
 use Rattle.spec_serve.proofs.Booking.{set_there}
 use Rattle.muck_machine.specs.inner.Seats.{Chair, Rests}
@@ -26,7 +27,7 @@ use Rattle.muck_porter.specs.inner.Moves.{CarriesOn, EndsAll}
 use Rattle.muck_porter.specs.inner.Rounds.{WroteAt, ClosedAt, Nearer}
 use Rattle.muck_porter.proofs.Stages.{stage_free}
 use Rattle.muck_porter.proofs.Carrying.{turn_noted, carries_peer, carries_closed, set_again}
-use Rattle.muck_porter.proofs.Doing.{at_below, linked_books, turn_resting, moment_ready, moment_carries, died_ends, died_over, over_free}
+use Rattle.muck_porter.proofs.Doing.{at_below, linked_books, turn_resting, moment_ready, moment_carries, died_ends, died_over, died_ended, over_free}
 
 peer_free : (own own' : List Logged) (item : Logged) (p p' : Peer) (w : World) (event : Event) → own' ≡ own ++ item ∷ [] → item.entry ≡ by_porter event → IsFree own → PeerStep p p' w event → IsFree own'
 peer_free own own' item p p' w event is entry free (PeerStep.heard line more e ready same) = IsFree.unbound (stage_free own own' item is (Input p.number line) Stage.unbound (entry ∙ ap by_porter e) free refl refl)
@@ -113,6 +114,9 @@ module _ (noted noted' : Bool) (k : Told) (me me' : Chair) (w : World) (event : 
 
   pub dead_over : served ≡ ServedDead → Over me'
   dead_over is = died_over noted noted' k me me' w event r turn ready.resting.known ready.free (subst (λ (y : Served). ServedAs y ps ps1 w event) is did)
+
+  pub dead_ended : served ≡ ServedDead → IsOver 0 (events_of me'.0.own)
+  dead_ended is = died_ended noted noted' k me me' w event r turn ready.resting.known ready.free (subst (λ (y : Served). ServedAs y ps ps1 w event) is did)
 
   -- the seat may be taken in, whatever was done
   pub went_over : (i : ℕ) → served ≡ ServedOne i → Over me'

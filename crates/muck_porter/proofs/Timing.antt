@@ -1,6 +1,6 @@
 -- The moments of a history that goes on.
 use Rattle.std.proofs.Common.{◌≡◌, ℕ, Bool, true, false, List, [], ◌∷◌, ◌++◌, refl, sym, ap, ◌∙◌, subst, append_assoc, Option}
-use Rattle.std.specs.Prelude.{◌==◌}
+use Rattle.std.specs.Prelude.{◌==◌, is_some}
 use Rattle.std.proofs.lemmas.Bool.{and_parts}
 use Rattle.std.proofs.lemmas.List.{append-nil}
 use Rattle.turn_lock.specs.Histories.{own_of, StartsWith}
@@ -18,11 +18,15 @@ use Rattle.spec_talks.specs.Parties.{party_of}
 use Rattle.spec_talks.proofs.Histories.{lawful_back, both_ways, allowed_one, not_first, others_own}
 use Rattle.spec_talks.proofs.Items.{own_entries_of}
 use Rattle.muck_machine.specs.inner.Beginnings.{begun}
-use Rattle.muck_machine.specs.inner.Seats.{Sight, Chair, Rests, Waited}
+use Rattle.muck_machine.specs.inner.Seats.{Sight, Chair, AllOrderly, Rests, Waited}
 use Rattle.muck_peer.specs.Moves.{Clocked}
-use Rattle.muck_porter.specs.inner.Turns.{PorterTurn}
+use Rattle.muck_porter.specs.inner.Notes.{note_in}
+use Rattle.muck_porter.specs.inner.Kept.{Resting}
+use Rattle.muck_porter.specs.inner.Turns.{Marked, PorterTurn}
+use Rattle.muck_porter.specs.Noted.{AllNoted}
 use Rattle.muck_porter.specs.Times.{Timely, TimedBy, ByClock}
 use Rattle.muck_porter.proofs.Items.{same_world}
+use Rattle.muck_porter.proofs.Noted.{note_own, orderly_front, noted_same, noted_turned}
 
 timely_append : (a a1 a2 : Option (List ℕ)) (w : World) (xs ys : List Entry) → Timely a a1 w xs → Timely a1 a2 (after w xs) ys → Timely a a2 w (xs ++ ys)
 timely_append a a1 a2 w [] ys t u = subst (λ (x : Option (List ℕ)). Timely x a2 w ys) t u
@@ -56,16 +60,16 @@ front_on v front more seen = (seen.0 ++ more, ap (λ (ls : List Logged). ls ++ m
 
 -- at a seat that has seen nothing
 pub timed_fresh : (a : Option (List ℕ)) (v : Sight) → v.own ≡ [] → TimedBy a a v
-timed_fresh a v none = record { front = []; seen = (v.seen, refl); own = none; timely = λ w m root. refl }
+timed_fresh a v none = record { front = []; seen = (v.seen, refl); own = none; timely = λ w m root. refl; noted = λ w m root. tt }
 
 -- at a seat that has only waited since
 pub timed_waited : (a : Option (List ℕ)) (v v' : Sight) → Waited v v' → ByClock v v' a a
 timed_waited a v v' waited before t =
     let more = front_on v t.front waited.0.0 t.seen in
-    record { front = t.front; seen = (more.0, waited.0.1 ∙ more.1); own = waited.1 ∙ t.own; timely = λ w m root. t.timely w m (sym waited.5 ∙ root) }
+    record { front = t.front; seen = (more.0, waited.0.1 ∙ more.1); own = waited.1 ∙ t.own; timely = λ w m root. t.timely w m (sym waited.5 ∙ root); noted = λ w m root. t.noted w m (sym waited.5 ∙ root) }
 
 -- and at one that had its turn
-pub timed_turned : (noted noted' : Bool) (k : Told) (a a' : Option (List ℕ)) (me me' : Chair) (w : World) (event : Event) → Rests 0 me → Rests 0 me' → PorterTurn noted noted' k me.0 me'.0 w event → Clocked a a' w event
+pub timed_turned : (noted noted' : Bool) (k : Told) (a a' : Option (List ℕ)) (me me' : Chair) (w : World) (event : Event) → Resting noted me → Rests 0 me' → PorterTurn noted noted' k me.0 me'.0 w event → Clocked a a' w event
     → ByClock me.0 me'.0 a a'
 timed_turned noted noted' k a a' me me' w event r r' turn clocked before t = record {
   front = me'.0.seen;
@@ -82,7 +86,18 @@ timed_turned noted noted' k a a' me me' w event r r' turn clocked before t = rec
       (timely_turned before a a' u (entries_of t.front) (entries_of h) event
       (subst (λ (x : World). AllLawful x (entries_of h)) same turn.lawful)
       (entries_of more.0, ap entries_of more.1 ∙ entries_append t.front more.0)
-      (sym (own_entries_of 0 h) ∙ ap entries_of (turn.still ∙ sym r.own ∙ t.own) ∙ own_entries_of 0 t.front)
+      (sym (own_entries_of 0 h) ∙ ap entries_of (turn.still ∙ sym r.rests.own ∙ t.own) ∙ own_entries_of 0 t.front)
       (subst (λ (x : World). Clocked a a' x event) (turn.world ∙ ap (λ (x : World). after x (entries_of h)) same) clocked)
       (t.timely u m root_before));
+  noted = λ u m root.
+      let h = me.0.seen ++ turn.others in
+      let root_before : me.0.root ≡ begun u m ∷ [] = sym turn.lists.0 ∙ root in
+      let same : turn.start ≡ u = same_world turn.start u turn.mounting m (sym turn.root ∙ root_before) in
+      let orderly = orderly_front h (turn.item ∷ []) (subst AllOrderly turn.seen r'.orderly) in
+      let all = noted_same u t.front h orderly (front_on me.0 t.front turn.others t.seen) (turn.still ∙ sym r.rests.own ∙ t.own) (t.noted u m root_before) in
+      subst (AllNoted false u) (sym turn.seen)
+      (noted_turned noted noted' k u h turn.item all
+      (r.known ∙ ap (λ (ls : List Logged). is_some (note_in ls)) (r.rests.own ∙ sym turn.still) ∙ ap is_some (sym (note_own h orderly)))
+      (ap (λ (e : Entry). e.party == 0) turn.entry)
+      (subst (λ (x : World). Marked noted noted' k x turn.item.counted) (turn.world ∙ ap (λ (x : World). after x (entries_of h)) same) turn.marked));
 }

@@ -58,12 +58,12 @@ item_of m noted noted' k h h' h2 event settled quiet is (MarkedIn.kept same stay
   marked = Marked.kept same refl (λ n dead. ap (λ (x : History). (now x).stopping) stays ∙ free n (sym (ap (λ (x : History). (now x).dead) stays) ∙ dead));
   same = ap now stays;
 }
-item_of m noted noted' k h h' h2 event settled quiet is (MarkedIn.made was now_is stopping none made) = record {
+item_of m noted noted' k h h' h2 event settled quiet is (MarkedIn.made was now_is stopping alive none made) = record {
   item = counted_item (counts k.sessions) (by_porter event);
   one = one_counted m h h2 (counts k.sessions) (by_porter event) settled none (is ∙ ap (λ (x : History). entered x (by_porter event)) made);
   entry = refl;
   orderly = orderly_counted (counts k.sessions) (by_porter event) refl quiet;
-  marked = Marked.made was now_is (ap (λ (x : History). (now x).stopping) made ∙ stopping) refl;
+  marked = Marked.made was now_is (ap (λ (x : History). (now x).stopping) made ∙ stopping) (ap (λ (x : History). (now x).dead) made ∙ alive) refl;
   same = ap now made;
 }
 
@@ -155,7 +155,7 @@ claim_held noted noted' k me me1 h' (Slice pid) r g claimed =
   where
     same : MarkedIn noted noted' k g.given h' → after h'.start h'.entries ≡ after g.given.start g.given.entries
     same (MarkedIn.kept a stays b) = ap (λ (x : History). after x.start x.entries) stays
-    same (MarkedIn.made a b c d made) = ap (λ (x : History). after x.start x.entries) made
+    same (MarkedIn.made a b c d e made) = ap (λ (x : History). after x.start x.entries) made
 claim_held noted noted' k me me1 h' (Open d) r g claimed = tt
 claim_held noted noted' k me me1 h' Time r g claimed = tt
 claim_held noted noted' k me me1 h' Stop r g claimed = tt

@@ -1,9 +1,6 @@
 -- From what the porter leaves to the whole history, once the lock is closed.
-use Rattle.std.proofs.Common.{◌≡◌, ℕ, suc, arith, Bool, true, false, List, [], ◌∷◌, ◌++◌, refl, sym, ap, ◌∙◌, subst, append_assoc, Option}
-use Rattle.std.specs.Prelude.{◌==◌}
-use Rattle.std.specs.Option.{option_map}
-use Rattle.std.proofs.lemmas.Bool.Decides.{nat_tests}
-use Rattle.turn_lock.specs.Histories.{StartsWith, own_of, kept}
+use Rattle.std.proofs.Common.{◌≡◌, ℕ, true, List, [], ◌∷◌, ◌++◌, sym, ap, ◌∙◌, subst, append_assoc, Option}
+use Rattle.turn_lock.specs.Histories.{StartsWith, own_of}
 use Rattle.muck_model.specs.declared.note.Note.{Note}
 use Rattle.spec_events.specs.declared.logged.Logged.{Logged}
 use Rattle.spec_events.specs.World.{World}
@@ -14,31 +11,20 @@ use Rattle.spec_talks.specs.Parties.{party_of}
 use Rattle.spec_talks.specs.Talks.{Talk, talks}
 use Rattle.spec_talks.proofs.Talking.{talks_same}
 use Rattle.spec_talks.proofs.Items.{own_entries_of}
-use Rattle.spec_serve.specs.Marks.{LinksNote}
+use Rattle.spec_serve.specs.Marks.{counts_in, IsLinksNote}
 use Rattle.spec_serve.specs.Promises.{Tally, PromisedOf, OpenWorkedOff}
 use Rattle.spec_serve.proofs.Promising.{promised_whole}
 use Rattle.muck_machine.specs.inner.Beginnings.{begun}
 use Rattle.muck_machine.specs.inner.Seats.{Sight, AllOrderly}
-use Rattle.muck_porter.specs.inner.Notes.{first_note, note_in}
+use Rattle.muck_porter.specs.inner.Notes.{note_in}
 use Rattle.muck_porter.specs.inner.Kept.{KeptBy, Stopped}
 use Rattle.muck_porter.specs.Times.{Timely, TimedBy}
 use Rattle.muck_porter.proofs.Timing.{timely_same}
 use Rattle.muck_porter.proofs.Items.{note_count}
+use Rattle.muck_porter.proofs.Noted.{note_own, noted_same, links_note}
 
 -- the note of the links of a history in order is that of the porter's own items
-pub note_own : (ls : List Logged) → AllOrderly ls → note_in ls ≡ note_in (own_of logged_by 0 ls)
-note_own [] all = refl
-note_own (l ∷ ls) all = from (l.entry.party == 0) refl (note_own ls (λ i x at. all (suc i) x at))
-  where
-    other : (n : ℕ) → (n == 0) ≡ false → ¬ (n ≡ 0)
-    other n is same = grind (arith, nat_tests)
-
-    from : (t : Bool) → (l.entry.party == 0) ≡ t → note_in ls ≡ note_in (own_of logged_by 0 ls) → first_note l.counted (note_in ls) ≡ note_in (kept t l (own_of logged_by 0 ls))
-    from true is ih = ap (first_note l.counted) ih
-    from false is ih = ap (λ (o : LinksNote). first_note o (note_in ls)) ((all 0 l refl).counted (other l.entry.party is)) ∙ ih
-
--- and it is the one of the history that they make
-pub note_whole : (ls : List Logged) → AllOrderly ls → option_map (λ c. c.1) (count_from 0 ls) ≡ note_in (own_of logged_by 0 ls)
+pub note_whole : (ls : List Logged) → AllOrderly ls → counts_in (count_from 0 ls) ≡ note_in (own_of logged_by 0 ls)
 note_whole ls all = note_count 0 ls ∙ note_own ls all
 
 entries_start : (ls seen : List Logged) → StartsWith ls seen → StartsWith (entries_of ls) (entries_of seen)
@@ -71,6 +57,13 @@ pub timed_whole : (before now : Option (List ℕ)) (v : Sight) (w : World) (m : 
 timed_whole before now v w m ls root more own lawful timed_by =
     let f = fronted v timed_by.front ls timed_by.seen timed_by.own more own in
     timely_same before now w (entries_of timed_by.front) (entries_of ls) lawful f.begins_so f.no_more (timed_by.timely w m root)
+
+-- The note of the links of the whole history stands where it has to.
+pub noted_whole : (before now : Option (List ℕ)) (v : Sight) (w : World) (m : Note) (ls : List Logged) → v.root ≡ begun w m ∷ [] → StartsWith ls v.seen → v.own ≡ own_of logged_by 0 ls → AllOrderly ls
+    → TimedBy before now v → IsLinksNote (count_from 0 ls) w (entries_of ls)
+noted_whole before now v w m ls root more own orderly t =
+    let front : StartsWith ls t.front = (t.seen.0 ++ more.0, more.1 ∙ ap (λ (x : List Logged). x ++ more.0) t.seen.1 ∙ append_assoc t.front t.seen.0 more.0) in
+    links_note w ls (noted_same w t.front ls orderly front (sym own ∙ t.own) (t.noted w m root))
 
 -- Where the porter has seen the stop, each connection that is open is worked off in the world in which it entered that.
 pub stopped_whole : (v : Sight) (k : Tally) (w : World) (m : Note) (ls : List Logged) → v.root ≡ begun w m ∷ [] → StartsWith ls v.seen → v.own ≡ own_of logged_by 0 ls → AllLawful w (entries_of ls)

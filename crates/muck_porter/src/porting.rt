@@ -4,7 +4,7 @@ ghost use Rattle.muck_io.specs.Faults.{Rose};
 ghost use Rattle.muck_machine.specs.inner.Seats.{SameLists};
 ghost use Rattle.muck_porter.specs.inner.Kept.{tally, account, Ready, Over};
 ghost use Rattle.muck_porter.specs.inner.Moves.{Ends, number_in, IsNew};
-ghost use Rattle.muck_porter.specs.inner.Rounds.{IsSpent, IsRound, Went, is_left};
+ghost use Rattle.muck_porter.specs.inner.Rounds.{EndsEarly, IsRound, Went, is_left};
 ghost use Rattle.muck_porter.specs.inner.Porter.{PorterReady, PorterDone};
 ghost use Rattle.muck_porter.specs.Times.{ByClock};
 
@@ -68,7 +68,7 @@ fn pauses<R: Rest>(rest: &R, round: &Round, moved: bool) {
     match *round {
         Round::Idle => {
             if !moved {
-                rest.rest();
+                rest.pause();
             }
         }
         Round::Busy => {}
@@ -106,7 +106,7 @@ fn goes_round<W: Wait, L: Links, C: Clock, G: Gate, R: Rest>(
     ensures ok { IfOk result (λ g. L.tells links.old ≡ true → Went g.round seat.old.me.0 seat.new.me.0 (tally (L.told links.old) (L.listening links.old)) (tally (L.told links.new) (L.listening links.new)) peers.old.items peers.new.items (number_in coming) (number_in g.coming)) }
     ensures err { OnErr result (L.tells links.old ≡ true → Ends seat.old.me.0 seat.new.me.0 (tally (L.told links.old) (L.listening links.old)) (tally (L.told links.new) (L.listening links.new)) peers.old.items (number_in coming)) }
     ensures over { Over seat.new.me }
-    ensures spent { IfErr result (λ fault. IsSpent fault seat.new.me.0) }
+    ensures spent { IfErr result (λ fault. EndsEarly fault seat.new.me.0) }
 {
     let came = match welcomes(
         rt, alloc, turn, seat, links, clock, rest, noted, peers, coming,

@@ -5,7 +5,7 @@ ghost use Rattle.muck_machine.specs.inner.Seats.{SameLists};
 ghost use Rattle.spec_events.specs.Own.{Stage};
 ghost use Rattle.muck_porter.specs.inner.Kept.{tally, IsAt, Resting, Ready, ReadyTimed, Over, EndsWithStop};
 ghost use Rattle.muck_porter.specs.inner.Moves.{Carries, CarriesOn, Ends, EndsAll, Halts, number_in, IsNew, HasClaimed};
-ghost use Rattle.muck_porter.specs.inner.Rounds.{IsSpent, HasLeft, IsRound, RoundCarries};
+ghost use Rattle.muck_porter.specs.inner.Rounds.{EndsEarly, HasLeft, IsRound, RoundCarries};
 ghost use Rattle.muck_porter.specs.Times.{ByClock};
 
 use crate::deeds::{Deed, Did, Worked};
@@ -44,7 +44,7 @@ fn stops<W: Wait, L: Links, C: Clock, R: Rest>(
     ensures ok { OnOk result ((n : ℕ) → Halts seat.old.me.0 seat.new.me.0 (tally (L.told links.now) n) (tally (L.told links.now) n) peers.now.items) }
     ensures err { OnErr result ((n : ℕ) → EndsAll seat.old.me.0 seat.new.me.0 (tally (L.told links.now) n) (tally (L.told links.now) n) peers.now.items) }
     ensures over { Over seat.new.me }
-    ensures spent { IfErr result (λ fault. IsSpent fault seat.new.me.0) }
+    ensures spent { IfErr result (λ fault. EndsEarly fault seat.new.me.0) }
 {
     match deed_turn(
         rt,
@@ -97,7 +97,7 @@ fn lets_in<W: Wait, L: Links, C: Clock, R: Rest>(
     ensures ok { IfOk result (λ came. L.tells links.old ≡ true → Carries seat.old.me.0 seat.new.me.0 (tally (L.told links.old) (L.listening links.old)) (tally (L.told links.new) (L.listening links.new)) peers.now.items peers.now.items None (number_in came.peer)) }
     ensures err { OnErr result (L.tells links.old ≡ true → Ends seat.old.me.0 seat.new.me.0 (tally (L.told links.old) (L.listening links.old)) (tally (L.told links.new) (L.listening links.new)) peers.now.items None) }
     ensures over { Over seat.new.me }
-    ensures spent { IfErr result (λ fault. IsSpent fault seat.new.me.0) }
+    ensures spent { IfErr result (λ fault. EndsEarly fault seat.new.me.0) }
 {
     match links.accept() {
         Accepted::Got(d) => match Peer::new(alloc, d) {
@@ -160,7 +160,7 @@ fn opens<W: Wait, L: Links, C: Clock, R: Rest>(
     ensures ok { IfOk result (λ left. (n : ℕ) → Carries seat.old.me.0 seat.new.me.0 (tally (L.told links.now) n) (tally (L.told links.now) n) peers.old.items peers.new.items (number_in (Some peer)) (number_in left)) }
     ensures err { OnErr result ((n : ℕ) → Ends seat.old.me.0 seat.new.me.0 (tally (L.told links.now) n) (tally (L.told links.now) n) peers.old.items (number_in (Some peer))) }
     ensures over { Over seat.new.me }
-    ensures spent { IfErr result (λ fault. IsSpent fault seat.new.me.0) }
+    ensures spent { IfErr result (λ fault. EndsEarly fault seat.new.me.0) }
 {
     match peers.reserve(1) {
         Ok(()) => {}
@@ -207,7 +207,7 @@ pub fn welcomes<W: Wait, L: Links, C: Clock, R: Rest>(
     ensures ok { IfOk result (λ came. L.tells links.old ≡ true → Carries seat.old.me.0 seat.new.me.0 (tally (L.told links.old) (L.listening links.old)) (tally (L.told links.new) (L.listening links.new)) peers.old.items peers.new.items (number_in coming) (number_in came.peer)) }
     ensures err { OnErr result (L.tells links.old ≡ true → Ends seat.old.me.0 seat.new.me.0 (tally (L.told links.old) (L.listening links.old)) (tally (L.told links.new) (L.listening links.new)) peers.old.items (number_in coming)) }
     ensures over { Over seat.new.me }
-    ensures spent { IfErr result (λ fault. IsSpent fault seat.new.me.0) }
+    ensures spent { IfErr result (λ fault. EndsEarly fault seat.new.me.0) }
 {
     match coming {
         None => {
@@ -274,7 +274,7 @@ fn works_once<W: Wait, L: Links, C: Clock, R: Rest>(
     ensures ok { OnOk result ((n : ℕ) → CarriesOn seat.old.me.0 seat.new.me.0 (tally (L.told links.now) n) (tally (L.told links.now) n) peers.now.items peers.now.items) }
     ensures err { OnErr result ((n : ℕ) → EndsAll seat.old.me.0 seat.new.me.0 (tally (L.told links.now) n) (tally (L.told links.now) n) peers.now.items) }
     ensures over { Over seat.new.me }
-    ensures spent { IfErr result (λ fault. IsSpent fault seat.new.me.0) }
+    ensures spent { IfErr result (λ fault. EndsEarly fault seat.new.me.0) }
 {
     match work_turn(rt, turn, seat, links, clock, rest, noted, peers) {
         Ok(Worked::Done) => Ok(Work::Busy),
@@ -314,7 +314,7 @@ fn runs<W: Wait, L: Links, C: Clock, R: Rest>(
     ensures ok { OnOk result ((n : ℕ) → CarriesOn seat.old.me.0 seat.new.me.0 (tally (L.told links.now) n) (tally (L.told links.now) n) peers.now.items peers.now.items) }
     ensures err { OnErr result ((n : ℕ) → EndsAll seat.old.me.0 seat.new.me.0 (tally (L.told links.now) n) (tally (L.told links.now) n) peers.now.items) }
     ensures over { Over seat.new.me }
-    ensures spent { IfErr result (λ fault. IsSpent fault seat.new.me.0) }
+    ensures spent { IfErr result (λ fault. EndsEarly fault seat.new.me.0) }
 {
     let deed = Deed::Slice(pid);
     match deed_turn(rt, turn, seat, links, clock, rest, noted, peers, &deed) {
@@ -346,7 +346,7 @@ fn leaves<W: Wait, L: Links, C: Clock, R: Rest>(
     ensures left { IfOk result (λ left. left ≡ true → EndsWithStop seat.new.me.0.own × ((n : ℕ) → HasLeft seat.old.me.0 seat.new.me.0 (tally (L.told links.now) n) (tally (L.told links.now) n) peers.now.items)) }
     ensures err { OnErr result ((n : ℕ) → EndsAll seat.old.me.0 seat.new.me.0 (tally (L.told links.now) n) (tally (L.told links.now) n) peers.now.items) }
     ensures over { Over seat.new.me }
-    ensures spent { IfErr result (λ fault. IsSpent fault seat.new.me.0) }
+    ensures spent { IfErr result (λ fault. EndsEarly fault seat.new.me.0) }
 {
     match deed_turn(
         rt,
@@ -398,7 +398,7 @@ fn ends_round<W: Wait, L: Links, C: Clock, G: Gate, R: Rest>(
     ensures ok { IfOk result (λ round. (n : ℕ) → RoundCarries round seat.old.me.0 seat.new.me.0 (tally (L.told links.now) n) (tally (L.told links.now) n) peers.now.items peers.now.items) }
     ensures err { OnErr result ((n : ℕ) → EndsAll seat.old.me.0 seat.new.me.0 (tally (L.told links.now) n) (tally (L.told links.now) n) peers.now.items) }
     ensures over { Over seat.new.me }
-    ensures spent { IfErr result (λ fault. IsSpent fault seat.new.me.0) }
+    ensures spent { IfErr result (λ fault. EndsEarly fault seat.new.me.0) }
 {
     match works_once(rt, turn, seat, links, clock, rest, noted, peers) {
         Ok(Work::Busy) => Ok(Round::Busy),
@@ -447,7 +447,7 @@ pub fn attends<W: Wait, L: Links, C: Clock, G: Gate, R: Rest>(
     ensures ok { IfOk result (λ a. L.tells links.old ≡ true → RoundCarries a.round seat.old.me.0 seat.new.me.0 (tally (L.told links.old) (L.listening links.old)) (tally (L.told links.new) (L.listening links.new)) peers.old.items peers.new.items) }
     ensures err { OnErr result (L.tells links.old ≡ true → EndsAll seat.old.me.0 seat.new.me.0 (tally (L.told links.old) (L.listening links.old)) (tally (L.told links.new) (L.listening links.new)) peers.old.items) }
     ensures over { Over seat.new.me }
-    ensures spent { IfErr result (λ fault. IsSpent fault seat.new.me.0) }
+    ensures spent { IfErr result (λ fault. EndsEarly fault seat.new.me.0) }
 {
     let moved = match tends_all(links, room, *noted, peers) {
         Ok(moved) => moved,

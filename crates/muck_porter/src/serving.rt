@@ -4,7 +4,7 @@ ghost use Rattle.std.specs.List.{remove};
 ghost use Rattle.muck_machine.specs.inner.Seats.{SameLists};
 ghost use Rattle.muck_porter.specs.inner.Kept.{tally, Ready, ReadyTimed, Over};
 ghost use Rattle.muck_porter.specs.inner.Moves.{CarriesOn, EndsAll, LastEntry};
-ghost use Rattle.muck_porter.specs.inner.Rounds.{IsServed, Nearer, IsSpent, WroteAt, ClosedAt};
+ghost use Rattle.muck_porter.specs.inner.Rounds.{IsServed, Nearer, EndsEarly, WroteAt, ClosedAt};
 ghost use Rattle.muck_porter.specs.Times.{ByClock};
 
 use crate::deeds::{Deed, Did, Served};
@@ -41,7 +41,7 @@ pub fn dies<W: Wait, L: Links, C: Clock, R: Rest>(
     ensures time { ByClock seat.old.me.0 seat.new.me.0 (C.answers clock.old) (C.answers clock.new) }
     ensures last { (n : ℕ) → LastEntry (tally (L.told links.now) n) (tally (L.told links.now) n) seat.old.me.0 seat.new.me.0 }
     ensures over { Over seat.new.me }
-    ensures spent { IsSpent result seat.new.me.0 }
+    ensures spent { EndsEarly result seat.new.me.0 }
 {
     match deed_turn(rt, turn, seat, links, clock, rest, noted, peers, &Deed::Die) {
         Ok(_) => Fault::NoMemory,
@@ -105,7 +105,7 @@ fn serve_one<W: Wait, L: Links, C: Clock, R: Rest>(
     ensures ok { OnOk result (L.tells links.old ≡ true → CarriesOn seat.old.me.0 seat.new.me.0 (tally (L.told links.old) (L.listening links.old)) (tally (L.told links.new) (L.listening links.new)) peers.old.items peers.new.items) }
     ensures err { OnErr result (L.tells links.old ≡ true → EndsAll seat.old.me.0 seat.new.me.0 (tally (L.told links.old) (L.listening links.old)) (tally (L.told links.new) (L.listening links.new)) peers.old.items) }
     ensures over { Over seat.new.me }
-    ensures spent { IfErr result (λ fault. IsSpent fault seat.new.me.0) }
+    ensures spent { IfErr result (λ fault. EndsEarly fault seat.new.me.0) }
 {
     match serve_turn(rt, turn, seat, links, clock, rest, noted, peers, from) {
         Ok(Served::Went(at)) => {
@@ -142,7 +142,7 @@ fn times<W: Wait, L: Links, C: Clock, R: Rest>(
     ensures ok { OnOk result ((n : ℕ) → CarriesOn seat.old.me.0 seat.new.me.0 (tally (L.told links.now) n) (tally (L.told links.now) n) peers.now.items peers.now.items) }
     ensures err { OnErr result ((n : ℕ) → EndsAll seat.old.me.0 seat.new.me.0 (tally (L.told links.now) n) (tally (L.told links.now) n) peers.now.items) }
     ensures over { Over seat.new.me }
-    ensures spent { IfErr result (λ fault. IsSpent fault seat.new.me.0) }
+    ensures spent { IfErr result (λ fault. EndsEarly fault seat.new.me.0) }
 {
     match deed_turn(
         rt,
@@ -185,7 +185,7 @@ pub fn serve_all<W: Wait, L: Links, C: Clock, R: Rest>(
     ensures ok { OnOk result (L.tells links.old ≡ true → CarriesOn seat.old.me.0 seat.new.me.0 (tally (L.told links.old) (L.listening links.old)) (tally (L.told links.new) (L.listening links.new)) peers.old.items peers.new.items) }
     ensures err { OnErr result (L.tells links.old ≡ true → EndsAll seat.old.me.0 seat.new.me.0 (tally (L.told links.old) (L.listening links.old)) (tally (L.told links.new) (L.listening links.new)) peers.old.items) }
     ensures over { Over seat.new.me }
-    ensures spent { IfErr result (λ fault. IsSpent fault seat.new.me.0) }
+    ensures spent { IfErr result (λ fault. EndsEarly fault seat.new.me.0) }
 {
     let mut from = 0;
     let mut busy = false;

@@ -102,14 +102,15 @@ module _ {K D : Type 0} (tells : Bool) (seen : D → List ℕ) (moment : D → �
   }
 
 -- A run that was played has begun, on the log that the files held.
-module _ {S K D : Type 0} (left : S → Option (List ℕ)) (faults : S → ℕ) (written : K → Option (List ℕ)) (breaks : K → ℕ) (tells : Bool) (attached : D → Option (List ℕ)) (seen : D → List ℕ) (moment : D → ℕ) (images : D → ℕ → List ℕ → Type 0) (store : List ℕ)
+module _ {S K D : Type 0} (left : S → Option (List ℕ)) (faults : S → ℕ) (written : K → Option (List ℕ)) (breaks : K → ℕ) (tells : Bool) (attached : D → Option (List ℕ)) (seen : D → List ℕ) (moment : D → ℕ) (images : D → ℕ → List ℕ → Type 0) (fails : D → ℕ) (store : List ℕ)
     (log : LogState) (why : Why) (acts : List Act) (s t : S) (k l : K) (first second first' second' first'' second'' : D) (tale : List Entry) (notes : List Note) where
   pub has_begun : (tells ≡ true → IsMountedAs seen moment images file_most log first' second') → IsFine log.chosen.held.world
       → (tells ≡ true → attached first' ≡ Some (store ++ codes ".a")) → (tells ≡ true → attached second' ≡ Some (store ++ codes ".b"))
-      → (tells ≡ true → IsUntouched seen moment images first first') → (tells ≡ true → IsUntouched seen moment images second second') → HasRead left faults s t acts
-      → HasPlayed written breaks tells moment images log why acts k l first' second' first'' second'' tale notes
-      → HasBegun left faults written breaks tells attached seen moment images store why s t k l first second first'' second'' tale notes
-  has_begun mounted fine name_a name_b a b read p = record {
+      → attached first'' ≡ attached first' → attached second'' ≡ attached second'
+      → (tells ≡ true → IsUntouched seen moment images first first') → (tells ≡ true → IsUntouched seen moment images second second') → fails first ≤ fails first' → fails second ≤ fails second' → HasRead left faults s t acts
+      → HasPlayed written breaks tells seen moment images fails log why acts k l first' second' first'' second'' tale notes
+      → HasBegun left faults written breaks tells attached seen moment images fails store why s t k l first second first'' second'' tale notes
+  has_begun mounted fine name_a name_b still_a still_b a b later_a later_b read p = record {
     start = booted_from log.chosen.held.world;
     mounted = log.chosen.held.number;
     begins = record {
@@ -131,15 +132,22 @@ module _ {S K D : Type 0} (left : S → Option (List ℕ)) (faults : S → ℕ) 
       mounted_second = second';
       first_name = name_a;
       second_name = name_b;
+      first_now = λ on. still_a ∙ name_a on;
+      second_now = λ on. still_b ∙ name_b on;
       first_file = a;
       second_file = b;
+      first_later = later_a;
+      second_later = later_b;
       note = p.noted.note;
       others = p.noted.others;
       noted = p.noted.noted;
-      first_moment = p.noted.first_moment;
-      second_moment = p.noted.second_moment;
+      first_moment = p.noted.is.first_moment;
+      second_moment = p.noted.is.second_moment;
+      first_faults = p.noted.is.first_faults;
+      second_faults = p.noted.is.second_faults;
     };
     safe = p.safe;
     whole = p.whole;
     full = p.full;
+    failed = p.failed;
   }

@@ -17,7 +17,8 @@ use Rattle.muck_run.specs.inner.Ends.{why_of, EndsPlay, ComesOutAs, LastKept, Ma
 use Rattle.muck_run.specs.inner.Plays.{Plays, Breaks, ending_of}
 use Rattle.muck_run.specs.declared.playing.RunFault.{RunFault}
 use Rattle.muck_run.specs.declared.playing.RunFault.TheVariants.{NoMemory as OutOfMemory, WriteFault as WriteFailed}
-use Rattle.muck_run.specs.declared.why.Why.TheVariants.{Fine, NoMemory, StoreFull}
+use Rattle.muck_run.specs.declared.why.Why.{Why}
+use Rattle.muck_run.specs.declared.why.Why.TheVariants.{Fine, NoMemory, DiskFault, StoreFull}
 
 -- a dump that began came out
 
@@ -75,18 +76,33 @@ is_full (LogDamaged second at) end more e = cc
 is_full (LogFull x y) end more e = cc
 is_full Stale end more e = cc
 
+is_failed : (fault : LogFault) → why_of fault ≡ DiskFault → fault ≡ LogDisk
+is_failed LogMemory e = cc
+is_failed LogDisk e = refl
+is_failed (LogDamaged second at) e = cc
+is_failed (LogFull x y) e = cc
+is_failed Stale e = cc
+
 module _ {D : Type 0} (seen : D → List ℕ) (moment : D → ℕ) (images : D → ℕ → List ℕ → Type 0) (faults : D → ℕ) (log : Option LogState) (first second : D) (mounted : ℕ) (h : History) where
   abbrev Out : Result (Option LogFault) RunFault → Type 0
   Out r = Dumps seen moment images faults log first second mounted h r
 
-  pub kept_stored : (o : Option LogFault) → o ≡ None → Out (Ok o) → LastKept moment images first second mounted h Fine
-  kept_stored o is d = record { safe = d.safe; whole = λ e. d.whole is; full = λ end more e. cc }
+  abbrev Last : Why → Type 0
+  Last why = LastKept seen moment images faults first second mounted h why
 
-  pub kept_failed : (o : Option LogFault) (fault : LogFault) → o ≡ Some fault → Out (Ok o) → LastKept moment images first second mounted h (why_of fault)
-  kept_failed o fault is d = record { safe = d.safe; whole = λ e. absurd (not_fine fault e); full = λ end more e. d.full end more (is ∙ ap Some (is_full fault end more e)) }
+  pub kept_stored : (o : Option LogFault) → o ≡ None → Out (Ok o) → Last Fine
+  kept_stored o is d = record { safe = d.safe; whole = λ e. d.whole is; full = λ end more e. cc; failed = λ e. cc }
 
-  pub kept_broken : (r : Result (Option LogFault) RunFault) → Out r → LastKept moment images first second mounted h NoMemory
-  kept_broken r d = record { safe = d.safe; whole = λ e. cc; full = λ end more e. cc }
+  pub kept_failed : (o : Option LogFault) (fault : LogFault) → o ≡ Some fault → Out (Ok o) → Last (why_of fault)
+  kept_failed o fault is d = record {
+    safe = d.safe;
+    whole = λ e. absurd (not_fine fault e);
+    full = λ end more e. d.full end more (is ∙ ap Some (is_full fault end more e));
+    failed = λ e. d.rose (is ∙ ap Some (is_failed fault e));
+  }
+
+  pub kept_broken : (r : Result (Option LogFault) RunFault) → Out r → Last NoMemory
+  kept_broken r d = record { safe = d.safe; whole = λ e. cc; full = λ end more e. cc; failed = λ e. cc }
 
 -- the porter's halt takes no life
 halt_lives : (w : World) (b : Bool) → w.dead ≡ false → (after w (if b then [] else by_porter Halt ∷ [])).dead ≡ false

@@ -1,19 +1,25 @@
 -- A drill, from how its script was played.
-use Rattle.std.proofs.Common.{◌≡◌, ℕ, false, ◌+◌, ◌≤◌, List, [], ◌∷◌, ◌++◌, length, drop, refl, sym, ◌∙◌, ap, subst, arith, append-nil, append_assoc, add-one, Option, Some, None}
-use Rattle.std.specs.Prelude.{codes}
+use Rattle.std.proofs.Common.{◌≡◌, inl, inr, ℕ, true, false, ◌+◌, ◌≤◌, List, [], ◌∷◌, ◌++◌, length, drop, refl, sym, ◌∙◌, ap, subst, arith, append-nil, append_assoc, add-one, Option, Some, None, Result, Ok, Err}
+use Rattle.std.specs.Prelude.{OnErr, codes}
 use Rattle.std.specs.Fmt.{decimal}
 use Rattle.std.specs.List.{filter}
+use Rattle.muck_model.specs.declared.event.Entry.{Entry}
+use Rattle.muck_model.specs.declared.event.Event.TheVariants.{Died}
 use Rattle.spec_events.specs.World.{World, starting, booted}
-use Rattle.spec_events.specs.Histories.{History, after, now}
+use Rattle.spec_events.specs.Steps.{effect}
+use Rattle.spec_events.specs.Histories.{History, after, now, entered, by_porter, AllLawful}
+use Rattle.spec_events.proofs.Runs.{after-append, now-longer}
 use Rattle.muck_script.specs.declared.act.Act.{Act}
 use Rattle.muck_script.specs.declared.act.Act.TheVariants.{Send}
 use Rattle.muck_script.specs.Lines.{is_line_feed}
 use Rattle.muck_script.specs.Story.{Dumped, stored, failed, next_outcome, dump_entries, outcomes_of, told, text_of, lines_story, transcript}
-use Rattle.muck_run.specs.Drill.{describing, round, rounds, summary, objects_in, drill_script}
-use Rattle.muck_run.specs.inner.Drills.{fresh, IsPlayedAs, IsDrilledAs}
+use Rattle.muck_run.specs.Drill.{describing, round, rounds, summary, objects_in, drill_script, IsDrillFront, BrokeDrill}
+use Rattle.muck_run.specs.inner.Drills.{fresh, IsPlayedAs, IsDrilledAs, IsCutShort, IsDrillDead}
 use Rattle.spec_live.specs.Boards.{early_board}
 use Rattle.muck_run.specs.inner.Opens.{all_within, Opens}
-use Rattle.muck_run.specs.inner.Plays.{Plays}
+use Rattle.muck_run.specs.declared.playing.RunFault.{RunFault}
+use Rattle.muck_run.specs.declared.playing.RunFault.TheVariants.{NoMemory, WriteFault}
+use Rattle.muck_run.specs.inner.Plays.{Plays, Breaks, ending_of}
 use Rattle.muck_run.proofs.Parts.{text_of-append}
 
 -- The script, round by round.
@@ -80,6 +86,10 @@ pub fresh_idle : (h : History) → h ≡ fresh → (now h).dumps.running ≡ Non
 unfolding now starting booted
 fresh_idle h is = ap (λ (x : History). (now x).dumps.running) is
 
+pub fresh_now : (h : History) → h ≡ fresh → now h ≡ starting
+unfolding now
+fresh_now h is = ap (λ (x : History). now x) is
+
 -- Nothing is written of a dump.
 
 dump_text : (o : Dumped) (w : World) → text_of w (dump_entries o) ≡ []
@@ -95,8 +105,7 @@ transcript_lines acts os w =
 
 module _ (acts : List Act) (h k : History) (bytes : List ℕ) (is : h ≡ fresh) (p : Plays (lines_story acts) h k (Some []) (Some bytes)) where
   there : now h ≡ starting
-  unfolding now
-  there = ap (λ (x : History). now x) is
+  there = fresh_now h is
 
   entries : k.entries ≡ p.entries
   entries = p.history.entries ∙ ap (λ (x : History). x.entries ++ p.entries) is
@@ -113,6 +122,9 @@ module _ (acts : List Act) (h k : History) (bytes : List ℕ) (is : h ≡ fresh)
   pub played_as : IsPlayedAs acts k bytes
   played_as = record {
     start = p.history.start ∙ ap (λ (x : History). x.start) is;
+    said = λ later.
+        ap (λ es. lines_story acts (outcomes_of es ++ later) starting) entries ∙ ap (lines_story acts (outcomes_of p.entries ++ later)) (sym there) ∙ p.said later
+        ∙ sym entries;
     story = entries ∙ whole ∙ ap (λ es. lines_story acts (outcomes_of es) starting) (sym entries);
     told =
         written ∙ ap (text_of starting) whole ∙ sym (transcript_lines acts (outcomes_of p.entries) starting)
@@ -137,4 +149,98 @@ drilled_as n size h bytes text p counts is = record {
   written =
       is ∙ ap (λ x. summary n x bytes) (counts ∙ ap (λ (w : World). objects_in (after w h.entries)) p.start)
       ∙ ap (λ x. summary n (objects_in (after starting h.entries)) x) p.told;
+}
+
+-- Drills that broke off.
+
+-- what is said of an error, of any answer
+pub on_err : {A E P : Type 0} (r : Result A E) → P → OnErr r P
+on_err (Ok x) p = tt
+on_err (Err e) p = p
+
+-- before anything was played
+pub fresh_short : (n : ℕ) (h : History) → h ≡ fresh → IsCutShort n h
+fresh_short n h is = record {
+  start = ap (λ (x : History). x.start) is;
+  front = [];
+  is = record { pending = []; began = tt; whole = λ later. (lines_story (drill_script n) later starting, refl) };
+  wanted = inl (ap (λ (x : History). x.entries) is, fresh_alive h is);
+}
+
+-- behind all of it
+pub played_short : (n : ℕ) (h : History) (bytes : List ℕ) → IsPlayedAs (drill_script n) h bytes → IsCutShort n h
+played_short n h bytes p = record {
+  start = p.start;
+  front = h.entries;
+  is = record { pending = []; began = tt; whole = λ later. ([], append-nil h.entries ∙ sym (p.said later)) };
+  wanted = inl (refl, p.alive);
+}
+
+-- and in between
+module _ (n : ℕ) (h k : History) (a b : Option (List ℕ)) (ending : List Entry) (is : h ≡ fresh) (p : Breaks (lines_story (drill_script n)) ending h k a b) where
+  front_played : IsDrillFront n p.front
+  front_played = record {
+    pending = p.pending;
+    began = p.began;
+    whole = λ later. let part = p.whole later in (part.0, part.1 ∙ ap (lines_story (drill_script n) (outcomes_of p.front ++ (p.pending ++ later))) (fresh_now h is));
+  }
+
+  start_played : k.start ≡ starting
+  start_played = p.history.start ∙ ap (λ (x : History). x.start) is
+
+  entries_played : k.entries ≡ p.front ++ ending
+  entries_played = p.history.entries ∙ ap (λ (x : History). x.entries ++ (p.front ++ ending)) is
+
+dies : (w : World) (front : List Entry) → (after w (front ++ by_porter Died ∷ [])).dead ≡ true
+unfolding effect
+dies w front = ap (λ (x : World). x.dead) (after-append front (by_porter Died ∷ []) w)
+
+broke_at : (n : ℕ) (h k : History) (a b : Option (List ℕ)) (fault : RunFault) → h ≡ fresh → Breaks (lines_story (drill_script n)) (ending_of fault) h k a b → IsCutShort n k
+broke_at n h k a b NoMemory is p = record {
+  start = start_played n h k a b _ is p;
+  front = p.front;
+  is = front_played n h k a b _ is p;
+  wanted = inr (entries_played n h k a b _ is p, ap (λ (w : World). w.dead) (now-longer h k _ p.history) ∙ dies (now h) p.front);
+}
+broke_at n h k a b WriteFault is p = record {
+  start = start_played n h k a b _ is p;
+  front = p.front;
+  is = front_played n h k a b _ is p;
+  wanted = inl (entries_played n h k a b _ is p ∙ append-nil p.front, p.alive refl);
+}
+
+pub broke_short : (n : ℕ) (acts : List Act) (h k : History) (a b : Option (List ℕ)) (fault : RunFault) → acts ≡ drill_script n → h ≡ fresh → Breaks (lines_story acts) (ending_of fault) h k a b → IsCutShort n k
+broke_short n acts h k a b fault is_acts is p = broke_at n h k a b fault is (subst (λ (x : List Act). Breaks (lines_story x) (ending_of fault) h k a b) is_acts p)
+
+-- the world found the want of memory itself
+pub dead_short : (n : ℕ) (h : History) → (now h).dead ≡ true → IsCutShort n h → IsDrillDead n h
+dead_short n h dead s = record {
+  start = s.start;
+  front = s.front;
+  is = s.is;
+  entries = elim s.wanted [
+    | inl w ↦ let both = sym w.1 ∙ dead in cc
+    | inr w ↦ w.0
+  ];
+}
+
+-- or it is told
+pub lost_short : (n : ℕ) (h k : History) → (now h).dead ≡ false → k ≡ entered h (by_porter Died) → IsCutShort n h → IsDrillDead n k
+lost_short n h k alive is s = record {
+  start = ap (λ (x : History). x.start) is ∙ s.start;
+  front = s.front;
+  is = s.is;
+  entries = elim s.wanted [
+    | inl w ↦ ap (λ (x : History). x.entries) is ∙ ap (λ es. es ++ by_porter Died ∷ []) w.0
+    | inr w ↦ let both = sym w.1 ∙ alive in cc
+  ];
+}
+
+-- the tale of such a drill
+pub broke_drill : (n : ℕ) (h : History) (tale : List Entry) → IsDrillDead n h → tale ≡ h.entries → AllLawful h.start tale → BrokeDrill n tale
+broke_drill n h tale d is lawful = record {
+  lawful = subst (λ (w : World). AllLawful w tale) d.start lawful;
+  front = d.front;
+  is = d.is;
+  history = is ∙ d.entries;
 }

@@ -160,7 +160,7 @@ porter_cuts running idle = ap (λ o. is_none o && true) idle
 
 module _ {D : Type 0} (seen : D → List ℕ) (moment : D → ℕ) (images : D → ℕ → List ℕ → Type 0) (faults : D → ℕ) (log : Option LogState) (f s : D) (mounted : ℕ) (h : History) where
   pub dumps_ok : (x : Option LogFault) → Dumps {E = Wanted} seen moment images faults log f s mounted h (Ok x) → Dumps {E = RunFault} seen moment images faults log f s mounted h (Ok x)
-  dumps_ok x d = record { safe = d.safe; rests = d.rests; whole = d.whole; full = d.full; fault = d.fault }
+  dumps_ok x d = record { safe = d.safe; rests = d.rests; whole = d.whole; full = d.full; fault = d.fault; rose = d.rose }
 
   pub dumps_err : (x : Wanted) (y : RunFault) → Dumps {E = Wanted} seen moment images faults log f s mounted h (Err x) → Dumps {E = RunFault} seen moment images faults log f s mounted h (Err y)
-  dumps_err x y d = record { safe = d.safe; rests = tt; whole = tt; full = tt; fault = tt }
+  dumps_err x y d = record { safe = d.safe; rests = tt; whole = tt; full = tt; fault = tt; rose = tt }

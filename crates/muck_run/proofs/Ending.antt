@@ -2,7 +2,7 @@
 use Rattle.std.proofs.Common.{◌≡◌, ℕ, Bool, List, sym, ap, subst, ◌∙◌, Option}
 use Rattle.muck_model.specs.declared.event.Entry.{Entry}
 use Rattle.muck_model.specs.declared.note.Note.{Note}
-use Rattle.spec_dumps.specs.Survival.{IsSafe, StandsWhole}
+use Rattle.spec_dumps.specs.Survival.{IsSafe, StandsWhole, RoseInLast}
 use Rattle.spec_events.specs.World.{World}
 use Rattle.spec_events.specs.Histories.{History, Longer, AllLawful}
 use Rattle.muck_script.specs.declared.act.Act.{Act}
@@ -36,6 +36,10 @@ has_run written breaks tells w note ListenFault acts h k m before after tale is 
 has_run written breaks tells w note (Spent turns) acts h k m before after tale is may p d came end same = absurd may
 has_run written breaks tells w note WriteFault acts h k m before after tale is may p d came end same = absurd may
 
+-- a batch that is too large for the history so far
+too_large : {D : Type 0} (seen : D → List ℕ) (f s : D) (mounted : ℕ) (m : History) (end more : ℕ) → IsFull seen f s mounted m end more → IsTooLarge seen f s m.start mounted m.entries m.notes end more
+too_large seen f s mounted m end more v = record { n = v.n; store = v.store; held = v.shown; front = v.front; place = v.place; size = v.size; over = v.over }
+
 -- a run began in w, and its tale is the entries of the history m
 pub start_is : (w : World) (note : Note) (h : History) → h ≡ begun w note → h.start ≡ w
 start_is w note h e = ap (λ (x : History). x.start) e
@@ -43,20 +47,23 @@ start_is w note h e = ap (λ (x : History). x.start) e
 pub lawful_from : (w v : World) (tale : List Entry) → v ≡ w → AllLawful v tale → AllLawful w tale
 lawful_from w v tale e l = subst (λ (x : World). AllLawful x tale) e l
 
-module _ {D : Type 0} (moment : D → ℕ) (images : D → ℕ → List ℕ → Type 0) (f s : D) (mounted : ℕ) (w : World) (m : History) (tale : List Entry) (notes : List Note) (starts : m.start ≡ w) (ends : tale ≡ m.entries) (noted : notes ≡ m.notes) where
-  pub safe_from : IsSafe moment images f s m.start mounted m.entries m.notes → IsSafe moment images f s w mounted tale notes
+module _ {D : Type 0} (seen : D → List ℕ) (moment : D → ℕ) (images : D → ℕ → List ℕ → Type 0) (faults : D → ℕ) (f s : D) (mounted : ℕ) (w : World) (m : History) (tale : List Entry) (notes : List Note) (starts : m.start ≡ w) (ends : tale ≡ m.entries) (noted : notes ≡ m.notes) where
+  pub safe_from : IsSafe moment images faults f s m.start mounted m.entries m.notes → IsSafe moment images faults f s w mounted tale notes
   safe_from v =
-      subst (λ (x : World). IsSafe moment images f s x mounted tale notes) starts
-      (subst (λ (es : List Entry). IsSafe moment images f s m.start mounted es notes) (sym ends)
-      (subst (λ (ns : List Note). IsSafe moment images f s m.start mounted m.entries ns) (sym noted) v))
+      subst (λ (x : World). IsSafe moment images faults f s x mounted tale notes) starts
+      (subst (λ (es : List Entry). IsSafe moment images faults f s m.start mounted es notes) (sym ends)
+      (subst (λ (ns : List Note). IsSafe moment images faults f s m.start mounted m.entries ns) (sym noted) v))
 
   pub whole_from : StandsWhole moment images f s m.start m.entries → StandsWhole moment images f s w tale
   whole_from v =
       subst (λ (x : World). StandsWhole moment images f s x tale) starts
       (subst (λ (es : List Entry). StandsWhole moment images f s m.start es) (sym ends) v)
 
-  pub full_from : (end more : ℕ) → IsFull mounted m end more → IsTooLarge w mounted tale notes end more
+  pub full_from : (end more : ℕ) → IsFull seen f s mounted m end more → IsTooLarge seen f s w mounted tale notes end more
   full_from end more v =
-      subst (λ (x : World). IsTooLarge x mounted tale notes end more) starts
-      (subst (λ (es : List Entry). IsTooLarge m.start mounted es notes end more) (sym ends)
-      (subst (λ (ns : List Note). IsTooLarge m.start mounted m.entries ns end more) (sym noted) v))
+      subst (λ (x : World). IsTooLarge seen f s x mounted tale notes end more) starts
+      (subst (λ (es : List Entry). IsTooLarge seen f s m.start mounted es notes end more) (sym ends)
+      (subst (λ (ns : List Note). IsTooLarge seen f s m.start mounted m.entries ns end more) (sym noted) (too_large seen f s mounted m end more v)))
+
+  pub failed_from : RoseInLast m.notes → RoseInLast notes
+  failed_from v = subst (λ (ns : List Note). RoseInLast ns) (sym noted) v

@@ -122,7 +122,7 @@ module _ {D : Type 0} (began : ℕ) (seen : D → List ℕ) (moment : D → ℕ)
   rests_there : Rests seen moment images faults (Some log) f s log.chosen.held.number (begun (booted_at began log.chosen.held.world) (note_of moment faults f s (unbegun_at began log)))
   rests_there =
       rests_begun seen moment images faults log f s (booted_at began log.chosen.held.world) (note_of moment faults f s (unbegun_at began log)) on.mounted on.limit (held_again began log.chosen.held.world is props)
-      (hangs began log.chosen.held.world is) refl (refl, refl) (omega arith, omega arith)
+      (hangs began log.chosen.held.world is) refl (refl, refl) (refl, refl)
 
   -- a run that begins rests on the log
   pub rests_started : (held : Option LogState) (h : History) → held ≡ Some log → h ≡ begun_at began log (note_of moment faults f s (unbegun_at began log)) → Rests seen moment images faults held f s log.chosen.held.number h

@@ -1,17 +1,19 @@
 -- A drill: a fixed script on the starting world, and what is written of it.
-use Rattle.std.specs.Prelude.{◌≡◌, ℕ, zero, suc, not, List, [], ◌∷◌, ◌++◌, length, codes, Option}
+use Rattle.std.specs.Prelude.{◌≡◌, ◌⊎◌, ℕ, zero, suc, not, List, [], ◌∷◌, ◌++◌, length, codes, Option}
 use Rattle.std.specs.Fmt.{decimal}
 use Rattle.std.specs.List.{filter, count_by}
 use Rattle.muck_io.specs.Sink.{Appends, AppendsFront}
 use Rattle.muck_io.specs.Faults.{Rose}
 use Rattle.muck_model.specs.declared.event.Entry.{Entry}
+use Rattle.muck_model.specs.declared.event.Event.TheVariants.{Died}
 use Rattle.spec_live.specs.Objects.{is_garbage}
 use Rattle.spec_events.specs.World.{World, starting}
-use Rattle.spec_events.specs.Histories.{after, AllLawful}
+use Rattle.spec_events.specs.Histories.{after, by_porter, AllLawful}
 use Rattle.muck_script.specs.declared.act.Act.{Act}
 use Rattle.muck_script.specs.declared.act.Act.TheVariants.{Open, Send, Wait}
 use Rattle.muck_script.specs.Lines.{is_line_feed}
-use Rattle.muck_script.specs.Story.{outcomes_of, lines_story, transcript}
+use Rattle.muck_script.specs.Story.{Dumped, outcomes_of, lines_story, transcript}
+use Rattle.muck_run.specs.Outcome.{IsPending}
 use Rattle.muck_run.specs.declared.why.Why.{Why}
 use Rattle.muck_run.specs.declared.why.Why.TheVariants.{Fine, NoMemory, WriteFault}
 
@@ -49,6 +51,20 @@ pub record IsDrilled (n : ℕ) (tale : List Entry) : Type 0 where
   pub lawful : AllLawful starting tale
   pub story : tale ≡ lines_story (drill_script n) (outcomes_of tale) starting
 
+-- These entries are a front of that story, however the dumps behind them would have come out; a dump that began in them and didn't come out
+-- counts as stored.
+pub record IsDrillFront (n : ℕ) (front : List Entry) : Type 0 where
+  pub pending : List Dumped
+  pub began : IsPending front pending
+  pub whole : (later : List Dumped) → (rest : List Entry) × (front ++ rest ≡ lines_story (drill_script n) (outcomes_of front ++ (pending ++ later)) starting)
+
+-- The tale of a drill that broke off for want of memory: a front of its story happened, and then Died.
+pub record BrokeDrill (n : ℕ) (tale : List Entry) : Type 0 where
+  pub lawful : AllLawful starting tale
+  pub front : List Entry
+  pub is : IsDrillFront n front
+  pub history : tale ≡ front ++ by_porter Died ∷ []
+
 -- how many objects there are, without garbage
 abbrev pub objects_in : World → ℕ
 objects_in w = count_by (λ e. not (is_garbage e.object.kind)) w.live.objects
@@ -57,9 +73,10 @@ objects_in w = count_by (λ e. not (is_garbage e.object.kind)) w.live.objects
 abbrev pub drill_text : ℕ → List Entry → List ℕ
 drill_text n tale = summary n (objects_in (after starting tale)) (transcript (drill_script n) (outcomes_of tale) starting)
 
--- What a drill comes to, by the answer, with the count of faults of the sink: its summary was written, or a front of it, or nothing.
+-- What a drill comes to, by the answer, with the count of faults of the sink: its summary was written, or a front of it, or nothing. Where memory was
+-- wanted for the world itself nothing happened.
 abbrev pub HasDrilled : {K : Type 0} → (K → Option (List ℕ)) → (K → ℕ) → ℕ → Why → K → K → List Entry → Type 0
 HasDrilled written faults n Fine before now tale = IsDrilled n tale × Appends (written before) (written now) (drill_text n tale) × (faults now ≡ faults before)
 HasDrilled written faults n WriteFault before now tale = IsDrilled n tale × AppendsFront (written before) (written now) (drill_text n tale) × Rose (faults before) (faults now)
-HasDrilled written faults n NoMemory before now tale = now ≡ before
+HasDrilled written faults n NoMemory before now tale = (now ≡ before) × ((tale ≡ []) ⊎ BrokeDrill n tale)
 HasDrilled written faults n why before now tale = ⊥

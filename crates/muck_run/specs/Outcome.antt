@@ -1,5 +1,5 @@
 -- What the top call answers.
-use Rattle.std.specs.Prelude.{◌≡◌, ◌⊎◌, ◌<◌, ℕ, ◌+◌, ◌++◌, Bool, true, if◌then◌else◌, List, [], ◌∷◌, Option, Some, None, Ok, Err, codes}
+use Rattle.std.specs.Prelude.{◌≡◌, ◌⊎◌, ◌<◌, ◌≤◌, ℕ, ◌+◌, ◌++◌, Bool, true, if◌then◌else◌, List, [], ◌∷◌, Option, Some, None, Ok, Err, codes}
 use Rattle.muck_io.specs.Sink.{Appends}
 use Rattle.muck_io.specs.Faults.{Rose}
 use Rattle.muck_model.specs.declared.event.Entry.{Entry}
@@ -10,7 +10,7 @@ use Rattle.muck_log.specs.Store.{Chosen, LeavesOnly, stored as stored_in, target
 use Rattle.muck_log.specs.Append.{more_of}
 use Rattle.muck_store.specs.Forms.{loaded}
 use Rattle.spec_dumps.specs.Fronts.{IsFront, dump_payload, log_of, file_most}
-use Rattle.spec_dumps.specs.Survival.{IsSafe, StandsWhole}
+use Rattle.spec_dumps.specs.Survival.{IsSafe, StandsWhole, RoseInLast}
 use Rattle.spec_events.specs.World.{World, booted}
 use Rattle.spec_events.specs.Histories.{after, by_porter, AllLawful, AllLicensed}
 use Rattle.spec_events.specs.Passwords.{AllKnown}
@@ -150,40 +150,60 @@ pub record HasHappened {S K : Type 0} (left : S → Option (List ℕ)) (faults :
   pub read : HasRead left faults s t acts
   pub run : HasRun written breaks w why acts k l tale
 
--- The files STORE.a and STORE.b of this store were opened, and the store was mounted: until then nothing was written to them. The first note
--- is that of both disks as they were there.
-pub record IsOpened {D : Type 0} (tells : Bool) (attached : D → Option (List ℕ)) (seen : D → List ℕ) (moment : D → ℕ) (images : D → ℕ → List ℕ → Type 0) (store : List ℕ) (first second : D) (notes : List Note) : Type 0 where
+-- The files STORE.a and STORE.b of this store were opened, and the store was mounted: until then nothing was written to them, and no count of faults fell. The same files are
+-- the two disks in the end. The first note is that of both disks as they were there.
+pub record IsOpened {D : Type 0} (tells : Bool) (attached : D → Option (List ℕ)) (seen : D → List ℕ) (moment : D → ℕ) (images : D → ℕ → List ℕ → Type 0) (faults : D → ℕ) (store : List ℕ)
+    (first second first' second' : D) (notes : List Note) : Type 0 where
   pub mounted_first : D
   pub mounted_second : D
   pub first_name : tells ≡ true → attached mounted_first ≡ Some (store ++ codes ".a")
   pub second_name : tells ≡ true → attached mounted_second ≡ Some (store ++ codes ".b")
+  pub first_now : tells ≡ true → attached first' ≡ Some (store ++ codes ".a")
+  pub second_now : tells ≡ true → attached second' ≡ Some (store ++ codes ".b")
   pub first_file : tells ≡ true → IsUntouched seen moment images first mounted_first
   pub second_file : tells ≡ true → IsUntouched seen moment images second mounted_second
+  pub first_later : faults first ≤ faults mounted_first
+  pub second_later : faults second ≤ faults mounted_second
   pub note : Note
   pub others : List Note
   pub noted : notes ≡ note ∷ others
   pub first_moment : note.first_moment ≡ moment mounted_first
   pub second_moment : note.second_moment ≡ moment mounted_second
+  pub first_faults : note.first_faults ≡ faults mounted_first
+  pub second_faults : note.second_faults ≡ faults mounted_second
 
--- The batch of a world after this history would end past the most bytes of a file, on the store after a front of the history that is
--- noted by then: it would begin at `end`, and has so many bytes more.
-abbrev pub IsTooLarge : World → ℕ → List Entry → List Note → ℕ → ℕ → Type 0
-IsTooLarge w mounted tale notes end more = (n : ℕ) × (store : Chosen) × IsFront w mounted tale notes n store
-    × (end ≡ (target store).place) × (more ≡ more_of (log_of store) (dump_payload store (after w tale))) × (file_most < end + more)
+-- The batch of a world after this history would end past the most bytes of a file, on the store that the two files hold, which is the one after a front of the history that
+-- is noted by then: it would begin at `end`, and has so many bytes more.
+pub record IsTooLarge {D : Type 0} (seen : D → List ℕ) (first second : D) (w : World) (mounted : ℕ) (tale : List Entry) (notes : List Note) (end more : ℕ) : Type 0 where
+  pub n : ℕ
+  pub store : Chosen
+  pub held : stored_in (seen first) (seen second) ≡ Ok store
+  pub front : IsFront w mounted tale notes n store
+  pub place : end ≡ (target store).place
+  pub size : more ≡ more_of (log_of store) (dump_payload store (after w tale))
+  pub over : file_most < end + more
+
+-- A run from what the two files held, which began at this second, ended since its last dump is too large for what they hold now.
+pub record EndsFull {D : Type 0} (tells : Bool) (seen : D → List ℕ) (began : ℕ) (first second first' second' : D) (tale : List Entry) (notes : List Note) (end more : ℕ) : Type 0 where
+  pub start : World
+  pub mounted : ℕ
+  pub begins : IsStart tells (seen first) (seen second) began start mounted
+  pub full : IsTooLarge seen first' second' start mounted tale notes end more
 
 -- A run that began, with its disks: their bytes before, and what is kept of them at each moment since they were mounted, which the first
--- note tells.
+-- note tells. Where a fault of a disk is answered, a count of faults rose in the last dump.
 pub record HasBegun {S K D : Type 0} (left : S → Option (List ℕ)) (faults : S → ℕ) (written : K → Option (List ℕ)) (breaks : K → ℕ)
-    (tells : Bool) (attached : D → Option (List ℕ)) (seen : D → List ℕ) (moment : D → ℕ) (images : D → ℕ → List ℕ → Type 0) (store : List ℕ) (why : Why)
+    (tells : Bool) (attached : D → Option (List ℕ)) (seen : D → List ℕ) (moment : D → ℕ) (images : D → ℕ → List ℕ → Type 0) (fails : D → ℕ) (store : List ℕ) (why : Why)
     (s t : S) (k l : K) (first second first' second' : D) (tale : List Entry) (notes : List Note) : Type 0 where
   pub start : World
   pub mounted : ℕ
   pub begins : IsStart tells (seen first) (seen second) 0 start mounted
   pub happened : HasHappened left faults written breaks start why s t k l tale
-  pub opened : IsOpened tells attached seen moment images store first second notes
-  pub safe : tells ≡ true → IsSafe moment images first' second' start mounted tale notes
+  pub opened : IsOpened tells attached seen moment images fails store first second first' second' notes
+  pub safe : tells ≡ true → IsSafe moment images fails first' second' start mounted tale notes
   pub whole : tells ≡ true → why ≡ Fine → StandsWhole moment images first' second' start tale
-  pub full : (end more : ℕ) → tells ≡ true → why ≡ StoreFull end more → IsTooLarge start mounted tale notes end more
+  pub full : (end more : ℕ) → tells ≡ true → why ≡ StoreFull end more → IsTooLarge seen first' second' start mounted tale notes end more
+  pub failed : tells ≡ true → why ≡ DiskFault → RoseInLast notes
 
 -- Which of the two is so, by the answer: the run wasn't begun, or it was. What ends a server alone is no answer.
 abbrev pub EndsAs : Why → Type 0 → Type 0 → Type 0

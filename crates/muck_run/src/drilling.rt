@@ -1,25 +1,28 @@
 // The drill: a fixed script on the starting world, of which a summary is written.
-ghost use Rattle.std.specs.Prelude.{◌≡◌, ◌≤◌, ◌++◌, ◌∷◌, [], IfOk, OnOk, length};
+ghost use Rattle.std.specs.Prelude.{◌≡◌, ◌≤◌, ◌++◌, ◌∷◌, [], ℕ, IfOk, OnOk, OnErr, None, length};
 ghost use Rattle.std.specs.Fmt.{decimal};
 ghost use Rattle.std.specs.List.{filter};
 ghost use Rattle.muck_io.specs.Faults.{Rose};
+ghost use Rattle.spec_events.specs.Histories.{History};
+ghost use Rattle.muck_dumping.specs.inner.Between.{Knows};
 ghost use Rattle.muck_script.specs.declared.act.Act.TheVariants.{Send};
 ghost use Rattle.muck_script.specs.Lines.{is_line_feed};
 ghost use Rattle.muck_run.specs.Drill.{describing, round, rounds, drill_script, summary, HasDrilled};
-ghost use Rattle.muck_run.specs.inner.Drills.{fresh, IsPlayedAs, IsDrilledAs, MayDrill};
+ghost use Rattle.muck_run.specs.inner.Drills.{fresh, IsPlayedAs, IsDrilledAs, IsCutShort, IsDrillDead, MayDrill};
 
-use crate::dumping::Store;
+use crate::dumping::{FILE_MOST, Store};
 use crate::playing::{RunFault, buffer, play};
 use crate::why::Why;
 use itoa::Buffer;
 use muck_disk::{Disk, DiskFault};
 use muck_io::{MemSink, Sink, WriteFailed, write_all};
+use muck_log::Log;
 use muck_machine::World;
 use muck_model::{Line, NoMemory, Tale};
 use muck_script::Act;
 use std::alloc::Global;
 
-// No disk: in a drill no dump is asked, and one that were would fail.
+// A disk with an empty file, which no write reaches: in a drill no dump is asked, and one that were would fail.
 #[derive(Drop)]
 struct Nowhere {
     faults: u64,
@@ -53,15 +56,15 @@ impl Disk for Nowhere {
     ghost seen_left = { λ _ _. tt };
 
     fn attach(&mut self, _name: &str) -> Result<(), DiskFault> {
-        Err(self.fault())
+        Ok(())
     }
 
     fn size(&mut self) -> Result<u64, DiskFault> {
-        Err(self.fault())
+        Ok(0)
     }
 
     fn read(&mut self, _at: u64, _buf: &mut [u8]) -> Result<usize, DiskFault> {
-        Err(self.fault())
+        Ok(0)
     }
 
     fn write_at(&mut self, _at: u64, _bytes: &[u8]) -> Result<(), DiskFault> {
@@ -69,7 +72,7 @@ impl Disk for Nowhere {
     }
 
     fn sync(&mut self) -> Result<(), DiskFault> {
-        Err(self.fault())
+        Ok(())
     }
 }
 
@@ -175,21 +178,33 @@ fn summary(alloc: Global, count: u64, objects: usize, shown: &[u8]) -> Result<Ve
     Ok(text)
 }
 
+// The store of two empty files.
+fn nothing_stored(
+    alloc: Global,
+    first: &mut Nowhere,
+    second: &mut Nowhere,
+) -> Result<Store, NoMemory>
+    ensures { (h : History) → IfOk result (λ store. Knows store h) }
+{
+    match Log::mount(alloc, first, second, FILE_MOST) {
+        Ok(log) => Ok(Store::new(log)),
+        // (nothing but want of memory keeps empty files from being mounted)
+        Err(_) => Err(NoMemory),
+    }
+}
+
 // Plays the script of a drill into the starting world; answers the transcript.
 fn play_drill(alloc: Global, count: u64, world: &mut World) -> Result<MemSink, NoMemory>
     requires { world.old ≡ fresh }
-    ensures { IfOk result (λ sink. IsPlayedAs (drill_script count) world.new sink.bytes) }
+    ensures played { IfOk result (λ sink. IsPlayedAs (drill_script count) world.new sink.bytes) }
+    ensures short { OnErr result (IsCutShort count world.new) }
 {
     let acts = drill_script(alloc, count)?;
     let mut buf = buffer(alloc)?;
     let mut transcript = MemSink::new(alloc, Vec::new(alloc));
-    let mut store = Store {
-        log: None,
-        number: 0,
-        marks: false,
-    };
     let mut first = Nowhere { faults: 0 };
     let mut second = Nowhere { faults: 0 };
+    let mut store = nothing_stored(alloc, &mut first, &mut second)?;
     match play(
         alloc,
         world,
@@ -209,11 +224,21 @@ fn play_drill(alloc: Global, count: u64, world: &mut World) -> Result<MemSink, N
 // Plays a drill, and makes its summary.
 fn drilled(alloc: Global, count: u64, world: &mut World) -> Result<Vec<u8>, NoMemory>
     requires { world.old ≡ fresh }
-    ensures { IfOk result (λ text. IsDrilledAs count world.new text.items) }
+    ensures drilled { IfOk result (λ text. IsDrilledAs count world.new text.items) }
+    ensures short { OnErr result (IsCutShort count world.new) }
 {
     let transcript = play_drill(alloc, count, world)?;
     let text = summary(alloc, count, world.objects(), transcript.bytes())?;
     Ok(text)
+}
+
+// Memory was wanted: Died is entered, where the world hasn't entered it itself.
+fn lose(world: &mut World)
+    ensures dead { (n : ℕ) → IsCutShort n world.old → IsDrillDead n world.new }
+{
+    if !world.is_dead() {
+        world.died(0);
+    }
 }
 
 /// A drill of so many rounds: the script is played into the starting world, which no disk holds, and a summary of it is written.
@@ -228,7 +253,7 @@ pub fn drill<K: Sink>(alloc: Global, count: u64, out: &mut K) -> (Why, Tale)
         return (Why::NoMemory, Tale::none());
     };
     let Ok(text) = drilled(alloc, count, &mut world) else {
-        world.died(0);
+        lose(&mut world);
         return (Why::NoMemory, world.into_tale());
     };
     match write_all(out, text.as_slice()) {

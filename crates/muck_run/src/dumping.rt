@@ -3,7 +3,7 @@ ghost use Rattle.std.specs.Prelude.{◌≡◌, ◌⊎◌, ◌≤◌, ℕ, true, 
 ghost use Rattle.muck_io.specs.Faults.{Rose};
 ghost use Rattle.spec_dumps.specs.inner.Holding.{Rests};
 ghost use Rattle.spec_events.specs.Histories.{now};
-ghost use Rattle.muck_dumping.specs.inner.Between.{GoesByMarks};
+ghost use Rattle.muck_dumping.specs.inner.Between.{Knows};
 ghost use Rattle.muck_script.specs.Story.{dumping};
 ghost use Rattle.muck_run.specs.inner.Dumps.{Dumps, DumpsLast, ComesOut, IsNotedOn};
 ghost use Rattle.muck_run.specs.inner.Plays.{PlaysOrBreaks};
@@ -30,7 +30,7 @@ pub fn dump<D: Disk>(
 ) -> Result<Option<LogFault>, RunFault>
     requires alive { (now world.old).dead ≡ false }
     requires idle { (now world.old).dumps.running ≡ None }
-    requires marks { GoesByMarks store.old.marks store.old.log world.old }
+    requires knows { Knows store.old world.old }
     requires mounted { D.tells ≡ true → (mounted : ℕ) × Rests D.seen D.moment D.images D.faults store.old.log first.old second.old mounted world.old }
     ensures plays { (o : Option (List ℕ)) → PlaysOrBreaks dumping world.old world.new o o result }
     ensures last { DumpsLast world.old world.new }
@@ -38,13 +38,15 @@ pub fn dump<D: Disk>(
     ensures notes { IsNotedOn world.old world.new }
     ensures memory { OnErr result (result ≡ Err RunFault.NoMemory) }
     ensures idle { OnOk result ((now world.new).dumps.running ≡ None) }
-    ensures marks { OnOk result (GoesByMarks store.new.marks store.new.log world.new) }
+    ensures knows { OnOk result (Knows store.new world.new) }
     ensures kept { (mounted : ℕ) → D.tells ≡ true → Rests D.seen D.moment D.images D.faults store.old.log first.old second.old mounted world.old
         → Dumps D.seen D.moment D.images D.faults store.new.log first.new second.new mounted world.new result }
     ensures first_later { D.faults first.old ≤ D.faults first.new }
     ensures second_later { D.faults second.old ≤ D.faults second.new }
     ensures cause { IfOk result (λ o. o ≡ Some LogFault.DiskFault → Rose (D.faults first.old) (D.faults first.new) ⊎ Rose (D.faults second.old) (D.faults second.new)) }
     ensures apart { IfOk result (λ o. o ≡ Some LogFault.NoMemory → ⊥) }
+    ensures first_attached { D.attached first.new ≡ D.attached first.old }
+    ensures second_attached { D.attached second.new ≡ D.attached second.old }
 {
     match muck_dumping::dump(alloc, world, PORTER, store, first, second) {
         Ok(outcome) => Ok(outcome),

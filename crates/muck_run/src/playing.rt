@@ -6,7 +6,7 @@ ghost use Rattle.spec_live.specs.Connections.{connections_most};
 ghost use Rattle.muck_script.specs.Story.{acted, turns, turns_most, taken, parted, plain, both, served, asks_dump, asked_dump, line_story, lines_story};
 ghost use Rattle.spec_dumps.specs.inner.Holding.{Quietly, Rests};
 ghost use Rattle.spec_events.specs.World.{connection};
-ghost use Rattle.muck_dumping.specs.inner.Between.{GoesByMarks};
+ghost use Rattle.muck_dumping.specs.inner.Between.{Knows};
 ghost use Rattle.muck_run.specs.inner.Dumps.{Held, IsNotedOn};
 ghost use Rattle.muck_run.specs.inner.Opens.{asks_within, Opens};
 ghost use Rattle.muck_run.specs.inner.Plays.{PlaysOrBreaks};
@@ -287,17 +287,19 @@ fn make_asked<D: Disk>(
 ) -> Result<(), RunFault>
     requires alive { (now world.old).dead ≡ false }
     requires idle { (now world.old).dumps.running ≡ None }
-    requires marks { GoesByMarks store.old.marks store.old.log world.old }
+    requires knows { Knows store.old world.old }
     requires mounted { D.tells ≡ true → (mounted : ℕ) × Rests D.seen D.moment D.images D.faults store.old.log first.old second.old mounted world.old }
     ensures plays { (o : Option (List ℕ)) → PlaysOrBreaks (asked_dump line.now) world.old world.new o o result }
     ensures notes { IsNotedOn world.old world.new }
     ensures memory { OnErr result (result ≡ Err RunFault.NoMemory) }
     ensures idle { OnOk result ((now world.new).dumps.running ≡ None) }
-    ensures marks { OnOk result (GoesByMarks store.new.marks store.new.log world.new) }
+    ensures knows { OnOk result (Knows store.new world.new) }
     ensures kept { (mounted : ℕ) → D.tells ≡ true → Rests D.seen D.moment D.images D.faults store.old.log first.old second.old mounted world.old
         → Held D.seen D.moment D.images D.faults store.new.log first.new second.new mounted world.new result }
     ensures first_later { D.faults first.old ≤ D.faults first.new }
     ensures second_later { D.faults second.old ≤ D.faults second.new }
+    ensures first_attached { D.attached first.new ≡ D.attached first.old }
+    ensures second_attached { D.attached second.new ≡ D.attached second.old }
 {
     if !is_due(world, line) {
         return Ok(());
@@ -321,7 +323,7 @@ fn play_line<K: Sink, D: Disk>(
     requires room { 131090 ≤ length buf.old }
     requires alive { (now world.old).dead ≡ false }
     requires idle { (now world.old).dumps.running ≡ None }
-    requires marks { GoesByMarks store.old.marks store.old.log world.old }
+    requires knows { Knows store.old world.old }
     requires mounted { D.tells ≡ true → (mounted : ℕ) × Rests D.seen D.moment D.images D.faults store.old.log first.old second.old mounted world.old }
     requires opened { Opens most world.old }
     requires asks { asks_within most line.now ≡ true }
@@ -332,12 +334,14 @@ fn play_line<K: Sink, D: Disk>(
     ensures write { IsErrOf result RunFault.WriteFault → Rose (K.faults out.old) (K.faults out.new) }
     ensures memory { IsErrOf result RunFault.NoMemory → K.faults out.new ≡ K.faults out.old }
     ensures idle { (result ≡ Err RunFault.NoMemory → ⊥) → (now world.new).dumps.running ≡ None }
-    ensures marks { (result ≡ Err RunFault.NoMemory → ⊥) → GoesByMarks store.new.marks store.new.log world.new }
+    ensures knows { (result ≡ Err RunFault.NoMemory → ⊥) → Knows store.new world.new }
     ensures kept { (mounted : ℕ) → D.tells ≡ true → Rests D.seen D.moment D.images D.faults store.old.log first.old second.old mounted world.old
         → Held D.seen D.moment D.images D.faults store.new.log first.new second.new mounted world.new result }
     ensures first_later { D.faults first.old ≤ D.faults first.new }
     ensures second_later { D.faults second.old ≤ D.faults second.new }
     ensures opened { OnOk result (Opens most world.new) }
+    ensures first_attached { D.attached first.new ≡ D.attached first.old }
+    ensures second_attached { D.attached second.new ≡ D.attached second.old }
 {
     act_and_turn(alloc, world, line, out)?;
     make_asked(alloc, world, store, first, second, line)?;
@@ -363,7 +367,7 @@ pub fn play<K: Sink, D: Disk>(
     requires room { 131090 ≤ length buf.old }
     requires alive { (now world.old).dead ≡ false }
     requires idle { (now world.old).dumps.running ≡ None }
-    requires marks { GoesByMarks store.old.marks store.old.log world.old }
+    requires knows { Knows store.old world.old }
     requires mounted { D.tells ≡ true → (mounted : ℕ) × Rests D.seen D.moment D.images D.faults store.old.log first.old second.old mounted world.old }
     requires opened { Opens 0 world.old }
     ensures plays { PlaysOrBreaks (lines_story acts.now) world.old world.new (K.written out.old) (K.written out.new) result }
@@ -373,11 +377,13 @@ pub fn play<K: Sink, D: Disk>(
     ensures write { IsErrOf result RunFault.WriteFault → Rose (K.faults out.old) (K.faults out.new) }
     ensures memory { IsErrOf result RunFault.NoMemory → K.faults out.new ≡ K.faults out.old }
     ensures idle { (result ≡ Err RunFault.NoMemory → ⊥) → (now world.new).dumps.running ≡ None }
-    ensures marks { (result ≡ Err RunFault.NoMemory → ⊥) → GoesByMarks store.new.marks store.new.log world.new }
+    ensures knows { (result ≡ Err RunFault.NoMemory → ⊥) → Knows store.new world.new }
     ensures kept { (mounted : ℕ) → D.tells ≡ true → Rests D.seen D.moment D.images D.faults store.old.log first.old second.old mounted world.old
         → Held D.seen D.moment D.images D.faults store.new.log first.new second.new mounted world.new result }
     ensures first_later { D.faults first.old ≤ D.faults first.new }
     ensures second_later { D.faults second.old ≤ D.faults second.new }
+    ensures first_attached { D.attached first.new ≡ D.attached first.old }
+    ensures second_attached { D.attached second.new ≡ D.attached second.old }
 {
     let mut most = 0;
     for act in acts {

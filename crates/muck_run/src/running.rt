@@ -8,7 +8,7 @@ ghost use Rattle.spec_events.specs.Histories.{now, Longer};
 ghost use Rattle.muck_log.specs.inner.Mount.{IsMountedAs};
 ghost use Rattle.spec_dumps.specs.Fronts.{file_most};
 ghost use Rattle.spec_dumps.specs.inner.Holding.{Quietly, Rests};
-ghost use Rattle.muck_dumping.specs.inner.Between.{GoesByMarks};
+ghost use Rattle.muck_dumping.specs.inner.Between.{Knows};
 ghost use Rattle.muck_run.specs.inner.Dumps.{note_of, DumpsLast, IsNotedOn};
 ghost use Rattle.muck_run.specs.inner.Ends.{why_of, MayEnd, MayEndDump, IsScriptWhy, IsBootable, unbegun_at, begun_at, EndsPlay, ComesOutAs, LastKept, HasPlayed, NeverPlayed};
 ghost use Rattle.muck_run.specs.Outcome.{halted, HasRead, HasBegun, EndsAs, IsUnbegun, IsFirstOutside};
@@ -73,7 +73,7 @@ pub fn run<S: Source, K: Sink, D: Disk>(
 ) -> (Why, Tale)
     ensures usage { result.0 ≡ Why.Usage → ⊥ }
     ensures bad_script { (line : ℕ) → result.0 ≡ Why.BadScript line → IsFirstOutside (S.left script.old) line }
-    ensures history { EndsAs result.0 (IsUnbegun D.tells D.seen D.moment D.images out.old out.new first.old second.old first.new second.new result.1.entries) (HasBegun S.left S.faults K.written K.faults D.tells D.attached D.seen D.moment D.images name.now result.0 script.old script.new out.old out.new first.old second.old first.new second.new result.1.entries result.1.notes) }
+    ensures history { EndsAs result.0 (IsUnbegun D.tells D.seen D.moment D.images out.old out.new first.old second.old first.new second.new result.1.entries) (HasBegun S.left S.faults K.written K.faults D.tells D.attached D.seen D.moment D.images D.faults name.now result.0 script.old script.new out.old out.new first.old second.old first.new second.new result.1.entries result.1.notes) }
     ensures read_fault { result.0 ≡ Why.ReadFault → Rose (S.faults script.old) (S.faults script.new) }
     ensures write_fault { result.0 ≡ Why.WriteFault → Rose (K.faults out.old) (K.faults out.new) }
     ensures source_stands { (result.0 ≡ Why.ReadFault → ⊥) → S.faults script.new ≡ S.faults script.old }
@@ -131,18 +131,20 @@ fn last_dump<D: Disk>(
 ) -> Why
     requires alive { (now world.old).dead ≡ false }
     requires idle { (now world.old).dumps.running ≡ None }
-    requires marks { GoesByMarks store.old.marks store.old.log world.old }
+    requires knows { Knows store.old world.old }
     requires mounted { D.tells ≡ true → (mounted : ℕ) × Rests D.seen D.moment D.images D.faults store.old.log first.old second.old mounted world.old }
     ensures plays { (o : Option (List ℕ)) → EndsPlay world.old world.new o result }
     ensures last { DumpsLast world.old world.new }
     ensures outcome { ComesOutAs world.old world.new result }
     ensures notes { IsNotedOn world.old world.new }
     ensures kept { (mounted : ℕ) → D.tells ≡ true → Rests D.seen D.moment D.images D.faults store.old.log first.old second.old mounted world.old
-        → LastKept D.moment D.images first.new second.new mounted world.new result }
+        → LastKept D.seen D.moment D.images D.faults first.new second.new mounted world.new result }
     ensures why { MayEndDump D.tells result }
     ensures first_later { D.faults first.old ≤ D.faults first.new }
     ensures second_later { D.faults second.old ≤ D.faults second.new }
     ensures cause { result ≡ Why.DiskFault → Rose (D.faults first.old) (D.faults first.new) ⊎ Rose (D.faults second.old) (D.faults second.new) }
+    ensures first_attached { D.attached first.new ≡ D.attached first.old }
+    ensures second_attached { D.attached second.new ≡ D.attached second.old }
 {
     match dump(alloc, world, store, first, second) {
         Ok(None) => Why::Fine,
@@ -163,13 +165,15 @@ fn run_acts<K: Sink, D: Disk>(
     requires mounted { D.tells ≡ true → IsMountedAs D.seen D.moment D.images file_most log first.old second.old }
     requires fine { IsFine log.chosen.held.world }
     ensures ends { NeverPlayed result.0 out.old out.new first.old second.old first.new second.new result.1.entries
-        ⊎ HasPlayed K.written K.faults D.tells D.moment D.images log result.0 acts.now out.old out.new first.old second.old first.new second.new result.1.entries result.1.notes }
+        ⊎ HasPlayed K.written K.faults D.tells D.seen D.moment D.images D.faults log result.0 acts.now out.old out.new first.old second.old first.new second.new result.1.entries result.1.notes }
     ensures why { MayEnd D.tells result.0 }
     ensures write { result.0 ≡ Why.WriteFault → Rose (K.faults out.old) (K.faults out.new) }
     ensures stands { (result.0 ≡ Why.WriteFault → ⊥) → K.faults out.new ≡ K.faults out.old }
     ensures first_later { D.faults first.old ≤ D.faults first.new }
     ensures second_later { D.faults second.old ≤ D.faults second.new }
     ensures cause { result.0 ≡ Why.DiskFault → Rose (D.faults first.old) (D.faults first.new) ⊎ Rose (D.faults second.old) (D.faults second.new) }
+    ensures first_attached { D.attached first.new ≡ D.attached first.old }
+    ensures second_attached { D.attached second.new ≡ D.attached second.old }
 {
     let Ok((mut world, mut buf)) = begin(alloc, &log, first, second) else {
         return (Why::NoMemory, Tale::none());

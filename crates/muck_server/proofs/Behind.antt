@@ -82,5 +82,6 @@ promised_since counted b b' w h k same later p = record {
   whole = p.whole ∙ ap (λ (ss : List Session). p.extra ++ (p.mine ++ ss)) same;
   single = p.single;
   agree = p.agree;
+  counts = p.counts;
   halts = λ i v at. halt_since b b' k v later (p.halts i v at);
 }

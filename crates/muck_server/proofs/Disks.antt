@@ -7,7 +7,7 @@ use Rattle.muck_log.specs.declared.fault.LogFault.{LogFault}
 use Rattle.muck_log.specs.declared.fault.LogFault.TheVariants as fault
 use Rattle.muck_model.specs.declared.memory.NoMemory.{NoMemory as Wanting}
 use Rattle.spec_dumps.specs.inner.Holding.{Keeps}
-use Rattle.spec_dumps.specs.Survival.{IsSafe, StandsWhole}
+use Rattle.spec_dumps.specs.Survival.{IsSafe, RoseInLast, StandsWhole}
 use Rattle.spec_events.specs.Histories.{History}
 use Rattle.muck_dumping.specs.inner.Dumps.{Dumps, IsFull, IsDumpFault}
 use Rattle.muck_crew.specs.inner.Finished.{why_by, HasDump}
@@ -59,11 +59,12 @@ never_damaged false (Ok (Some fault.Stale)) second at e may = may
 never_damaged false (Err x) second at e may = cc
 
 -- What is kept of both disks behind the history k, which began with first and second.
-pub record OnDisks {D : Type 0} (tells : Bool) (moment : D → ℕ) (images : D → ℕ → List ℕ → Type 0) (faults : D → ℕ) (why : Why) (mounted : ℕ) (first second first' second' : D) (k : History) : Type 0 where
-  pub safe : tells ≡ true → IsSafe moment images first' second' k.start mounted k.entries k.notes
+pub record OnDisks {D : Type 0} (tells : Bool) (seen : D → List ℕ) (moment : D → ℕ) (images : D → ℕ → List ℕ → Type 0) (faults : D → ℕ) (why : Why) (mounted : ℕ) (first second first' second' : D) (k : History) : Type 0 where
+  pub safe : tells ≡ true → IsSafe moment images faults first' second' k.start mounted k.entries k.notes
   pub whole : tells ≡ true → why ≡ Fine → StandsWhole moment images first' second' k.start k.entries
-  pub full : (end more : ℕ) → tells ≡ true → why ≡ StoreFull end more → IsFull mounted k end more
+  pub full : (end more : ℕ) → tells ≡ true → why ≡ StoreFull end more → IsFull seen first' second' mounted k end more
   pub failed : why ≡ DiskFault → Rose (faults first) (faults first') ⊎ Rose (faults second) (faults second')
+  pub rose : tells ≡ true → why ≡ DiskFault → RoseInLast k.notes
   pub undamaged : (second : Bool) (at : ℕ) → tells ≡ true → why ≡ Damaged second at → ⊥
 
 either_since : (a b c x y z : ℕ) → a ≤ b → x ≤ y → Rose b c ⊎ Rose y z → Rose a c ⊎ Rose x z
@@ -74,16 +75,17 @@ module _ {D : Type 0} (tells : Bool) (seen : D → List ℕ) (moment : D → ℕ
   -- behind a last dump
   pub on_dumped : (deaf : Bool) (log : Option LogState) (first1 second1 first' second' : D) (h k : History) → (tells ≡ true → Keeps seen moment images faults log first1 second1 mounted h)
       → faults first ≤ faults first1 → faults second ≤ faults second1
-      → HasDump tells seen moment images faults deaf log first1 second1 first' second' h k why → OnDisks tells moment images faults why mounted first second first' second' k
+      → HasDump tells seen moment images faults deaf log first1 second1 first' second' h k why → OnDisks tells seen moment images faults why mounted first second first' second' k
   on_dumped deaf log first1 second1 first' second' h k keeps later later' d =
       let dumps : tells ≡ true → Dumps seen moment images faults d.log' first' second' mounted k d.answer = λ on. d.kept mounted on (keeps on) in record {
         safe = λ on. (dumps on).safe;
         whole = λ on e. subst (λ (r : Result (Option LogFault) Wanting). IfOk r (λ o. o ≡ None → StandsWhole moment images first' second' k.start k.entries)) (only_fine deaf d.answer (sym d.is ∙ e)) (dumps on).whole refl;
         full = λ end more on e.
-            subst (λ (r : Result (Option LogFault) Wanting). IfOk r (λ o. (x y : ℕ) → o ≡ Some (fault.StoreFull x y) → IsFull mounted k x y)) (only_full deaf d.answer end more (sym d.is ∙ e)) (dumps on).full end more refl;
+            subst (λ (r : Result (Option LogFault) Wanting). IfOk r (λ o. (x y : ℕ) → o ≡ Some (fault.StoreFull x y) → IsFull seen first' second' mounted k x y)) (only_full deaf d.answer end more (sym d.is ∙ e)) (dumps on).full end more refl;
         failed = λ e.
             either_since (faults first) (faults first1) (faults first') (faults second) (faults second1) (faults second') later later'
             (subst (λ (r : Result (Option LogFault) Wanting). IfOk r (λ o. o ≡ Some fault.DiskFault → Rose (faults first1) (faults first') ⊎ Rose (faults second1) (faults second'))) (only_disk deaf d.answer (sym d.is ∙ e)) d.cause refl);
+        rose = λ on e. subst (λ (r : Result (Option LogFault) Wanting). IfOk r (λ o. o ≡ Some fault.DiskFault → RoseInLast k.notes)) (only_disk deaf d.answer (sym d.is ∙ e)) (dumps on).rose refl;
         undamaged = λ second at on e. never_damaged deaf d.answer second at (sym d.is ∙ e) (dumps on).fault;
       }
 
@@ -105,12 +107,13 @@ not_disk why is e = subst IsUndumped e is
 not_damaged : (why : Why) (second : Bool) (at : ℕ) → IsUndumped why → why ≡ Damaged second at → ⊥
 not_damaged why second at is e = subst IsUndumped e is
 
-pub on_undumped : {D : Type 0} (tells : Bool) (moment : D → ℕ) (images : D → ℕ → List ℕ → Type 0) (faults : D → ℕ) (why : Why) (mounted : ℕ) (first second first' second' : D) (k : History)
-    → IsUndumped why → (tells ≡ true → IsSafe moment images first' second' k.start mounted k.entries k.notes) → OnDisks tells moment images faults why mounted first second first' second' k
-on_undumped tells moment images faults why mounted first second first' second' k is safe = record {
+pub on_undumped : {D : Type 0} (tells : Bool) (seen : D → List ℕ) (moment : D → ℕ) (images : D → ℕ → List ℕ → Type 0) (faults : D → ℕ) (why : Why) (mounted : ℕ) (first second first' second' : D) (k : History)
+    → IsUndumped why → (tells ≡ true → IsSafe moment images faults first' second' k.start mounted k.entries k.notes) → OnDisks tells seen moment images faults why mounted first second first' second' k
+on_undumped tells seen moment images faults why mounted first second first' second' k is safe = record {
   safe = safe;
   whole = λ on e. absurd (not_fine why is e);
   full = λ end more on e. absurd (not_full why end more is e);
   failed = λ e. absurd (not_disk why is e);
+  rose = λ on e. absurd (not_disk why is e);
   undamaged = λ second at on e. not_damaged why second at is e;
 }

@@ -20,18 +20,20 @@ pub record Behind (h k : History) (es : List Entry) : Type 0 where
   pub longer : Longer h k es
   pub since : List Note
   pub noted : k.notes ≡ h.notes ++ since
+  pub counted : k.counted ≡ h.counted
 
 pub behind_one : (h k : History) (e : Entry) → k ≡ entered h e → Behind h k (e ∷ [])
-behind_one h k e is = record { longer = longer_one h k e is; since = []; noted = ap (λ (x : History). x.notes) is ∙ sym (append-nil h.notes) }
+behind_one h k e is = record { longer = longer_one h k e is; since = []; noted = ap (λ (x : History). x.notes) is ∙ sym (append-nil h.notes); counted = ap (λ (x : History). x.counted) is }
 
 behind_noted : (h k : History) (note : Note) (e : Entry) → k ≡ entered (noted h note) e → Behind h k (e ∷ [])
-behind_noted h k note e is = record { longer = longer_noted h k note e is; since = note ∷ []; noted = ap (λ (x : History). x.notes) is }
+behind_noted h k note e is = record { longer = longer_noted h k note e is; since = note ∷ []; noted = ap (λ (x : History). x.notes) is; counted = ap (λ (x : History). x.counted) is }
 
 pub behind_on : (h k m : History) (es fs : List Entry) → Behind h k es → Behind k m fs → Behind h m (es ++ fs)
 behind_on h k m es fs p q = record {
   longer = longer_on h k m es fs p.longer q.longer;
   since = p.since ++ q.since;
   noted = q.noted ∙ ap (λ (ns : List Note). ns ++ q.since) p.noted ∙ append_assoc h.notes p.since q.since;
+  counted = q.counted ∙ p.counted;
 }
 
 -- The entries of a last dump, by its answer.

@@ -1,5 +1,6 @@
 pub mod Behind
 pub mod Sharing
+pub mod Noting
 pub mod Dumped
 pub mod Ended
 pub mod Disks

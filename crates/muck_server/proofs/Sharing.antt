@@ -1,5 +1,5 @@
 -- Who did what, where a party does one thing more.
-use Rattle.std.proofs.Common.{◌≡◌, inl, inr, ℕ, zero, suc, Bool, true, false, List, [], ◌∷◌, ◌++◌, map, refl, sym, ap, ◌∙◌, subst, arith, append_assoc, eq-eqb, eqb-true, Option, Some, None}
+use Rattle.std.proofs.Common.{◌≡◌, ◌⊎◌, inl, inr, ℕ, zero, suc, Bool, true, false, List, [], ◌∷◌, ◌++◌, map, refl, sym, ap, ◌∙◌, subst, arith, append_assoc, eq-eqb, eqb-true, Option, Some, None}
 use Rattle.std.specs.Prelude.{◌==◌, if◌then◌else◌, slice_get, is_some}
 use Rattle.std.specs.Option.{option_and_then}
 use Rattle.std.proofs.lemmas.List.{append-nil}
@@ -10,12 +10,12 @@ use Rattle.muck_model.specs.declared.event.Entry.{Entry}
 use Rattle.muck_model.specs.declared.event.Event.{Event}
 use Rattle.muck_model.specs.declared.event.Event.TheVariants.{Cut, Stored, DumpFailed, StopSeen, Died}
 use Rattle.spec_events.specs.Histories.{by_porter}
-use Rattle.spec_events.specs.Own.{Stage, next, stage_of, IsWellFormed}
-use Rattle.spec_events.proofs.Owning.{stage_one, stage_more, well_formed}
+use Rattle.spec_events.specs.Own.{Stage, next, stage_of, IsWellFormed, is_last, IsOver}
+use Rattle.spec_events.proofs.Owning.{stage_one, stage_more, well_formed, over_with, over_stop}
 use Rattle.spec_talks.specs.Parties.{party_of}
 use Rattle.spec_talks.proofs.Histories.{both_ways}
 use Rattle.muck_dumping.specs.inner.Dumps.{by}
-use Rattle.muck_crew.specs.Shared.{IsParty, done_by, IsShared, EndsStopped}
+use Rattle.muck_crew.specs.Shared.{IsParty, done_by, IsShared, IsThrough, AllOver, EndsStopped}
 use Rattle.muck_server.specs.Served.{last_dump, IsLast}
 
 -- What each party did, with one entry more.
@@ -65,10 +65,38 @@ at_more workers p tale event stage later is may a =
       stage_is = ap (stage_of p) (done_same p tale event) ∙ goes;
     }
 
+-- What was done is over.
+
+pub through_same : (q p : ℕ) (tale : List Entry) (event : Event) → (p == q) ≡ false → IsThrough q tale → IsThrough q (tale ++ by p event ∷ [])
+through_same q p tale event other t = subst (λ (es : List Event). (es ≡ []) ⊎ IsOver q es) (sym (done_other q p tale event other)) t
+
+-- what all others than that party did
+abbrev pub OthersOver : ℕ → ℕ → List Entry → Type 0
+OthersOver workers p tale = (q : ℕ) → IsParty workers q → (p == q) ≡ false → IsThrough q tale
+
+pub others_more : (workers p : ℕ) (tale : List Entry) (event : Event) → OthersOver workers p tale → OthersOver workers p (tale ++ by p event ∷ [])
+others_more workers p tale event others q is other = through_same q p tale event other (others q is other)
+
+pub all_over : (workers p : ℕ) (stage : Stage) (tale : List Entry) → At workers p stage tale → is_last stage ≡ true → OthersOver workers p tale → AllOver workers tale
+all_over workers p stage tale a last others q is = from (p == q) refl
+  where
+    from : (b : Bool) → (p == q) ≡ b → IsThrough q tale
+    from true e = subst (λ (r : ℕ). IsThrough r tale) (eqb-true p q e) (inr (over_with p (done_by p tale) stage a.stage_is last))
+    from false e = others q is e
+
+-- each party saw the stop
+pub stopped_over : (workers : ℕ) (tale : List Entry) → IsShared workers tale → ((party : ℕ) → IsParty workers party → EndsStopped party tale) → AllOver workers tale
+stopped_over workers tale s last q is =
+    let e = last q is in
+    inr (subst (IsOver q) (sym e.1) (over_stop q e.0 (subst (IsWellFormed q) e.1 (s.own q is))))
+
 -- nothing was done yet
 pub at_first : (workers p : ℕ) → At workers p Stage.unbound []
 unfolding stage_of
 at_first workers p = record { shared = record { known = λ i x at. absurd (none-some x at); own = λ q q_is. refl }; stage_is = refl }
+
+pub none_first : (workers p : ℕ) → OthersOver workers p []
+none_first workers p q is other = inl refl
 
 -- The stop.
 
@@ -121,22 +149,27 @@ ends_dump : (k : ℕ) (done : Bool) → next 0 (Stage.dumping k) (if done then S
 ends_dump k true = ap (λ (b : Bool). if b then Some Stage.finished else None) (eq-eqb k k refl)
 ends_dump k false = ap (λ (b : Bool). if b then Some Stage.finished else None) (eq-eqb k k refl)
 
-module _ (workers : ℕ) (tale : List Entry) (stopped : At workers 0 Stage.stopped tale) where
+-- the history is shared, and over
+abbrev pub EndsShared : ℕ → List Entry → Type 0
+EndsShared workers tale = IsShared workers tale × AllOver workers tale
+
+module _ (workers : ℕ) (tale : List Entry) (stopped : At workers 0 Stage.stopped tale) (others : OthersOver workers 0 tale) where
   cut : (k : ℕ) → At workers 0 (Stage.dumping k) (tale ++ by_porter (Cut k) ∷ [])
   cut k = at_more workers 0 tale (Cut k) Stage.stopped (Stage.dumping k) (first_is workers) refl stopped
 
-  pub last_shared : (es : List Entry) → IsLast es → IsShared workers (tale ++ es)
-  last_shared es (inl (k, done, is)) = subst (λ (x : List Entry). IsShared workers (tale ++ x)) (sym is) (dumped k done)
-    where
-      dumped : (k : ℕ) (done : Bool) → IsShared workers (tale ++ last_dump k done)
-      dumped k done =
-          let a = at_more workers 0 (tale ++ by_porter (Cut k) ∷ []) (if done then Stored k else DumpFailed k) (Stage.dumping k) Stage.finished (first_is workers) (ends_dump k done) (cut k) in
-          subst (IsShared workers) (append_assoc tale (by_porter (Cut k) ∷ []) (by_porter (if done then Stored k else DumpFailed k) ∷ [])) a.shared
-  last_shared es (inr (inl is)) =
-      subst (λ (x : List Entry). IsShared workers (tale ++ x)) (sym is) (at_more workers 0 tale Died Stage.stopped Stage.ended (first_is workers) refl stopped).shared
-  last_shared es (inr (inr (k, is))) = subst (λ (x : List Entry). IsShared workers (tale ++ x)) (sym is) (died k)
-    where
-      died : (k : ℕ) → IsShared workers (tale ++ by_porter (Cut k) ∷ by_porter Died ∷ [])
-      died k =
-          let a = at_more workers 0 (tale ++ by_porter (Cut k) ∷ []) Died (Stage.dumping k) Stage.ended (first_is workers) refl (cut k) in
-          subst (IsShared workers) (append_assoc tale (by_porter (Cut k) ∷ []) (by_porter Died ∷ [])) a.shared
+  -- one entry more, behind which nothing is open
+  ended : (front : List Entry) (event : Event) (stage last : Stage) → At workers 0 stage front → OthersOver workers 0 front → next 0 stage event ≡ Some last → is_last last ≡ true → EndsShared workers (front ++ by_porter event ∷ [])
+  ended front event stage last a rest may over =
+      let b = at_more workers 0 front event stage last (first_is workers) may a in
+      (b.shared, all_over workers 0 last (front ++ by_porter event ∷ []) b over (others_more workers 0 front event rest))
+
+  behind_cut : (k : ℕ) (event : Event) (last : Stage) → next 0 (Stage.dumping k) event ≡ Some last → is_last last ≡ true → EndsShared workers (tale ++ by_porter (Cut k) ∷ by_porter event ∷ [])
+  behind_cut k event last may over =
+      subst (EndsShared workers) (append_assoc tale (by_porter (Cut k) ∷ []) (by_porter event ∷ []))
+      (ended (tale ++ by_porter (Cut k) ∷ []) event (Stage.dumping k) last (cut k) (others_more workers 0 tale (Cut k) others) may over)
+
+  pub last_shared : (es : List Entry) → IsLast es → EndsShared workers (tale ++ es)
+  last_shared es (inl (k, done, is)) =
+      subst (λ (x : List Entry). EndsShared workers (tale ++ x)) (sym is) (behind_cut k (if done then Stored k else DumpFailed k) Stage.finished (ends_dump k done) refl)
+  last_shared es (inr (inl is)) = subst (λ (x : List Entry). EndsShared workers (tale ++ x)) (sym is) (ended tale Died Stage.stopped Stage.ended stopped others refl refl)
+  last_shared es (inr (inr (k, is))) = subst (λ (x : List Entry). EndsShared workers (tale ++ x)) (sym is) (behind_cut k Died Stage.ended refl refl)

@@ -1,22 +1,23 @@
 -- What a call of `serve` comes to.
-use Rattle.std.specs.Prelude.{◌≡◌, ◌⊎◌, ◌≤◌, ◌^◌, ℕ, Bool, true, false, if◌then◌else◌, List, [], ◌∷◌, ◌++◌, length, slice_get, Some, None}
+use Rattle.std.specs.Prelude.{◌≡◌, ◌⊎◌, ◌≤◌, ◌^◌, ℕ, Bool, true, false, if◌then◌else◌, List, [], ◌∷◌, ◌++◌, length, slice_get, Option, Some, None}
 use Rattle.muck_io.specs.Faults.{Rose}
 use Rattle.muck_links.specs.Sessions.{Session}
 use Rattle.muck_model.specs.declared.event.Entry.{Entry}
 use Rattle.muck_model.specs.declared.event.Event.TheVariants.{Cut, Stored, DumpFailed, Died}
 use Rattle.muck_model.specs.declared.note.Note.{Note}
+use Rattle.muck_model.specs.declared.note.Counted.{Counted}
 use Rattle.turn_lock.specs.Histories.{StartsWith}
-use Rattle.spec_dumps.specs.Survival.{IsSafe, StandsWhole}
+use Rattle.spec_dumps.specs.Survival.{IsSafe, RoseInLast, StandsWhole}
 use Rattle.spec_events.specs.World.{World}
 use Rattle.spec_events.specs.Histories.{after, by_porter, AllLawful}
 use Rattle.spec_talks.specs.Talks.{Talk, talks, talks_with, sent}
-use Rattle.spec_serve.specs.Marks.{LinksNote}
+use Rattle.spec_serve.specs.Marks.{LinksNote, counts_in, IsLinksNote}
 use Rattle.spec_serve.specs.Accounts.{Agrees}
 use Rattle.spec_serve.specs.Promises.{Tally, PromisedOf, sessions_with}
 use Rattle.muck_porter.specs.inner.Kept.{Account}
 use Rattle.muck_porter.specs.Times.{Timely}
 use Rattle.muck_dumping.specs.inner.Dumps.{IsFull}
-use Rattle.muck_crew.specs.Shared.{IsParty, IsShared, EndsStopped, LeavesWorkedOff}
+use Rattle.muck_crew.specs.Shared.{IsParty, IsShared, AllOver, EndsStopped, LeavesWorkedOff}
 use Rattle.muck_crew.specs.declared.why.Why.{Why}
 use Rattle.muck_crew.specs.declared.why.Why.TheVariants.{Fine, NoMemory, DiskFault, Damaged, ListenFault, StoreFull, Spent}
 
@@ -68,34 +69,44 @@ HasStopped NoMemory = ⊥
 HasStopped (Spent turns) = ⊥
 HasStopped why = Unit {0}
 
+-- all turns were had, before each party was told why the run ended
+abbrev pub HasRunOut : Why → List Entry → Type 0
+HasRunOut (Spent turns) tale = Unit {0}
+HasRunOut NoMemory tale = 2 ^ 62 ≤ length tale
+HasRunOut why tale = ⊥
+
 -- It never began: memory was wanted, nothing happened, nobody was let in, the clock wasn't asked, and the files weren't touched. The links were asked to listen on no port, or
 -- once, on this one.
-pub record IsUnserved {D : Type 0} (shows : Bool) (before now : Account) (port : ℕ) (why : Why) (first second first' second' : D) (tale : List Entry) : Type 0 where
+pub record IsUnserved {D : Type 0} (shows : Bool) (before now : Account) (port : ℕ) (why : Why) (first second first' second' : D) (tale : List Entry) (counted : Option Counted) : Type 0 where
   pub wanted : why ≡ NoMemory
   pub empty : tale ≡ []
+  pub unnoted : counted ≡ None
   pub nobody : shows ≡ true → now.links.told.sessions ≡ before.links.told.sessions
   pub ports : shows ≡ true → (now.links.told.ports ≡ before.links.told.ports) ⊎ (now.links.told.ports ≡ port ∷ before.links.told.ports)
   pub clock : now.answers ≡ before.answers
   pub first_file : first' ≡ first
   pub second_file : second' ≡ second
 
--- One history happened in the world w, to which all parties added: each entry was lawful where it stands. The links were asked once to listen, on this port; what they
--- carried is what that history says of each connection; each of its moments is the clock's next answer, or the second before it where that is later; and of the disks is
--- kept what is kept of a run. `before` and `now` are what links and clock tell, the links where they tell what they carry (`shows`).
-pub record IsServed {D : Type 0} (shows tells : Bool) (before now : Account) (moment : D → ℕ) (images : D → ℕ → List ℕ → Type 0) (faults : D → ℕ) (workers port : ℕ) (why : Why)
-    (w : World) (mounted : ℕ) (mounting : Note) (first second first' second' : D) (tale : List Entry) (notes : List Note) : Type 0 where
-  pub counted : LinksNote
+-- One history happened in the world w, to which all parties added: each entry was lawful where it stands, and what each party did is over, but where all turns were had. The
+-- note of the links is the tale's, and stands where it has to. The links were asked once to listen, on this port; what they carried is what that history says of each
+-- connection; each of its moments is the clock's next answer, or the second before it where that is later; and of the disks is kept what is kept of a run. `before` and `now`
+-- are what links and clock tell, the links where they tell what they carry (`shows`).
+pub record IsServed {D : Type 0} (shows tells : Bool) (before now : Account) (seen : D → List ℕ) (moment : D → ℕ) (images : D → ℕ → List ℕ → Type 0) (faults : D → ℕ) (workers port : ℕ) (why : Why)
+    (w : World) (mounted : ℕ) (mounting : Note) (first second first' second' : D) (tale : List Entry) (notes : List Note) (counted : Option Counted) : Type 0 where
   pub since : List Note
   pub noted : notes ≡ mounting ∷ since
   pub lawful : AllLawful w tale
   pub shared : IsShared workers tale
-  pub carried : shows ≡ true → IsCarried counted before.links now.links w tale
+  pub over : ¬ (HasRunOut why tale) → AllOver workers tale
+  pub marked : IsLinksNote counted w tale
+  pub carried : shows ≡ true → IsCarried (counts_in counted) before.links now.links w tale
   pub ports : shows ≡ true → now.links.told.ports ≡ port ∷ before.links.told.ports
   pub timely : Timely before.answers now.answers w tale
-  pub worked_off : shows ≡ true → HasStopped why → LeavesWorkedOff counted w tale now.links
+  pub worked_off : shows ≡ true → HasStopped why → LeavesWorkedOff (counts_in counted) w tale now.links
   pub ended : HasEnded workers before.links.listening now.links.listening w why tale
-  pub safe : tells ≡ true → IsSafe moment images first' second' w mounted tale notes
+  pub safe : tells ≡ true → IsSafe moment images faults first' second' w mounted tale notes
   pub whole : tells ≡ true → why ≡ Fine → StandsWhole moment images first' second' w tale
-  pub full : (end more : ℕ) → tells ≡ true → why ≡ StoreFull end more → IsFull mounted (record { start = w; entries = tale; notes = notes; counted = None }) end more
+  pub full : (end more : ℕ) → tells ≡ true → why ≡ StoreFull end more → IsFull seen first' second' mounted (record { start = w; entries = tale; notes = notes; counted = counted }) end more
   pub failed : why ≡ DiskFault → Rose (faults first) (faults first') ⊎ Rose (faults second) (faults second')
+  pub rose : tells ≡ true → why ≡ DiskFault → RoseInLast notes
   pub undamaged : (second : Bool) (at : ℕ) → tells ≡ true → why ≡ Damaged second at → ⊥

@@ -4,6 +4,7 @@ ghost use Rattle.muck_dumping.specs.inner.Between.{IsReady as HasLog};
 ghost use Rattle.muck_model.specs.declared.note.Note.{Note};
 ghost use Rattle.muck_porter.specs.inner.Kept.{account};
 ghost use Rattle.spec_events.specs.Histories.{now};
+ghost use Rattle.spec_talks.specs.Counts.{counts};
 ghost use Rattle.muck_crew.specs.inner.Finished.{HasDump};
 ghost use Rattle.muck_crew.specs.inner.Runs.{IsFresh};
 ghost use Rattle.muck_server.specs.inner.{halted};
@@ -12,7 +13,7 @@ ghost use Rattle.muck_server.specs.Served.{IsUnserved, IsServed};
 use muck_crew::{Why, room, serve_links};
 use muck_disk::Disk;
 use muck_dumping::{Store, dump};
-use muck_io::{Clock, Gate, Rest};
+use muck_io::{Clock, Gate, Rest, place};
 use muck_links::{Links, Listened};
 use muck_log::Log;
 use muck_machine::World;
@@ -21,24 +22,36 @@ use std::alloc::Global;
 use std::sync::Wait;
 use std::thread::Threads;
 
-// The world is halted, and the first party sees that.
-fn halt(world: &mut World)
+// The world is halted, the links are noted, and the first party sees that it is stopping.
+fn halt<L: Links>(world: &mut World, links: &L)
     requires { (now world.old).dead ≡ false }
-    ensures { world.new ≡ halted world.old }
+    ensures { world.new ≡ halted (counts (L.told links.now).sessions) world.old }
 {
     world.halt();
+    world.note_links(links);
     let _sees = world.stopped(0);
 }
 
-// Nobody can be let in: the world is halted, and the first party makes the last dump.
-fn stop<D: Disk>(alloc: Global, world: &mut World, log: Log, first: &mut D, second: &mut D)
+// Nobody can be let in: the world is halted, and the first party makes the last dump, behind the gate.
+fn stop<L: Links, D: Disk, G: Gate>(
+    alloc: Global,
+    world: &mut World,
+    log: Log,
+    links: &L,
+    first: &mut D,
+    second: &mut D,
+    gate: &G,
+)
     requires alive { (now world.old).dead ≡ false }
     requires fresh { (mounting : Note) × IsFresh mounting world.old }
     requires mounted { D.tells ≡ true → (mounted : ℕ) × HasLog D.seen D.moment D.images D.faults (Some log) first.old second.old mounted world.old }
-    ensures { HasDump D.tells D.seen D.moment D.images D.faults true (Some log) first.old second.old first.new second.new (halted world.old) world.new Why.ListenFault }
+    ensures dump { HasDump D.tells D.seen D.moment D.images D.faults true (Some log) first.old second.old first.new second.new (halted (counts (L.told links.now).sessions) world.old) world.new Why.ListenFault }
+    ensures first_attached { D.attached first.new ≡ D.attached first.old }
+    ensures second_attached { D.attached second.new ≡ D.attached second.old }
 {
     let mut store = Store::new(log);
-    halt(world);
+    halt(world, links);
+    gate.pass(place::BEFORE_DUMP);
     let _answer = dump(alloc, world, 0, &mut store, first, second);
 }
 
@@ -72,8 +85,10 @@ pub fn serve<
 
     // Either nothing happened, for want of memory, or one history did, to which all parties added.
     ensures served { (mounted : ℕ) (mounting : Note) → IsFresh mounting world → (D.tells ≡ true → HasLog D.seen D.moment D.images D.faults (Some log) first.old second.old mounted world)
-        → IsUnserved (L.tells links.old) (account (L.told links.old) (L.listening links.old) (C.answers clock.old)) (account (L.told links.new) (L.listening links.new) (C.answers clock.new)) port result.0 first.old second.old first.new second.new result.1.entries
-        ⊎ IsServed (L.tells links.old) D.tells (account (L.told links.old) (L.listening links.old) (C.answers clock.old)) (account (L.told links.new) (L.listening links.new) (C.answers clock.new)) D.moment D.images D.faults workers port result.0 world.start mounted mounting first.old second.old first.new second.new result.1.entries result.1.notes }
+        → IsUnserved (L.tells links.old) (account (L.told links.old) (L.listening links.old) (C.answers clock.old)) (account (L.told links.new) (L.listening links.new) (C.answers clock.new)) port result.0 first.old second.old first.new second.new result.1.entries result.1.counted
+        ⊎ IsServed (L.tells links.old) D.tells (account (L.told links.old) (L.listening links.old) (C.answers clock.old)) (account (L.told links.new) (L.listening links.new) (C.answers clock.new)) D.seen D.moment D.images D.faults workers port result.0 world.start mounted mounting first.old second.old first.new second.new result.1.entries result.1.notes result.1.counted }
+    ensures first_attached { D.attached first.new ≡ D.attached first.old }
+    ensures second_attached { D.attached second.new ≡ D.attached second.old }
 {
     if world.is_dead() {
         return (Why::NoMemory, world.into_tale());
@@ -90,7 +105,7 @@ pub fn serve<
         },
         Listened::Fault => {
             let mut world = world;
-            stop(alloc, &mut world, log, first, second);
+            stop(alloc, &mut world, log, links, first, second, gate);
             (Why::ListenFault, world.into_tale())
         }
         Listened::NoMemory => (Why::NoMemory, world.into_tale()),

@@ -18,3 +18,4 @@ pub mod Marking
 pub mod Tying
 pub mod Walking
 pub mod Undue
+pub mod Reload

@@ -54,7 +54,7 @@ chain_through (suc n) os v p (x ∷ xs) met short links stands apart free =
     rw (stands x (inl refl), has_false x met (free x (inl refl)), links.0)
     (chain_through n os v p xs (met ++ x ∷ []) (omega arith) links.1 (λ d m. stands d (inr m)) apart.1 new ∙ ap (λ (l : List ℕ). Some l) (append_assoc met (x ∷ []) xs))
 
-list_links : (es : List Entry) → IsOrdered es → (v : Bool) (p : ℕ) → Links (next_at (persist es)) (list_in v es p)
+pub list_links : (es : List Entry) → IsOrdered es → (v : Bool) (p : ℕ) → Links (next_at (persist es)) (list_in v es p)
 list_links es c v p =
     links_frame (λ d. follower d (list_in v es p)) (next_at (persist es)) (list_in v es p) (λ d m. next_follows es v p d (c.stands v p d m)) (links_apart (list_in v es p) (c.once v p))
 

@@ -120,7 +120,7 @@ next_follows es v p d s = next_persist es d ∙ next_listed es v p d s
 
 -- Where a list begins.
 
-index_first : (xs : List ℕ) → index_of (first_of xs) ≡ front xs
+pub index_first : (xs : List ℕ) → index_of (first_of xs) ≡ front xs
 index_first [] = refl
 index_first (x ∷ xs) = refl
 

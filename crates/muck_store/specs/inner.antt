@@ -1,3 +1,4 @@
 pub mod Changes
 pub mod Hung
 pub mod Marks
+pub mod Again

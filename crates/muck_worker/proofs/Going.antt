@@ -11,7 +11,7 @@ use Rattle.spec_events.specs.Steps.{has_claim}
 use Rattle.spec_events.specs.Logged.{is_dump, logged, logged_by, bare_item, entries_of, events_of, NoNotes, NoCounts, IsOrderly}
 use Rattle.spec_events.specs.Own.{Stage, next, stage_of}
 use Rattle.spec_events.proofs.Logging.{entries_logged, entries_append, events_append, no_notes_one, no_counts_one, orderly_bare}
-use Rattle.spec_events.proofs.Owning.{stage_more, well_formed}
+use Rattle.spec_events.proofs.Owning.{stage_more, well_formed, over_with}
 use Rattle.spec_claims.specs.inner.Claims.{AreOthers}
 use Rattle.spec_claims.proofs.Staying.{claim_stays}
 use Rattle.muck_machine.specs.inner.Seats.{Sight, Chair, Rests, Waited, SameLists, Turned}
@@ -127,6 +127,7 @@ module _ (party : ℕ) (me : Chair) where
         lists = same_later me.0 now_me.0 later_me.0 w.lists t.lists;
         seen = seen_since;
         formed = well_formed party (events_of later_me.0.own) Stage.stopped (stage_since Stage.stopped did.0);
+        over = λ n. over_with party (events_of later_me.0.own) Stage.stopped (stage_since Stage.stopped did.0) refl;
         notes = notes_since;
         counts = counts_since;
         fine = λ e. (now_me.0.own, t.own ∙ ap (λ (x : Event). now_me.0.own ++ bare_item (by party x) ∷ []) did.1);
@@ -140,6 +141,7 @@ module _ (party : ℕ) (me : Chair) where
         lists = same_later me.0 now_me.0 later_me.0 w.lists t.lists;
         seen = seen_since;
         formed = well_formed party (events_of later_me.0.own) Stage.ended (stage_since Stage.ended did.0);
+        over = λ n. over_with party (events_of later_me.0.own) Stage.ended (stage_since Stage.ended did.0) refl;
         notes = notes_since;
         counts = counts_since;
         fine = λ e. cc;

@@ -7,7 +7,7 @@ ghost use Rattle.muck_worker.specs.inner.Working.{WorkerReady, WorkerDone};
 ghost use Rattle.muck_worker.specs.inner.Deeds.{by, DidAs, IsHeld};
 
 use crate::deeds::{Did, Task, works};
-use muck_io::{Gate, Rest, YieldRest, place};
+use muck_io::{Gate, Rest, place};
 use muck_machine::World;
 use std::sync::Wait;
 use turn_lock::{Spent, Turn, TurnSeat};
@@ -40,7 +40,7 @@ fn worker_turn<W: Wait, R: Rest>(
     ensures ok { IfOk result (λ did. Rests party seat.new.me × ((event : Event) × Turned seat.old.me.0 seat.new.me.0 (bare_item (by party event)) × DidAs party task did event)) }
     ensures err { OnErr result (Left party seat.new.me × Waited seat.old.me.0 seat.new.me.0 × (2 ^ 62 ≤ length seat.new.me.0.seen)) }
 {
-    let held = turn.hold(rt, seat, &YieldRest)?;
+    let held = turn.hold(rt, seat, rest)?;
     let mut held = held;
     // For contracts alone: each entry so far is lawful where it stands.
     let _dead = held.state.is_dead();

@@ -7,7 +7,8 @@ use Rattle.muck_io.specs.inner.Clock.{Answers}
 use Rattle.muck_links.specs.Sessions.{Told}
 use Rattle.muck_model.specs.declared.event.Entry.{Entry}
 use Rattle.muck_model.specs.declared.note.Note.{Note}
-use Rattle.muck_log.specs.Store.{LogState}
+use Rattle.muck_model.specs.declared.note.Counted.{Counted}
+use Rattle.muck_log.specs.Store.{Chosen, LogState, stored}
 use Rattle.muck_log.specs.World.{IsFine}
 use Rattle.muck_log.specs.inner.Mount.{IsMountedAs}
 use Rattle.spec_dumps.specs.Fronts.{file_most}
@@ -22,10 +23,10 @@ use Rattle.muck_crew.specs.declared.why.Why.{Why as Ended}
 use Rattle.muck_crew.specs.declared.why.Why.TheVariants as ended
 use Rattle.muckd.specs.Words.{Command, run, drill, serve, is_scripted}
 use Rattle.muck_run.specs.Drill.{HasDrilled}
-use Rattle.muck_run.specs.Outcome.{IsUntouched, EndsAs}
+use Rattle.muck_run.specs.Outcome.{IsUntouched, EndsAs, EndsFull}
 use Rattle.muck_run.specs.inner.Dumps.{note_of}
 use Rattle.muckd.specs.Serving.{why_served, IsUnserved, HasServed, ServesAs}
-use Rattle.muck_run.specs.inner.Ends.{IsBootable, booted_at, unbegun_at, begun_at}
+use Rattle.muck_run.specs.inner.Ends.{IsBootable, IsNoteOf, booted_at, unbegun_at, begun_at}
 use Rattle.muck_run.specs.declared.why.Why.{Why}
 use Rattle.muck_run.specs.declared.why.Why.TheVariants.{Fine, Usage, NoMemory, DiskFault, Damaged, ListenFault, StoreFull, Spent}
 use Rattle.muck_run.proofs.Called.{holds_still, either_since}
@@ -77,6 +78,7 @@ module _ (began : ℕ) (log : LogState) (note : Note) (h : History) (is : h ≡ 
     counted = ap (λ (x : History). x.counted) is;
     nobody = ap (λ (x : History). x.start.live.board.connections) is;
     idle = ap (λ (x : History). x.start.dumps.running) is;
+    going = ap (λ (x : History). x.start.stopping) is;
   }
 
   pub start_begun : h.start ≡ booted_at began log.chosen.held.world
@@ -93,97 +95,114 @@ ready_begun began seen moment images faults log f s boots props mounted h is = r
 
 module _ {L C D : Type 0} (shows : Bool) (told : L → Told) (listening : L → ℕ) (answers : C → Option (List ℕ))
     (tells : Bool) (attached : D → Option (List ℕ)) (seen : D → List ℕ) (moment : D → ℕ) (images : D → ℕ → List ℕ → Type 0) (faults : D → ℕ) (store : List ℕ) (port workers : ℕ)
-    (log : LogState) (began : ℕ) (mounting : Note) (cause : Ended) (l l' : L) (c c' c'' : C) (first second first' second' first'' second'' : D) (tale : List Entry) (notes : List Note) where
+    (log : LogState) (began : ℕ) (mounting : Note) (cause : Ended) (l l' : L) (c c' c'' : C) (first second first' second' first'' second'' : D) (tale : List Entry) (notes : List Note) (counted : Option Counted) where
   -- what links and clock tell
   abbrev pub account_of : L → C → Account
   account_of links clock = account (told links) (listening links) (answers clock)
 
   abbrev pub Unserved : Type 0
-  Unserved = IsUnserved shows told tells seen moment images port l l' first second first'' second'' tale
+  Unserved = IsUnserved shows told answers tells seen moment images port l l' c c'' first second first'' second'' tale counted
 
   abbrev pub Served : Why → Type 0
-  Served why = HasServed shows told listening answers tells attached seen moment images store port workers why l l' c c'' first second first'' second'' tale notes
+  Served why = HasServed shows told listening answers tells attached seen moment images faults store port workers why l l' c c'' first second first'' second'' tale notes counted
 
-  has_served : (tells ≡ true → IsMountedAs seen moment images file_most log first' second') → IsFine log.chosen.held.world
-      → (tells ≡ true → attached first' ≡ Some (store ++ codes ".a")) → (tells ≡ true → attached second' ≡ Some (store ++ codes ".b"))
-      → (tells ≡ true → IsUntouched seen moment images first first') → (tells ≡ true → IsUntouched seen moment images second second')
-      → Answers (answers c) (answers c') began → (mounting.first_moment ≡ moment first') × (mounting.second_moment ≡ moment second')
-      → IsServed shows tells (account_of l c') (account_of l' c'') moment images faults workers port cause (booted_at began log.chosen.held.world) log.chosen.held.number mounting first' second' first'' second'' tale notes
-      → Served (why_served cause)
-  has_served mounted fine name_a name_b a b clock at s = record {
+  abbrev pub Ends : World → Type 0
+  Ends w = IsServed shows tells (account_of l c') (account_of l' c'') seen moment images faults workers port cause w log.chosen.held.number mounting first' second' first'' second'' tale notes counted
+
+  abbrev pub Wanted : Type 0
+  Wanted = Never shows (account_of l c') (account_of l' c'') port cause first' second' first'' second'' tale counted
+
+  -- what was said of the mounting, and of the disks since then
+  pub record Mounting : Type 0 where
+    pub mounted : tells ≡ true → IsMountedAs seen moment images file_most log first' second'
+    pub fine : IsFine log.chosen.held.world
+    pub first_name : tells ≡ true → attached first' ≡ Some (store ++ codes ".a")
+    pub second_name : tells ≡ true → attached second' ≡ Some (store ++ codes ".b")
+    pub first_still : attached first'' ≡ attached first'
+    pub second_still : attached second'' ≡ attached second'
+    pub first_file : tells ≡ true → IsUntouched seen moment images first first'
+    pub second_file : tells ≡ true → IsUntouched seen moment images second second'
+    pub first_later : faults first ≤ faults first'
+    pub second_later : faults second ≤ faults second'
+    pub clock : Answers (answers c) (answers c') began
+    pub note : IsNoteOf moment faults first' second' mounting
+
+  held : Mounting → tells ≡ true → stored (seen first) (seen second) ≡ Ok log.chosen
+  held m on = holds_still seen moment images first second first' second' (m.first_file on) (m.second_file on) (Ok log.chosen) (m.mounted on).mounted.load
+
+  has_served : Mounting → Ends (booted_at began log.chosen.held.world) → Served (why_served cause)
+  has_served m s = record {
     start = booted_at began log.chosen.held.world;
     began = began;
     mounted = log.chosen.held.number;
-    begins = record {
-      kept = log.chosen.held.world;
-      fine = fine;
-      boots = refl;
-      holds = λ on. (log.chosen, holds_still seen moment images first second first' second' (a on) (b on) (Ok log.chosen) (mounted on).mounted.load, refl, refl);
-    };
+    begins = record { kept = log.chosen.held.world; fine = m.fine; boots = refl; holds = λ on. (log.chosen, held m on, refl, refl) };
     coming = answers c';
-    clock = clock;
+    clock = m.clock;
     opened = record {
       mounted_first = first';
       mounted_second = second';
-      first_name = name_a;
-      second_name = name_b;
-      first_file = a;
-      second_file = b;
+      first_name = m.first_name;
+      second_name = m.second_name;
+      first_now = λ on. m.first_still ∙ m.first_name on;
+      second_now = λ on. m.second_still ∙ m.second_name on;
+      first_file = m.first_file;
+      second_file = m.second_file;
+      first_later = m.first_later;
+      second_later = m.second_later;
       note = mounting;
       others = s.since;
       noted = s.noted;
-      first_moment = at.0;
-      second_moment = at.1;
+      first_moment = m.note.first_moment;
+      second_moment = m.note.second_moment;
+      first_faults = m.note.first_faults;
+      second_faults = m.note.second_faults;
     };
+    cause = cause;
+    answered = refl;
     lawful = s.lawful;
     licensed = licensed_from began log.chosen.held.world tale;
     passwords = known_from began log.chosen.held.world tale s.lawful;
     shared = s.shared;
-    counted = s.counted;
+    over = s.over;
+    links_note = s.marked;
     carried = s.carried;
     ports = s.ports;
     timely = s.timely;
-    cause = cause;
-    answered = refl;
     ended = s.ended;
     worked_off = s.worked_off;
     safe = s.safe;
     whole = λ on e. s.whole on (cause_is cause ended.Fine Fine e refl);
-    full = λ end more on e. s.full end more on (cause_is cause (ended.StoreFull end more) (StoreFull end more) e refl);
+    full = λ end more on e.
+        let v = s.full end more on (cause_is cause (ended.StoreFull end more) (StoreFull end more) e refl) in
+        record { n = v.n; store = v.store; held = v.shown; front = v.front; place = v.place; size = v.size; over = v.over };
+    failed = λ on e. s.rose on (cause_is cause ended.DiskFault DiskFault e refl);
   }
 
-  never_served : (tells ≡ true → IsUntouched seen moment images first first') → (tells ≡ true → IsUntouched seen moment images second second')
-      → Never shows (account_of l c') (account_of l' c'') port cause first' second' first'' second'' tale → Unserved
-  never_served a b n = record {
+  never_served : Mounting → Wanted → Unserved
+  never_served m n = record {
     empty = n.empty;
+    unnoted = n.unnoted;
     nobody = n.nobody;
     ports = n.ports;
-    first_file = λ on. untouched_on seen moment images first first' first'' (a on) (untouched_still seen moment images first' first'' n.first_file);
-    second_file = λ on. untouched_on seen moment images second second' second'' (b on) (untouched_still seen moment images second' second'' n.second_file);
+    clock = inr (began, subst (λ (coming : Option (List ℕ)). Answers (answers c) coming began) (sym n.clock) m.clock, λ on. (log.chosen, held m on));
+    first_file = λ on. untouched_on seen moment images first first' first'' (m.first_file on) (untouched_still seen moment images first' first'' n.first_file);
+    second_file = λ on. untouched_on seen moment images second second' second'' (m.second_file on) (untouched_still seen moment images second' second'' n.second_file);
   }
 
   -- which of the two, by the answer
-  pub server_ends : (tells ≡ true → IsMountedAs seen moment images file_most log first' second') → IsFine log.chosen.held.world
-      → (tells ≡ true → attached first' ≡ Some (store ++ codes ".a")) → (tells ≡ true → attached second' ≡ Some (store ++ codes ".b"))
-      → (tells ≡ true → IsUntouched seen moment images first first') → (tells ≡ true → IsUntouched seen moment images second second')
-      → Answers (answers c) (answers c') began → (mounting.first_moment ≡ moment first') × (mounting.second_moment ≡ moment second') → (w : World) → w ≡ booted_at began log.chosen.held.world
-      → Never shows (account_of l c') (account_of l' c'') port cause first' second' first'' second'' tale
-      ⊎ IsServed shows tells (account_of l c') (account_of l' c'') moment images faults workers port cause w log.chosen.held.number mounting first' second' first'' second'' tale notes
-      → (why : Why) → why ≡ why_served cause → ServesAs why Unserved (Served why)
-  server_ends mounted fine name_a name_b a b clock at w is r why answered =
+  pub server_ends : Mounting → (w : World) → w ≡ booted_at began log.chosen.held.world → Wanted ⊎ Ends w → (why : Why) → why ≡ why_served cause → ServesAs why Unserved (Served why)
+  server_ends m w is r why answered =
       subst (λ (x : Why). ServesAs x Unserved (Served x)) (sym answered)
       (elim r [
-        | inl n ↦ subst (λ (x : Ended). ServesAs (why_served x) Unserved (Served (why_served cause))) (sym n.wanted) (inl (never_served a b n))
-        | inr s ↦ served_ends cause Unserved (Served (why_served cause))
-            (has_served mounted fine name_a name_b a b clock at
-            (subst (λ (x : World). IsServed shows tells (account_of l c') (account_of l' c'') moment images faults workers port cause x log.chosen.held.number mounting first' second' first'' second'' tale notes) is s))
+        | inl n ↦ subst (λ (x : Ended). ServesAs (why_served x) Unserved (Served (why_served cause))) (sym n.wanted) (inl (never_served m n))
+        | inr s ↦ served_ends cause Unserved (Served (why_served cause)) (has_served m (subst (λ (x : World). Ends x) is s))
       ])
 
 -- What the server itself says of the disks, by its answer.
 
-module _ {D : Type 0} (shows tells : Bool) (before now : Account) (moment : D → ℕ) (images : D → ℕ → List ℕ → Type 0) (faults : D → ℕ) (first first' : D) (second second' : D) (workers port : ℕ) (cause : Ended)
-    (w : World) (mounted : ℕ) (mounting : Note) (tale : List Entry) (notes : List Note)
-    (r : Never shows before now port cause first second first' second' tale ⊎ IsServed shows tells before now moment images faults workers port cause w mounted mounting first second first' second' tale notes) where
+module _ {D : Type 0} (shows tells : Bool) (before now : Account) (seen : D → List ℕ) (moment : D → ℕ) (images : D → ℕ → List ℕ → Type 0) (faults : D → ℕ) (first first' : D) (second second' : D) (workers port : ℕ) (cause : Ended)
+    (w : World) (mounted : ℕ) (mounting : Note) (tale : List Entry) (notes : List Note) (counted : Option Counted)
+    (r : Never shows before now port cause first second first' second' tale counted ⊎ IsServed shows tells before now seen moment images faults workers port cause w mounted mounting first second first' second' tale notes counted) where
   -- a disk failed since the store was mounted
   pub disk_failed : (a b : ℕ) → a ≤ faults first → b ≤ faults second → why_served cause ≡ DiskFault → Rose a (faults first') ⊎ Rose b (faults second')
   disk_failed a b le ge e =
@@ -205,26 +224,31 @@ module _ {D : Type 0} (shows tells : Bool) (before now : Account) (moment : D �
 -- What the answer of a server tells.
 
 module _ {L C D : Type 0} (shows : Bool) (told : L → Told) (listening : L → ℕ) (answers : C → Option (List ℕ))
-    (tells : Bool) (attached : D → Option (List ℕ)) (seen : D → List ℕ) (moment : D → ℕ) (images : D → ℕ → List ℕ → Type 0) (store : List ℕ) (port workers : ℕ)
-    (why : Why) (l l' : L) (c c' : C) (first second first' second' : D) (tale : List Entry) (notes : List Note) (U : Type 0)
-    (ends : ServesAs why U (HasServed shows told listening answers tells attached seen moment images store port workers why l l' c c' first second first' second' tale notes)) where
-  pub listening_failed : why ≡ ListenFault → Rose (listening l) (listening l')
-  listening_failed e =
-      let s : HasServed shows told listening answers tells attached seen moment images store port workers why l l' c c' first second first' second' tale notes =
-      subst (λ (x : Why). ServesAs x U (HasServed shows told listening answers tells attached seen moment images store port workers why l l' c c' first second first' second' tale notes)) e ends in
+    (tells : Bool) (attached : D → Option (List ℕ)) (seen : D → List ℕ) (moment : D → ℕ) (images : D → ℕ → List ℕ → Type 0) (faults : D → ℕ) (store : List ℕ) (port workers : ℕ)
+    (why : Why) (l l' : L) (c c' : C) (first second first' second' : D) (tale : List Entry) (notes : List Note) (counted : Option Counted) (U : Type 0) where
+  abbrev HasBeenServed : Type 0
+  HasBeenServed = HasServed shows told listening answers tells attached seen moment images faults store port workers why l l' c c' first second first' second' tale notes counted
+
+  pub listening_failed : ServesAs why U HasBeenServed → why ≡ ListenFault → Rose (listening l) (listening l')
+  listening_failed ends e =
+      let s : HasBeenServed = subst (λ (x : Why). ServesAs x U HasBeenServed) e ends in
       (subst (λ (x : Ended). HasEnded workers (listening l) (listening l') s.start x tale) (cause_is s.cause ended.ListenFault ListenFault (sym s.answered ∙ e) refl) s.ended).0
+
+  pub served_full : tells ≡ true → (end more : ℕ) → why ≡ StoreFull end more → HasBeenServed → (began : ℕ) × EndsFull tells seen began first second first' second' tale notes end more
+  served_full on end more is s = (s.began, record { start = s.start; mounted = s.mounted; begins = s.begins; full = s.full end more on is })
 
 -- where nothing stood in its way
 pub serves_all : (why : Why) (U S : Type 0) → ServesAs why U S → (why ≡ DiskFault → ⊥) → (why ≡ ListenFault → ⊥) → ((file : Bool) (at : ℕ) → why ≡ Damaged file at → ⊥)
-    → (why ≡ Fine) ⊎ ((why ≡ NoMemory) ⊎ (((end more : ℕ) × (why ≡ StoreFull end more)) ⊎ ((turns : ℕ) × (why ≡ Spent turns))))
-serves_all Fine U S ends disk listen damaged = inl refl
-serves_all NoMemory U S ends disk listen damaged = inr (inl refl)
-serves_all (StoreFull end more) U S ends disk listen damaged = inr (inr (inl (end, more, refl)))
-serves_all (Spent turns) U S ends disk listen damaged = inr (inr (inr (turns, refl)))
-serves_all DiskFault U S ends disk listen damaged = absurd (disk refl)
-serves_all ListenFault U S ends disk listen damaged = absurd (listen refl)
-serves_all (Damaged file at) U S ends disk listen damaged = absurd (damaged file at refl)
-serves_all why U S ends disk listen damaged = absurd ends
+    → (F : ℕ → ℕ → ℕ → Type 0) → ((end more : ℕ) → why ≡ StoreFull end more → S → (began : ℕ) × F end more began)
+    → (why ≡ Fine) ⊎ ((why ≡ NoMemory) ⊎ (((end more began : ℕ) × (why ≡ StoreFull end more) × F end more began) ⊎ ((turns : ℕ) × (why ≡ Spent turns))))
+serves_all Fine U S ends disk listen damaged F full = inl refl
+serves_all NoMemory U S ends disk listen damaged F full = inr (inl refl)
+serves_all (StoreFull end more) U S ends disk listen damaged F full = let is = full end more refl ends in inr (inr (inl (end, more, is.0, refl, is.1)))
+serves_all (Spent turns) U S ends disk listen damaged F full = inr (inr (inr (turns, refl)))
+serves_all DiskFault U S ends disk listen damaged F full = absurd (disk refl)
+serves_all ListenFault U S ends disk listen damaged F full = absurd (listen refl)
+serves_all (Damaged file at) U S ends disk listen damaged F full = absurd (damaged file at refl)
+serves_all why U S ends disk listen damaged F full = absurd ends
 
 -- A script and a drill end otherwise than by the answers of a server alone.
 

@@ -13,6 +13,8 @@ use muck_io::{OpenGate, ReaderSource, SystemClock, WriterSink};
 use muck_links::{Links, MioLinks};
 use muck_run::Why;
 use napping::NapRest;
+use std::fs::File;
+use std::os::fd::{AsRawFd, RawFd};
 use std::process::ExitCode;
 use std::{env, io};
 use top::muckd;
@@ -20,7 +22,26 @@ use top::muckd;
 // Links have lower numbers than this.
 const LINKS_MOST: u32 = 256;
 
-// The words behind the program's name.
+// The standard streams have the descriptors up to this one.
+const STREAMS_LAST: RawFd = 2;
+
+// Takes the least descriptor that is free, where that is one of a standard stream which is closed: the folder opened for reading, of
+// which no byte can be read, and none can be written to it.
+fn stand_in(rt: HostRuntime) -> io::Result<Option<File>> {
+    let folder = File::open(&rt, "/")?;
+    if folder.as_raw_fd() > STREAMS_LAST {
+        return Ok(None);
+    }
+    Ok(Some(folder))
+}
+
+// What stands in for the standard streams that are closed, as long as it is kept: no file that is opened meanwhile becomes one of them,
+// and each use of one fails.
+fn stand_ins(rt: HostRuntime) -> io::Result<[Option<File>; 3]> {
+    Ok([stand_in(rt)?, stand_in(rt)?, stand_in(rt)?])
+}
+
+// The words behind the program's name. Words that are no text are an error of another kind than want of memory.
 fn words(rt: HostRuntime) -> io::Result<Vec<String>> {
     let mut words = Vec::new(rt.alloc());
     for word in env::args(&rt)?.skip(1) {
@@ -29,18 +50,32 @@ fn words(rt: HostRuntime) -> io::Result<Vec<String>> {
     Ok(words)
 }
 
-// Writes why a call ended, where it didn't end well.
-fn tell(rt: HostRuntime, why: Why) -> io::Result<ExitCode> {
-    let status = why.status();
-    if status != 0 {
-        eprintln!(rt; "{why}")?;
+// Why a call ends whose words couldn't be had.
+fn wordless(error: &io::Error) -> Why {
+    if error.kind() == io::ErrorKind::OutOfMemory {
+        Why::NoMemory
+    } else {
+        Why::Usage
     }
-    Ok(ExitCode::from(status))
 }
 
-fn main(rt: HostRuntime) -> io::Result<ExitCode> {
-    let Ok(words) = words(rt) else {
-        return tell(rt, Why::NoMemory);
+// Writes why a call ended, where it didn't end well, and ends with its status, also where that can't be written.
+fn tell(rt: HostRuntime, why: Why) -> ExitCode {
+    let status = why.status();
+    if status != 0 {
+        let _ = eprintln!(rt; "{why}");
+    }
+    ExitCode::from(status)
+}
+
+// (Threads are the main function's alone, so the call stands here.)
+fn main(rt: HostRuntime) -> ExitCode {
+    let Ok(_streams) = stand_ins(rt) else {
+        return tell(rt, Why::DiskFault);
+    };
+    let words = match words(rt) {
+        Ok(words) => words,
+        Err(error) => return tell(rt, wordless(&error)),
     };
     let mut script = ReaderSource::new(rt.reader());
     let mut out = WriterSink::new(io::writer(&rt));

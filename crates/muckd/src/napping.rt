@@ -1,5 +1,5 @@
 // The rest of a thread that has nothing to do.
-use muck_io::Rest;
+use muck_io::{Rest, YieldRest};
 use std::rt::Clock;
 use std::thread;
 use std::time::Duration;
@@ -23,5 +23,9 @@ impl<C: Clock + Drop> NapRest<C> {
 impl<C: Clock + Drop> Rest for NapRest<C> {
     fn rest(&self) {
         let _ = thread::sleep(&self.clock, Duration::from_millis(NAP_MILLIS));
+    }
+
+    fn pause(&self) {
+        YieldRest.pause();
     }
 }

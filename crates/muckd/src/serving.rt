@@ -51,7 +51,7 @@ pub fn serve_store<
     rest: &R,
 ) -> (Why, Tale)
     requires few { workers ≤ 8 }
-    ensures served { ServesAs result.0 (IsUnserved (L.tells links.old) L.told D.tells D.seen D.moment D.images port links.old links.new first.old second.old first.new second.new result.1.entries) (HasServed (L.tells links.old) L.told L.listening C.answers D.tells D.attached D.seen D.moment D.images store.now port workers result.0 links.old links.new clock.old clock.new first.old second.old first.new second.new result.1.entries result.1.notes) }
+    ensures served { ServesAs result.0 (IsUnserved (L.tells links.old) L.told C.answers D.tells D.seen D.moment D.images port links.old links.new clock.old clock.new first.old second.old first.new second.new result.1.entries result.1.counted) (HasServed (L.tells links.old) L.told L.listening C.answers D.tells D.attached D.seen D.moment D.images D.faults store.now port workers result.0 links.old links.new clock.old clock.new first.old second.old first.new second.new result.1.entries result.1.notes result.1.counted) }
     ensures disk_fault { result.0 ≡ Why.DiskFault → Rose (D.faults first.old) (D.faults first.new) ⊎ Rose (D.faults second.old) (D.faults second.new) }
     ensures damaged { (file : Bool) (at : ℕ) → D.tells ≡ true → result.0 ≡ Why.Damaged file at → stored (D.seen first.old) (D.seen second.old) ≡ Err (record { second = file; at = at }) }
 {

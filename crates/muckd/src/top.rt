@@ -6,7 +6,7 @@ ghost use Rattle.muckd.specs.Serving.{is_served, IsUnserved, HasServed, ServesAs
 ghost use Rattle.muckd.specs.Words.{run, drill, serve, command_of, seen_command, is_scripted};
 ghost use Rattle.std.specs.Option.{option_map};
 ghost use Rattle.muck_run.specs.Drill.{HasDrilled};
-ghost use Rattle.muck_run.specs.Outcome.{status_of, HasBegun, EndsAs, IsUnbegun, IsFirstOutside, IsInGrammar};
+ghost use Rattle.muck_run.specs.Outcome.{status_of, HasBegun, EndsAs, EndsFull, IsUnbegun, IsFirstOutside, IsInGrammar};
 
 use crate::command::{Command, command_of};
 use crate::serving::serve_store;
@@ -57,7 +57,7 @@ pub fn by_script<S: Source, K: Sink, D: Disk>(
     // the world that the two files held: by the lines of the script, lawfully, and with leave. It says what was written, how the last dump
     // came out, and what the files hold, whatever a crash leaves of them. The answer says which of the two, but for want of memory and
     // faults of the store, which may come before the run and in it.
-    ensures run { (store : List ℕ) → command_of (map string_bytes words.now) ≡ Some (run store) → EndsAs result.why (IsUnbegun D.tells D.seen D.moment D.images out.old out.new first.old second.old first.new second.new result.tale.entries) (HasBegun S.left S.faults K.written K.faults D.tells D.attached D.seen D.moment D.images store result.why script.old script.new out.old out.new first.old second.old first.new second.new result.tale.entries result.tale.notes) }
+    ensures run { (store : List ℕ) → command_of (map string_bytes words.now) ≡ Some (run store) → EndsAs result.why (IsUnbegun D.tells D.seen D.moment D.images out.old out.new first.old second.old first.new second.new result.tale.entries) (HasBegun S.left S.faults K.written K.faults D.tells D.attached D.seen D.moment D.images D.faults store result.why script.old script.new out.old out.new first.old second.old first.new second.new result.tale.entries result.tale.notes) }
 
     // With those of `drill`, its summary was written, and nothing was read or touched besides.
     ensures drill { (n : ℕ) → command_of (map string_bytes words.now) ≡ Some (drill n) → HasDrilled K.written K.faults n result.why out.old out.new result.tale.entries × (script.new ≡ script.old) × (first.new ≡ first.old) × (second.new ≡ second.old) }
@@ -78,10 +78,10 @@ pub fn by_script<S: Source, K: Sink, D: Disk>(
     ensures loads { D.tells ≡ true → (result.why ≡ Why.ReadFault) ⊎ ((line : ℕ) × (result.why ≡ Why.BadScript line)) → (s : Chosen) × (stored (D.seen first.old) (D.seen second.old) ≡ Ok s) }
 
     // Words of `run`, a store that loads, a script inside the grammar and no count that rose: the work is done, or memory was wanted, or
-    // the last dump would pass what a file may have.
+    // the last dump would pass what a file may have, on what the files hold.
     ensures complete { (store : List ℕ) (s : Chosen) → command_of (map string_bytes words.now) ≡ Some (run store) → D.tells ≡ true → stored (D.seen first.old) (D.seen second.old) ≡ Ok s → IsInGrammar (S.left script.old)
         → (Rose (S.faults script.old) (S.faults script.new) → ⊥) → (Rose (K.faults out.old) (K.faults out.new) → ⊥) → (Rose (D.faults first.old) (D.faults first.new) → ⊥) → (Rose (D.faults second.old) (D.faults second.new) → ⊥)
-        → (result.why ≡ Why.Fine) ⊎ ((result.why ≡ Why.NoMemory) ⊎ ((end more : ℕ) × (result.why ≡ Why.StoreFull end more))) }
+        → (result.why ≡ Why.Fine) ⊎ ((result.why ≡ Why.NoMemory) ⊎ ((end more : ℕ) × (result.why ≡ Why.StoreFull end more) × EndsFull D.tells D.seen 0 first.old second.old first.new second.new result.tale.entries result.tale.notes end more)) }
 {
     let (why, tale) = obey(alloc, command_of(words), script, out, first, second);
     Done {
@@ -131,7 +131,7 @@ pub fn muckd<
     // the world that the two files held: by the lines of the script, lawfully, and with leave. It says what was written, how the last dump
     // came out, and what the files hold, whatever a crash leaves of them. The answer says which of the two, but for want of memory and
     // faults of the store, which may come before the run and in it.
-    ensures run { (store : List ℕ) → command_of (map string_bytes words.now) ≡ Some (run store) → EndsAs result.why (IsUnbegun D.tells D.seen D.moment D.images out.old out.new first.old second.old first.new second.new result.tale.entries) (HasBegun S.left S.faults K.written K.faults D.tells D.attached D.seen D.moment D.images store result.why script.old script.new out.old out.new first.old second.old first.new second.new result.tale.entries result.tale.notes) }
+    ensures run { (store : List ℕ) → command_of (map string_bytes words.now) ≡ Some (run store) → EndsAs result.why (IsUnbegun D.tells D.seen D.moment D.images out.old out.new first.old second.old first.new second.new result.tale.entries) (HasBegun S.left S.faults K.written K.faults D.tells D.attached D.seen D.moment D.images D.faults store result.why script.old script.new out.old out.new first.old second.old first.new second.new result.tale.entries result.tale.notes) }
 
     // With those of `drill`, its summary was written, and nothing was read or touched besides.
     ensures drill { (n : ℕ) → command_of (map string_bytes words.now) ≡ Some (drill n) → HasDrilled K.written K.faults n result.why out.old out.new result.tale.entries × (script.new ≡ script.old) × (first.new ≡ first.old) × (second.new ≡ second.old) }
@@ -140,7 +140,7 @@ pub fn muckd<
     // world that the two files held, at the clock's second: all parties added to it, lawfully, and with leave. It says what the links carried,
     // how the last dump came out, and what the files hold, whatever a crash leaves of them. The answer says which of the two, but for want of
     // memory and faults of the store.
-    ensures serve { (store : List ℕ) (port workers : ℕ) → command_of (map string_bytes words.now) ≡ Some (serve store port workers) → ServesAs result.why (IsUnserved (L.tells links.old) L.told D.tells D.seen D.moment D.images port links.old links.new first.old second.old first.new second.new result.tale.entries) (HasServed (L.tells links.old) L.told L.listening C.answers D.tells D.attached D.seen D.moment D.images store port workers result.why links.old links.new clock.old clock.new first.old second.old first.new second.new result.tale.entries result.tale.notes) }
+    ensures serve { (store : List ℕ) (port workers : ℕ) → command_of (map string_bytes words.now) ≡ Some (serve store port workers) → ServesAs result.why (IsUnserved (L.tells links.old) L.told C.answers D.tells D.seen D.moment D.images port links.old links.new clock.old clock.new first.old second.old first.new second.new result.tale.entries result.tale.counted) (HasServed (L.tells links.old) L.told L.listening C.answers D.tells D.attached D.seen D.moment D.images D.faults store port workers result.why links.old links.new clock.old clock.new first.old second.old first.new second.new result.tale.entries result.tale.notes result.tale.counted) }
 
     // The first line outside the grammar has this number.
     ensures bad_script { (line : ℕ) → result.why ≡ Why.BadScript line → IsFirstOutside (S.left script.old) line }
@@ -165,16 +165,16 @@ pub fn muckd<
     ensures loads { D.tells ≡ true → (result.why ≡ Why.ReadFault) ⊎ ((line : ℕ) × (result.why ≡ Why.BadScript line)) → (s : Chosen) × (stored (D.seen first.old) (D.seen second.old) ≡ Ok s) }
 
     // Words of `run`, a store that loads, a script inside the grammar and no count that rose: the work is done, or memory was wanted, or
-    // the last dump would pass what a file may have.
+    // the last dump would pass what a file may have, on what the files hold.
     ensures complete { (store : List ℕ) (s : Chosen) → command_of (map string_bytes words.now) ≡ Some (run store) → D.tells ≡ true → stored (D.seen first.old) (D.seen second.old) ≡ Ok s → IsInGrammar (S.left script.old)
         → (Rose (S.faults script.old) (S.faults script.new) → ⊥) → (Rose (K.faults out.old) (K.faults out.new) → ⊥) → (Rose (D.faults first.old) (D.faults first.new) → ⊥) → (Rose (D.faults second.old) (D.faults second.new) → ⊥)
-        → (result.why ≡ Why.Fine) ⊎ ((result.why ≡ Why.NoMemory) ⊎ ((end more : ℕ) × (result.why ≡ Why.StoreFull end more))) }
+        → (result.why ≡ Why.Fine) ⊎ ((result.why ≡ Why.NoMemory) ⊎ ((end more : ℕ) × (result.why ≡ Why.StoreFull end more) × EndsFull D.tells D.seen 0 first.old second.old first.new second.new result.tale.entries result.tale.notes end more)) }
 
     // Words of `serve`, a store that loads and no count that rose: it was stopped and all was stored, or memory was wanted, or the last dump
-    // would pass what a file may have, or all turns were had.
+    // would pass what a file may have, on what the files hold, or all turns were had.
     ensures complete_serve { (s : Chosen) → is_served (command_of (map string_bytes words.now)) ≡ true → D.tells ≡ true → stored (D.seen first.old) (D.seen second.old) ≡ Ok s
         → (Rose (L.listening links.old) (L.listening links.new) → ⊥) → (Rose (D.faults first.old) (D.faults first.new) → ⊥) → (Rose (D.faults second.old) (D.faults second.new) → ⊥)
-        → (result.why ≡ Why.Fine) ⊎ ((result.why ≡ Why.NoMemory) ⊎ (((end more : ℕ) × (result.why ≡ Why.StoreFull end more)) ⊎ ((turns : ℕ) × (result.why ≡ Why.Spent turns)))) }
+        → (result.why ≡ Why.Fine) ⊎ ((result.why ≡ Why.NoMemory) ⊎ (((end more began : ℕ) × (result.why ≡ Why.StoreFull end more) × EndsFull D.tells D.seen began first.old second.old first.new second.new result.tale.entries result.tale.notes end more) ⊎ ((turns : ℕ) × (result.why ≡ Why.Spent turns)))) }
 {
     match command_of(words) {
         Some(
@@ -211,7 +211,7 @@ fn obey<S: Source, K: Sink, D: Disk>(
     ensures usage { (result.0 ≡ Why.Usage) ↔ (is_scripted (option_map seen_command command.entry) ≡ false) }
     ensures untouched { result.0 ≡ Why.Usage → (script.new ≡ script.old) × (out.new ≡ out.old) × (first.new ≡ first.old) × (second.new ≡ second.old) × (result.1.entries ≡ []) }
     ensures bad_script { (line : ℕ) → result.0 ≡ Why.BadScript line → IsFirstOutside (S.left script.old) line }
-    ensures run { (store : List ℕ) → option_map seen_command command.entry ≡ Some (run store) → EndsAs result.0 (IsUnbegun D.tells D.seen D.moment D.images out.old out.new first.old second.old first.new second.new result.1.entries) (HasBegun S.left S.faults K.written K.faults D.tells D.attached D.seen D.moment D.images store result.0 script.old script.new out.old out.new first.old second.old first.new second.new result.1.entries result.1.notes) }
+    ensures run { (store : List ℕ) → option_map seen_command command.entry ≡ Some (run store) → EndsAs result.0 (IsUnbegun D.tells D.seen D.moment D.images out.old out.new first.old second.old first.new second.new result.1.entries) (HasBegun S.left S.faults K.written K.faults D.tells D.attached D.seen D.moment D.images D.faults store result.0 script.old script.new out.old out.new first.old second.old first.new second.new result.1.entries result.1.notes) }
     ensures drill { (n : ℕ) → option_map seen_command command.entry ≡ Some (drill n) → HasDrilled K.written K.faults n result.0 out.old out.new result.1.entries × (script.new ≡ script.old) × (first.new ≡ first.old) × (second.new ≡ second.old) }
     ensures read_fault { result.0 ≡ Why.ReadFault → Rose (S.faults script.old) (S.faults script.new) }
     ensures write_fault { result.0 ≡ Why.WriteFault → Rose (K.faults out.old) (K.faults out.new) }

@@ -6,3 +6,4 @@ mod First
 mod Giving
 mod Walks
 pub mod Inside
+pub mod Licences

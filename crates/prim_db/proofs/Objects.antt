@@ -1,5 +1,5 @@
 -- The rows of the family.
-use Rattle.std.proofs.Common.{◌≡◌, ℕ, List, [], ◌∷◌, Option, Some, None, Ok, Err, refl, sym, ap, subst, ◌∙◌}
+use Rattle.std.proofs.Common.{◌≡◌, ℕ, false, List, [], ◌∷◌, Option, Some, None, Ok, Err, refl, sym, ap, subst, ◌∙◌}
 use Rattle.std.specs.Prelude.{◌&&◌, is_some, option_map, Result}
 use Rattle.std.specs.Option.{option_or}
 use Rattle.spec_live.specs.Lives.{Live}
@@ -8,7 +8,7 @@ use Rattle.muf_model.specs.declared.fault.MufFault.{MufFault}
 use Rattle.muf_model.specs.declared.prims.Family.{Family}
 use Rattle.muf_model.specs.declared.prims.Family.TheVariants.{Object}
 use Rattle.muf_model.specs.declared.prims.Primitive.{Primitive}
-use Rattle.muf_model.specs.declared.prims.Primitive.TheVariants.{MoveTo, SetLink, SetOwn, Recycle, SetName, Set, SetLockStr, NewRoom, NewObject, NewExit}
+use Rattle.muf_model.specs.declared.prims.Primitive.TheVariants.{MoveTo, SetLink, SetOwn, Recycle, SetName, Set, SetLockStr, NewRoom, NewObject, NewExit, ParseMpi}
 use Rattle.muf_model.specs.declared.value.Value.{Value}
 use Rattle.muf_model.specs.Datum.{Datum}
 use Rattle.muf_model.specs.Prims.{family_of, is_there}
@@ -19,6 +19,7 @@ use Rattle.muck_perm.specs.declared.guard.Guard.{Guard}
 use Rattle.muck_perm.specs.inner.Guards.{objects_of, world_of}
 use Rattle.muck_perm.proofs.Worlds.{kept_itself}
 use Rattle.spec_prims.specs.Row.{Row, Doing}
+use Rattle.spec_prims.specs.Formulas.{is_formula}
 use Rattle.spec_prims.specs.ObjectRows.{Finding, finding_of, finds, given as given_row, object_row, is_object_family}
 use Rattle.spec_prims.specs.Shared.{first_fault, row_in, done_by, shared}
 use Rattle.spec_prims.specs.ObjectWrites.{writing_row}
@@ -37,6 +38,11 @@ shared_object p a descr locked stack w object = ap (λ (family : Family). done_b
 
 pub row_there : (p : Primitive) → family_of p ≡ Object → is_some (object_row p) ≡ is_there p
 row_there p object = object_there p ∙ ap (λ (family : Family). is_object_family family && is_there p) object
+
+-- none of them is a formula
+pub no_formula : (p : Primitive) → family_of p ≡ Object → is_formula p ≡ false
+no_formula ParseMpi object = absurd cc
+no_formula _ object = refl
 
 -- a test's answer and the row behind it
 pub begun : (p : Primitive) (descr : Option ℕ) (f : Shown) (g : Guard) (rule : Option MufFault) (r : Result ℕ MufFault) → family_of p ≡ Object → rule ≡ argued_of (object_row p) g.actor (taken_of p f) (world_of g) → Passes (first_fault p rule g.actor (locked_by (flat f).marks) (flat f).stack (world_of g)) r → Begun p (object_row p) descr f g rule r

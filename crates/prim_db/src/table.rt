@@ -4,9 +4,10 @@ ghost use Rattle.muf_model.specs.declared.prims.Family.TheVariants.{Object};
 ghost use Rattle.muf_model.specs.Prims.{family_of, is_there};
 ghost use Rattle.muf_frame.specs.inner.Shown.{Shown, flat, locked_by};
 ghost use Rattle.muck_perm.specs.inner.Guards.{world_of};
+ghost use Rattle.spec_rights.specs.Licence.{Licensed, nobody};
 ghost use Rattle.spec_prims.specs.Shared.{shared, taken};
 ghost use Rattle.spec_prims.specs.ObjectRows.{object_row};
-ghost use Rattle.prim_common.specs.inner.Applied.{Applied, Makes, argued_of, does_of};
+ghost use Rattle.prim_common.specs.inner.Applied.{Applied, Makes, OnAnswer, argued_of, does_of};
 
 use crate::finding::found;
 use crate::{flags, writing};
@@ -45,12 +46,13 @@ fn made(prim: Prim, guard: &mut Guard, frame: &Frame) -> Result<Made, PrimFault>
 }
 
 /// Uses a primitive of objects, as the actor to whom the guard lends the world: the frame and the world are as its row
-/// says, or it is refused by the fault of the row and both are unchanged. Those that may be used so far are those with a
-/// row; of the others `NotCompiled` comes. After `NoMemory` nothing is said of the frame and of the world.
+/// says, or it is refused by the fault of the row and both are unchanged. Either way what changed is open to that actor (`licensed`).
+/// Those that may be used so far are those with a row; of the others `NotCompiled` comes. After `NoMemory` nothing is said of the frame and of the world.
 #[tactic(auto, using(crate::proofs::Objects::row_there))]
 pub fn apply(prim: Prim, guard: &mut Guard, frame: &mut Frame) -> Result<(), PrimFault>
     requires { family_of prim ≡ Object }
     ensures row { (descr : Option ℕ) → Applied (shared prim guard.old.actor descr (locked_by (flat frame.old).marks) (flat frame.old).stack (world_of guard.old)) frame.old frame.new guard.old guard.new result }
+    ensures licensed { OnAnswer result (Licensed guard.old.actor nobody (world_of guard.old) (world_of guard.new)) }
     ensures there { is_there prim ≡ is_some (object_row prim) }
 {
     let argued = argued(prim, guard, frame);

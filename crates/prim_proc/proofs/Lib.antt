@@ -1,5 +1,6 @@
 mod Asked
 mod Begun
+mod Licences
 mod Missing
 mod Names
 mod Needing

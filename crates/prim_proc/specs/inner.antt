@@ -2,3 +2,4 @@ pub mod Plans
 pub mod Sending
 pub mod Taken
 pub mod Applied
+pub mod Ended

@@ -2,14 +2,17 @@
 ghost use Rattle.std.specs.Prelude.{◌≡◌, List, Some, is_some, take};
 ghost use Rattle.spec_live.specs.Lives.{Live};
 ghost use Rattle.spec_rights.specs.declared.act.Actor.{Actor};
+ghost use Rattle.spec_rights.specs.Licence.{Licensed, nobody};
 ghost use Rattle.muck_queue.specs.Queues.{Queue as Table, process};
 ghost use Rattle.muf_model.specs.declared.prims.Family.TheVariants as kind;
 ghost use Rattle.muf_model.specs.Datum.{Datum};
 ghost use Rattle.muf_model.specs.Prims.{family_of, is_there};
 ghost use Rattle.muf_frame.specs.inner.Shown.{Shown, flat, locked_by};
-ghost use Rattle.muck_perm.specs.inner.Guards.{world_of};
+ghost use Rattle.muck_perm.specs.inner.Guards.{objects_of, world_of};
 ghost use Rattle.spec_processes.specs.ProcessRows.{process_row, processed, taken_at};
+ghost use Rattle.prim_common.specs.inner.Applied.{OnAnswer};
 ghost use Rattle.prim_proc.specs.inner.Applied.{Applied};
+ghost use Rattle.prim_proc.specs.inner.Ended.{ProcessesLicensed};
 ghost use Rattle.prim_proc.specs.inner.Plans.{Plans, does_of, fact_row};
 
 use crate::after::After;
@@ -84,7 +87,8 @@ fn plan(
 /// Uses a primitive of processes at a place, as the actor to whom the guard lends the world; the state of its process is out
 /// of the queue. The frame, the world and the processes are as its row says, and the answer says what is to follow: a child is had,
 /// a word entered or a program started by the caller, and for the latter two the frame still holds the items. Or it is refused by
-/// the fault of the row, and nothing has changed. After `NoMemory` nothing is said of frame, world and processes.
+/// the fault of the row, and nothing has changed. Either way what changed of the world is open to that actor (`licensed`), and each
+/// process is there still, but for one that the actor may end (`processes`). After `NoMemory` nothing is said of frame, world and processes.
 pub fn apply(
     prim: Prim,
     place: Place,
@@ -94,6 +98,8 @@ pub fn apply(
 ) -> Result<After, PrimFault>
     requires { family_of prim ≡ kind.Process }
     ensures row { Applied (processed prim place guard.old.actor (locked_by (flat frame.old).marks) (flat frame.old).stack (world_of guard.old) queue.old) frame.old frame.new guard.old guard.new queue.old queue.new result }
+    ensures licensed { OnAnswer result (Licensed guard.old.actor nobody (world_of guard.old) (world_of guard.new)) }
+    ensures processes { OnAnswer result (ProcessesLicensed guard.old.actor (objects_of guard.old) queue.old queue.new) }
     ensures there { is_there prim ≡ is_some (process_row prim) }
 {
     let Some(own) = queue.get(place.pid) else {

@@ -5,3 +5,4 @@ pub mod Behind
 pub mod Walks
 pub mod Fronts
 pub mod Parsing
+pub mod Notes

@@ -1,12 +1,15 @@
 // Every primitive of properties.
-ghost use Rattle.std.specs.Prelude.{◌≡◌, ℕ, Option, is_some, take};
+ghost use Rattle.std.specs.Prelude.{◌≡◌, ℕ, Option, is_some, take, true};
 ghost use Rattle.muf_model.specs.declared.prims.Family.TheVariants.{Property};
 ghost use Rattle.muf_model.specs.Prims.{family_of, is_there};
 ghost use Rattle.muf_frame.specs.inner.Shown.{Shown, flat, locked_by};
-ghost use Rattle.muck_perm.specs.inner.Guards.{world_of};
+ghost use Rattle.muck_perm.specs.inner.Guards.{objects_of, world_of};
+ghost use Rattle.spec_rights.specs.Licence.{Licensed, nobody};
+ghost use Rattle.spec_mpi.specs.Touching.{TouchesNotes};
+ghost use Rattle.spec_prims.specs.Formulas.{is_formula, answers_for};
 ghost use Rattle.spec_prims.specs.PropRows.{property_row};
 ghost use Rattle.spec_prims.specs.Shared.{shared, taken};
-ghost use Rattle.prim_common.specs.inner.Applied.{Applied, Makes, does_of};
+ghost use Rattle.prim_common.specs.inner.Applied.{Applied, Makes, OnAnswer, does_of};
 
 use crate::formulas::parse;
 use crate::looking::{Form, Look, look_at};
@@ -41,11 +44,14 @@ fn made(prim: Prim, guard: &mut Guard, frame: &Frame) -> Result<Made, PrimFault>
 
 /// Uses a primitive of properties, as the actor to whom the guard lends the world: the frame and the world are as its row
 /// says, or it is refused by the fault of the row and both are unchanged; but where a formula breaks off, what it changed before
-/// stays. Those that may be used are those with a row; of the others `NotCompiled` comes. After `NoMemory` nothing is said of the
+/// stays. Either way what changed is open to that actor, and what a formula changed to the player, by the player's own rights (`licensed`);
+/// a formula touches notes alone (`notes`). Those that may be used are those with a row; of the others `NotCompiled` comes. After `NoMemory` nothing is said of the
 /// frame and of the world.
 pub fn apply(prim: Prim, guard: &mut Guard, frame: &mut Frame) -> Result<(), PrimFault>
     requires { family_of prim ≡ Property }
     ensures row { (descr : Option ℕ) → Applied (shared prim guard.old.actor descr (locked_by (flat frame.old).marks) (flat frame.old).stack (world_of guard.old)) frame.old frame.new guard.old guard.new result }
+    ensures licensed { OnAnswer result (Licensed (answers_for prim guard.old.actor (objects_of guard.old)) nobody (world_of guard.old) (world_of guard.new)) }
+    ensures notes { is_formula prim ≡ true → OnAnswer result (TouchesNotes (world_of guard.old) (world_of guard.new)) }
     ensures there { is_there prim ≡ is_some (property_row prim) }
 {
     let taken = ready(prim, None, guard, frame)?;

@@ -1,5 +1,5 @@
 -- The rows of the family, behind the tests.
-use Rattle.std.proofs.Common.{◌≡◌, ℕ, List, take, drop, Option, Result, Ok, Err, sym, ap, ◌∙◌, subst}
+use Rattle.std.proofs.Common.{◌≡◌, ℕ, false, List, take, drop, Option, Result, Ok, Err, refl, sym, ap, ◌∙◌, subst}
 use Rattle.std.specs.Prelude.{◌&&◌, is_some}
 use Rattle.spec_live.specs.Lives.{Live}
 use Rattle.spec_rights.specs.declared.act.Actor.{Actor}
@@ -7,9 +7,11 @@ use Rattle.muf_model.specs.declared.fault.MufFault.{MufFault}
 use Rattle.muf_model.specs.declared.prims.Family.{Family}
 use Rattle.muf_model.specs.declared.prims.Family.TheVariants.{Talk}
 use Rattle.muf_model.specs.declared.prims.Primitive.{Primitive}
+use Rattle.muf_model.specs.declared.prims.Primitive.TheVariants.{ParseMpi}
 use Rattle.muf_model.specs.Datum.{Datum}
 use Rattle.muf_model.specs.Prims.{family_of, is_there}
 use Rattle.spec_prims.specs.Row.{refuses, given_upon}
+use Rattle.spec_prims.specs.Formulas.{is_formula}
 use Rattle.spec_prims.specs.Shared.{taken, first_fault, row_in, done_by, shared}
 use Rattle.spec_prims.specs.Talk.{talk_row, is_talk_family}
 use Rattle.spec_prims.proofs.Fits.{Fits, fits_talk}
@@ -24,6 +26,11 @@ shared_talk p a descr locked stack w talk = ap (λ (family : Family). done_by (r
 
 pub row_there : (descr : Option ℕ) (p : Primitive) → family_of p ≡ Talk → is_some (talk_row descr p) ≡ is_there p
 row_there descr p talk = talk_there descr p ∙ ap (λ (family : Family). is_talk_family family && is_there p) talk
+
+-- none of them is a formula
+pub no_formula : (p : Primitive) → family_of p ≡ Talk → is_formula p ≡ false
+no_formula ParseMpi talk = absurd cc
+no_formula _ talk = refl
 
 module _ (p : Primitive) (a : Actor) (descr : Option ℕ) (locked : ℕ) (stack : List Datum) (w : Live) (argued : Option MufFault) (r : Result ℕ MufFault) (talk : family_of p ≡ Talk)
     (same : (d : Option ℕ) → argued ≡ argued_of (talk_row d p) a (take (taken p stack) stack) w) (pass : Passes (first_fault p argued a locked stack w) r) where

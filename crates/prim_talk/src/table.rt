@@ -4,9 +4,10 @@ ghost use Rattle.muf_model.specs.declared.prims.Family.TheVariants.{Talk};
 ghost use Rattle.muf_model.specs.Prims.{family_of, is_there};
 ghost use Rattle.muf_frame.specs.inner.Shown.{Shown, flat, locked_by};
 ghost use Rattle.muck_perm.specs.inner.Guards.{world_of};
+ghost use Rattle.spec_rights.specs.Licence.{Licensed, nobody};
 ghost use Rattle.spec_prims.specs.Shared.{shared, taken};
 ghost use Rattle.spec_prims.specs.Talk.{talk_row};
-ghost use Rattle.prim_common.specs.inner.Applied.{Applied, Makes, argued_of, does_of};
+ghost use Rattle.prim_common.specs.inner.Applied.{Applied, Makes, OnAnswer, argued_of, does_of};
 
 use crate::rows;
 use muck_perm::Guard;
@@ -45,9 +46,9 @@ fn made(prim: Prim, descr: Option<u32>, guard: &mut Guard, frame: &Frame) -> Res
 }
 
 /// Uses a primitive of talk, as the actor to whom the guard lends the world, in a process of that connection: the frame and
-/// the world are as its row says, or it is refused by the fault of the row and both are unchanged. Those that may be used so
-/// far are those with a row; of the others `NotCompiled` comes. After `NoMemory` nothing is said of the frame and of the
-/// world.
+/// the world are as its row says, or it is refused by the fault of the row and both are unchanged. Either way what changed is open to
+/// that actor (`licensed`). Those that may be used so far are those with a row; of the others `NotCompiled` comes. After `NoMemory`
+/// nothing is said of the frame and of the world.
 pub fn apply(
     prim: Prim,
     guard: &mut Guard,
@@ -56,6 +57,7 @@ pub fn apply(
 ) -> Result<(), PrimFault>
     requires { family_of prim ≡ Talk }
     ensures row { Applied (shared prim guard.old.actor descr (locked_by (flat frame.old).marks) (flat frame.old).stack (world_of guard.old)) frame.old frame.new guard.old guard.new result }
+    ensures licensed { OnAnswer result (Licensed guard.old.actor nobody (world_of guard.old) (world_of guard.new)) }
     ensures there { is_there prim ≡ is_some (talk_row descr prim) }
 {
     let argued = argued(prim, guard, frame);

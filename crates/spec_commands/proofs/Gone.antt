@@ -56,9 +56,9 @@ stays_gone : (a : Actor) (free : Freedom) (given : Option Act) (d : ℕ) (typed 
 unfolding gone
 stays_gone a free given d typed to seen h q = search hearing depth 8
 
-pub stays_gone_home : (a : Actor) (free : Freedom) (given : Option Act) (d : ℕ) → free.moves a.player ≡ true → Stays a free given (gone_home d a)
+pub stays_gone_home : (a : Actor) (free : Freedom) (given : Option Act) (d : ℕ) (typed : Typed) → free.moves a.player ≡ true → Stays a free given (gone_home d a typed)
 unfolding gone_home
-stays_gone_home a free given d h = search (staying, stays_gone)
+stays_gone_home a free given d typed h = search (staying, stays_gone)
 
 pub stays_both_shown : (a : Actor) (free : Freedom) (given : Option Act) (d : ℕ) (typed : Typed) (mine theirs : Message) (x : Dbref) → Stays a free given (both_shown d a typed mine theirs x)
 unfolding both_shown

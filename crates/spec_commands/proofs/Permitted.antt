@@ -56,7 +56,7 @@ play_open a own may d typed Look args = open_ends a own _ _ (λ now. ends_stays 
 play_open a own may d typed Go args = whole_ends world_of a own _ Always _ (λ w h. went_open a _ d _ (self_free a))
 play_open a own may d typed Get args = whole_ended a own _ Always Done _ (taken_open a own _ d typed _ (λ es x h. h))
 play_open a own may d typed Drop args = whole_ended a own _ Always Done _ (dropped_open a own _ d typed _ (λ es x h. h))
-play_open a own may d typed Home args = whole_ended a own _ Always Done _ (whole_ends itself a own _ Always _ (λ w h. ends_stays a _ None _ (stays_gone_home a _ None d (self_free a))))
+play_open a own may d typed Home args = whole_ended a own _ Always Done _ (whole_ends itself a own _ Always _ (λ w h. ends_stays a _ None _ (stays_gone_home a _ None d typed (self_free a))))
 play_open a own may d typed command args = open_quiet a own _ _ _ (search showing depth 7)
 
 play_lawful : (a : Actor) (own : Option ℕ) (may : Bool) (d : ℕ) (typed : Typed) (command : PlayWord) (args : Arguments) → Lawful Untuned a own (WordFree may command a) (play_done d a typed command args)

@@ -20,7 +20,6 @@ use Rattle.spec_commands.specs.declared.typed.Typed.{Typed}
 use Rattle.spec_commands.specs.declared.word.Message.{Message}
 use Rattle.spec_commands.specs.declared.word.Message.TheVariants.{Success, OthersSuccess, Fail, OthersFail, Drop, OthersDrop}
 use Rattle.spec_commands.specs.Replies.{cant_be_done, cant_go, cant_take, has_left, has_arrived, carrying_head, carrying_nothing, taken_reply, dropped_reply}
-use Rattle.spec_commands.specs.Messages.{home_typed}
 use Rattle.spec_commands.specs.Finding.{where_so, is_room_at, is_so, message_or, message_shown, message_to_others, shown_others, listed_under, looked}
 
 -- A line of a player: what it does, and what is to follow.
@@ -56,8 +55,8 @@ gone d a typed to seen =
     (shown_others a.player has_left ▸ moved_to a.player to ▸ shown_others a.player has_arrived ▸ seen ▸ looked d a typed)
 
 -- the player walks home
-unfoldable pub gone_home : ℕ → Actor → Change
-gone_home d a = reading (home_at a.player) (λ to. gone d a home_typed to unchanged)
+unfoldable pub gone_home : ℕ → Actor → Typed → Change
+gone_home d a typed = reading (home_at a.player) (λ to. gone d a typed to unchanged)
 
 -- What a player and the others see who are there.
 

@@ -32,13 +32,10 @@ message_how OthersDrop = codes "(@odrop)"
 abbrev pub message_path : List ℕ → List (List ℕ)
 message_path word = codes "_" ∷ word ∷ []
 
--- What was typed where a player looks when it has logged in, and where it walks home.
+-- What was typed where a player looks when it has logged in.
 
 abbrev pub look_typed : Typed
 look_typed = record { word = codes "look"; rest = [] }
-
-abbrev pub home_typed : Typed
-home_typed = record { word = codes "home"; rest = [] }
 
 -- A text that x carries is spoken by the rights of the actor, with how it is called and what was typed as its variables, and this is done
 -- with what is shown of it, in the world that it leaves. A fault is shown as `MPI error N.`

@@ -2,12 +2,13 @@
 use Rattle.std.proofs.Common.{◌≡◌, ◌⊎◌, inl, ℕ, ◌<◌, ◌≤◌, true, zero, suc, List, [], ◌∷◌, refl, ap, ◌∙◌, subst, arith, Some, None}
 use Rattle.std.specs.Prelude.{slice_get}
 use Rattle.spec_live.specs.Consistent.{IsConsistent}
+use Rattle.muck_model.specs.declared.event.Event.TheVariants.{Cut}
 use Rattle.muck_model.specs.declared.note.Note.{Note}
 use Rattle.muck_log.specs.Store.{LogState, IsMounted, stored}
 use Rattle.spec_events.specs.World.{World}
 use Rattle.spec_events.specs.Histories.{History}
 use Rattle.spec_events.specs.Logged.{is_dump, is_stored, is_failed}
-use Rattle.spec_dumps.specs.Fronts.{persisted, last_cut, place_of_note, stands_at, IsFront, Loads, file_most}
+use Rattle.spec_dumps.specs.Fronts.{persisted, last_cut, place_of_note, stands_at, event_at, IsFront, Loads, file_most}
 use Rattle.spec_dumps.specs.Survival.{until}
 use Rattle.spec_dumps.specs.inner.Holding.{IsAt, IsCounted, Rests}
 
@@ -75,10 +76,11 @@ module _ {D : Type 0} (seen : D → List ℕ) (moment : D → ℕ) (images : D �
       safe = record {
         survives = record { each = stretch; rises = rises; past = past; noted = λ place stands. absurd (none place stands); placed = placed };
         caused = λ n x before there earlier stands. absurd (unfailed x.entries stands);
-        deltas = λ n x c d there stands left_c left_d. absurd (unstored x.entries stands);
+        deltas = λ n before x earlier there stands. absurd (unstored x.entries stands);
+        numbered = λ n k x there cuts. absurd (uncut x.entries k cuts);
+        rise = record { each = λ n before x earlier there. cc; past = counts };
       };
       usable = (is, limit, front);
-      counted = count;
     };
     rests = here;
   }
@@ -88,6 +90,13 @@ module _ {D : Type 0} (seen : D → List ℕ) (moment : D → ℕ) (images : D �
 
       unfailed : (place : ℕ) → stands_at is_failed [] place ≡ true → ⊥
       unfailed place e = cc
+
+      uncut : (place k : ℕ) → event_at [] place ≡ Some (Cut k) → ⊥
+      uncut place k e = cc
+
+      counts : (n : ℕ) (x : Note) → slice_get (note ∷ []) n ≡ Some x → (x.first_faults ≤ faults f) × (x.second_faults ≤ faults s)
+      counts zero x there = (omega (arith, count.0, ap (λ (y : Note). y.first_faults) (same x there)), omega (arith, count.1, ap (λ (y : Note). y.second_faults) (same x there)))
+      counts (suc n) x there = cc
 
       unstored : (place : ℕ) → stands_at is_stored [] place ≡ true → ⊥
       unstored place e = cc

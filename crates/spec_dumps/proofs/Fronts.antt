@@ -15,7 +15,7 @@ use Rattle.std.specs.Prelude.{Result}
 use Rattle.spec_events.specs.World.{World}
 use Rattle.spec_events.specs.Histories.{after}
 use Rattle.spec_events.specs.Logged.{is_cut, is_dump, is_stored, is_failed}
-use Rattle.spec_dumps.specs.Fronts.{persisted, stands_at, at_cut, cut_behind, last_cut, number_of_cut, number_at, place_of_note, IsNotedBy, IsFront, Loads}
+use Rattle.spec_dumps.specs.Fronts.{persisted, stands_at, event_at, at_cut, cut_behind, last_cut, number_of_cut, number_at, place_of_note, IsNotedBy, IsFront, Loads}
 use Rattle.spec_dumps.proofs.Lists.{got_on}
 
 -- each note stands before an entry, or at the start
@@ -28,6 +28,17 @@ stands_on test h more place less = ap (λ o. option_map_or (λ (e : Entry). test
 last_cut_none : last_cut [] ≡ 0
 unfolding last_cut
 last_cut_none = refl
+
+-- an entry that is there stands there still
+pub event_on : (h more : List Entry) (place : ℕ) (event : Event) → event_at h place ≡ Some event → event_at (h ++ more) place ≡ Some event
+event_on h more place event is = at (slice_get h place) refl is where
+  at : (o : Option Entry) → slice_get h place ≡ o → option_map (λ (e : Entry). e.event) o ≡ Some event → event_at (h ++ more) place ≡ Some event
+  at None there e = cc
+  at (Some x) there e = ap (option_map (λ (y : Entry). y.event)) (got_on h more place (slice_get_within h place x there) ∙ there) ∙ e
+
+-- and it was there, where it is one of the first
+pub event_off : (h more : List Entry) (place : ℕ) → place < length h → event_at (h ++ more) place ≡ event_at h place
+event_off h more place less = ap (option_map (λ (e : Entry). e.event)) (got_on h more place less)
 
 -- no Cut stands before the first entry
 pub last_cut_first : (h : List Entry) (place : ℕ) → place ≡ 0 → last_cut (take place h) ≡ 0

@@ -11,3 +11,4 @@ pub mod Begun
 pub mod Idle
 pub mod Covering
 pub mod Undue
+pub mod Worked

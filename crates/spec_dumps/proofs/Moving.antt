@@ -6,11 +6,74 @@ use Rattle.std.proofs.lemmas.Option.{slice_get_within, slice_get_past, slice_get
 use Rattle.std.proofs.lemmas.Bool.{cases_lt}
 use Rattle.muck_model.specs.declared.event.Entry.{Entry}
 use Rattle.muck_model.specs.declared.note.Note.{Note}
-use Rattle.muck_log.specs.Store.{LeavesOnly, LeavesBoth, stored}
+use Rattle.muck_log.specs.Store.{Chosen, LogState, IsMounted, LeavesOnly, LeavesBoth, stored}
 use Rattle.spec_events.specs.World.{World}
 use Rattle.spec_dumps.specs.Fronts.{Loads}
-use Rattle.spec_dumps.specs.Survival.{until, Survives, IsSafe}
+use Rattle.spec_dumps.specs.Survival.{until, Survives, HoldsAt, HoldsBy, AllCaused, AllDeltas, AllNumbered, AllRise, IsSafe}
 use Rattle.spec_dumps.specs.inner.Holding.{IsAt}
+
+-- The past stays, and with it what both disks held then.
+
+pub record SamePast {D : Type 0} (moment : D → ℕ) (images : D → ℕ → List ℕ → Type 0) (old new : D) : Type 0 where
+  pub kept : (t : ℕ) (c : List ℕ) → t ≤ moment old → images new t c → images old t c
+  pub stays : (t : ℕ) (c : List ℕ) → t ≤ moment old → images old t c → images new t c
+
+module _ {D : Type 0} (moment : D → ℕ) (images : D → ℕ → List ℕ → Type 0) (f s f' s' : D) (a : SamePast moment images f f') (b : SamePast moment images s s') where
+  pub held_still : (t u : ℕ) (x : Chosen) → t ≤ moment f → u ≤ moment s → HoldsAt images f s t u x → HoldsAt images f' s' t u x
+  held_still t u x t_past u_past v = record {
+    each = λ c d left_c left_d. v.each c d (a.kept t c t_past left_c) (b.kept u d u_past left_d);
+    first_left = (v.first_left.0, a.stays t v.first_left.0 t_past v.first_left.1);
+    second_left = (v.second_left.0, b.stays u v.second_left.0 u_past v.second_left.1);
+  }
+
+  module _ (w : World) (mounted : ℕ) (h : List Entry) (notes : List Note) (past : (n : ℕ) (x : Note) → slice_get notes n ≡ Some x → (x.first_moment ≤ moment f) × (x.second_moment ≤ moment s)) where
+    by_note : (n : ℕ) (note : Note) (x : Chosen) → slice_get notes n ≡ Some note → HoldsBy images f s note x → HoldsBy images f' s' note x
+    by_note n note x is v = held_still note.first_moment note.second_moment x (past n note is).0 (past n note is).1 v
+
+    caused_still : AllCaused images f s w mounted h notes → AllCaused images f' s' w mounted h notes
+    caused_still v n note before is earlier at = record {
+      cause = elim (v n note before is earlier at).cause [
+        | inl rose ↦ inl rose
+        | inr full ↦ inr (full.0, by_note (suc (suc n)) note full.0 is full.1, full.2, full.3)
+      ];
+    }
+
+    deltas_still : AllDeltas images f s w mounted h notes → AllDeltas images f' s' w mounted h notes
+    deltas_still v n before note earlier is at =
+        let known = v n before note earlier is at in
+        record { base = known.base; held = by_note n before known.base earlier known.held; front = known.front; fits = known.fits; wrote = by_note (suc n) note _ is known.wrote }
+
+    numbered_still : AllNumbered images f s h notes → AllNumbered images f' s' h notes
+    numbered_still v n k note is at = elim (v n k note is at) [
+      | inl held ↦ inl (held.0, by_note (suc n) note held.0 is held.1, held.2)
+      | inr failed ↦ inr failed
+    ]
+
+    rise_still : (faults : D → ℕ) → faults f ≤ faults f' → faults s ≤ faults s' → AllRise faults f s notes → AllRise faults f' s' notes
+    rise_still faults first_later second_later v = record { each = v.each; past = λ n x is. (omega (arith, (v.past n x is).0, first_later), omega (arith, (v.past n x is).1, second_later)) }
+
+    pub safe_still : (faults : D → ℕ) → faults f ≤ faults f' → faults s ≤ faults s' → Survives moment images f' s' w mounted h notes → IsSafe moment images faults f s w mounted h notes → IsSafe moment images faults f' s' w mounted h notes
+    safe_still faults first_later second_later survives v = record {
+      survives = survives;
+      caused = caused_still v.caused;
+      deltas = deltas_still v.deltas;
+      numbered = numbered_still v.numbered;
+      rise = rise_still faults first_later second_later v.rise;
+    }
+
+-- both disks hold the store that was mounted, as long as nothing moves them
+pub held_now : {D : Type 0} (seen : D → List ℕ) (moment : D → ℕ) (images : D → ℕ → List ℕ → Type 0) (log : LogState) (f s : D) → IsMounted seen moment images log f s → images f (moment f) (seen f) → images s (moment s) (seen s) →
+    HoldsAt images f s (moment f) (moment s) log.chosen
+held_now seen moment images log f s m left_f left_s = record {
+  each = λ c d left_c left_d. ap (λ x. stored x d) (m.first_durable c left_c) ∙ ap (stored (seen f)) (m.second_durable d left_d) ∙ m.load;
+  first_left = (seen f, left_f);
+  second_left = (seen s, left_s);
+}
+
+-- as a note has it
+pub held_noted : {D : Type 0} (moment : D → ℕ) (images : D → ℕ → List ℕ → Type 0) (f s : D) (note : Note) (x : Chosen) → IsAt moment f s note → HoldsAt images f s (moment f) (moment s) x → HoldsBy images f s note x
+held_noted moment images f s note x here v =
+    subst (λ t. HoldsAt images f s t note.second_moment x) (sym here.0) (subst (λ u. HoldsAt images f s (moment f) u x) (sym here.1) v)
 
 -- the stretch of a note that isn't the last one doesn't last until now
 until_then : (clock : Note → ℕ) (notes : List Note) (n now now' : ℕ) → suc n < length notes → until clock notes n now ≡ until clock notes n now'
@@ -82,14 +145,14 @@ module _ {D : Type 0} (moment : D → ℕ) (images : D → ℕ → List ℕ → 
     placed = v.placed;
   }
 
-  pub safe_moved : IsSafe moment images f s w mounted h notes → IsSafe moment images f' s' w mounted h notes
-  safe_moved v = record {
-    survives = survives_moved v.survives;
-    caused = v.caused;
-    deltas = λ n x c d there at left_c left_d.
-        let then = v.survives.past (suc n) x there in
-        v.deltas n x c d there at (leaves.first_kept x.first_moment c then.0 left_c) (leaves.second_kept x.second_moment d then.1 left_d);
-  }
+  pub first_same : SamePast moment images f f'
+  first_same = record { kept = leaves.first_kept; stays = leaves.first_stays }
+
+  pub second_same : SamePast moment images s s'
+  second_same = record { kept = leaves.second_kept; stays = leaves.second_stays }
+
+  pub safe_moved : (faults : D → ℕ) → faults f ≤ faults f' → faults s ≤ faults s' → IsSafe moment images faults f s w mounted h notes → IsSafe moment images faults f' s' w mounted h notes
+  safe_moved faults first_later second_later v = safe_still moment images f s f' s' first_same second_same w mounted h notes v.survives.past faults first_later second_later (survives_moved v.survives) v
 
 -- what a crash leaves now loads so
 pub loads_now : {D : Type 0} (moment : D → ℕ) (images : D → ℕ → List ℕ → Type 0) (f s : D) (w : World) (mounted : ℕ) (h : List Entry) (notes : List Note) (last : ℕ) (note : Note) → slice_get notes last ≡ Some note → length notes ≡ suc last →
@@ -128,30 +191,31 @@ module _ {D : Type 0} (moment : D → ℕ) (images : D → ℕ → List ℕ → 
     | inr over ↦ omega (arith, past n x there, a.later, until_over clock notes n (moment f') over)
   ]
 
-pub safe_kept : {D : Type 0} (moment : D → ℕ) (images : D → ℕ → List ℕ → Type 0) (f s f' s' : D) (w : World) (mounted : ℕ) (h : List Entry) (notes : List Note) →
-    LeavesOnly moment images f f' (images f (moment f)) → LeavesOnly moment images s s' (images s (moment s)) → IsSafe moment images f s w mounted h notes → IsSafe moment images f' s' w mounted h notes
-safe_kept moment images f s f' s' w mounted h notes a b v = record {
-  survives = record {
-    each = λ n x t u c d there t_low t_high u_low u_high left_c left_d.
-        let first = left_before moment images f f' (λ (y : Note). y.first_moment) notes a first_past n x.first_moment t c t_low (v.survives.past n x there).0 t_high left_c in
-        let second = left_before moment images s s' (λ (y : Note). y.second_moment) notes b second_past n x.second_moment u d u_low (v.survives.past n x there).1 u_high left_d in
-        v.survives.each n x first.0 second.0 c d there first.1 first.2 second.1 second.2 first.3 second.3;
-    rises = λ n x there. (
-      rises_still moment images f f' (λ (y : Note). y.first_moment) notes a first_past n x there (v.survives.rises n x there).0,
-      rises_still moment images s s' (λ (y : Note). y.second_moment) notes b second_past n x there (v.survives.rises n x there).1,
-    );
-    past = λ n x there. (omega (arith, (v.survives.past n x there).0, a.later), omega (arith, (v.survives.past n x there).1, b.later));
-    noted = v.survives.noted;
-    placed = v.survives.placed;
-  };
-  caused = v.caused;
-  deltas = λ n x c d there at left_c left_d.
-      let then = v.survives.past (suc n) x there in
-      v.deltas n x c d there at (a.kept x.first_moment c then.0 left_c) (b.kept x.second_moment d then.1 left_d);
+survives_kept : {D : Type 0} (moment : D → ℕ) (images : D → ℕ → List ℕ → Type 0) (f s f' s' : D) (w : World) (mounted : ℕ) (h : List Entry) (notes : List Note) →
+    LeavesOnly moment images f f' (images f (moment f)) → LeavesOnly moment images s s' (images s (moment s)) → Survives moment images f s w mounted h notes → Survives moment images f' s' w mounted h notes
+survives_kept moment images f s f' s' w mounted h notes a b v = record {
+  each = λ n x t u c d there t_low t_high u_low u_high left_c left_d.
+      let first = left_before moment images f f' (λ (y : Note). y.first_moment) notes a first_past n x.first_moment t c t_low (v.past n x there).0 t_high left_c in
+      let second = left_before moment images s s' (λ (y : Note). y.second_moment) notes b second_past n x.second_moment u d u_low (v.past n x there).1 u_high left_d in
+      v.each n x first.0 second.0 c d there first.1 first.2 second.1 second.2 first.3 second.3;
+  rises = λ n x there. (
+    rises_still moment images f f' (λ (y : Note). y.first_moment) notes a first_past n x there (v.rises n x there).0,
+    rises_still moment images s s' (λ (y : Note). y.second_moment) notes b second_past n x there (v.rises n x there).1,
+  );
+  past = λ n x there. (omega (arith, (v.past n x there).0, a.later), omega (arith, (v.past n x there).1, b.later));
+  noted = v.noted;
+  placed = v.placed;
 }
   where
     first_past : (n : ℕ) (x : Note) → slice_get notes n ≡ Some x → x.first_moment ≤ moment f
-    first_past n x there = (v.survives.past n x there).0
+    first_past n x there = (v.past n x there).0
 
     second_past : (n : ℕ) (x : Note) → slice_get notes n ≡ Some x → x.second_moment ≤ moment s
-    second_past n x there = (v.survives.past n x there).1
+    second_past n x there = (v.past n x there).1
+
+pub safe_kept : {D : Type 0} (moment : D → ℕ) (images : D → ℕ → List ℕ → Type 0) (faults : D → ℕ) (f s f' s' : D) (w : World) (mounted : ℕ) (h : List Entry) (notes : List Note) →
+    LeavesOnly moment images f f' (images f (moment f)) → LeavesOnly moment images s s' (images s (moment s)) → faults f ≤ faults f' → faults s ≤ faults s' → IsSafe moment images faults f s w mounted h notes →
+    IsSafe moment images faults f' s' w mounted h notes
+safe_kept moment images faults f s f' s' w mounted h notes a b first_later second_later v =
+    safe_still moment images f s f' s' (record { kept = a.kept; stays = a.stays }) (record { kept = b.kept; stays = b.stays }) w mounted h notes v.survives.past faults first_later second_later
+    (survives_kept moment images f s f' s' w mounted h notes a b v.survives) v

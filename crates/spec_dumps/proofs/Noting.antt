@@ -1,5 +1,5 @@
 -- A note at the present moment, and the entry behind it.
-use Rattle.std.proofs.Common.{◌≡◌, ◌⊎◌, inl, inr, ℕ, ◌<◌, ◌≤◌, Bool, true, false, suc, List, [], ◌∷◌, ◌++◌, length, take, refl, ap, sym, ◌∙◌, subst, arith, Option, Some, None, Ok}
+use Rattle.std.proofs.Common.{◌≡◌, ◌⊎◌, inl, inr, ℕ, ◌<◌, ◌≤◌, Bool, true, false, suc, List, [], ◌∷◌, ◌++◌, length, take, refl, ap, sym, ◌∙◌, subst, arith, Option, Some, None}
 use Rattle.std.specs.Prelude.{slice_get}
 use Rattle.std.specs.Option.{option_map, option_map_or}
 use Rattle.std.proofs.lemmas.List.{take_all, take-append-le}
@@ -7,15 +7,16 @@ use Rattle.std.proofs.lemmas.Option.{slice_get_within, slice_get_past}
 use Rattle.std.proofs.lemmas.Bool.{cases_lt}
 use Rattle.muck_model.specs.declared.event.Entry.{Entry}
 use Rattle.muck_model.specs.declared.event.Event.{Event}
+use Rattle.muck_model.specs.declared.event.Event.TheVariants.{Cut, DumpFailed}
 use Rattle.muck_model.specs.declared.note.Note.{Note}
 use Rattle.muck_log.specs.Store.{Chosen, stored}
 use Rattle.spec_events.specs.World.{World}
 use Rattle.spec_events.specs.Logged.{is_dump, is_stored, is_failed}
-use Rattle.spec_dumps.specs.Fronts.{stands_at, at_cut, place_of_note, IsFront, Loads, Overflows, dumped_on}
-use Rattle.spec_dumps.specs.Survival.{until, AllNoted, Survives, HasCause, AllCaused, AllDeltas}
-use Rattle.spec_dumps.specs.inner.Holding.{IsAt}
+use Rattle.spec_dumps.specs.Fronts.{stands_at, event_at, at_cut, place_of_note, IsFront, Loads, Overflows}
+use Rattle.spec_dumps.specs.Survival.{until, AllNoted, Survives, HasCause, AllCaused, IsDelta, AllDeltas, HasNumber, AllNumbered, AllRise}
+use Rattle.spec_dumps.specs.inner.Holding.{IsAt, IsCounted}
 use Rattle.spec_dumps.proofs.Lists.{got_on, got_last, got_past, length_last}
-use Rattle.spec_dumps.proofs.Fronts.{ArePlaced, stands_on, place_on, note_within, front_on, front_later, front_beside, loads_by}
+use Rattle.spec_dumps.proofs.Fronts.{ArePlaced, stands_on, event_on, event_off, place_on, note_within, front_on, front_later, front_beside, loads_by}
 
 -- the stretch of a note that was there ends where it did
 pub until_on : (clock : Note → ℕ) (notes : List Note) (note : Note) (n now : ℕ) → clock note ≡ now → n < length notes → until clock (notes ++ note ∷ []) n now ≡ until clock notes n now
@@ -145,52 +146,95 @@ module _ {D : Type 0} (moment : D → ℕ) (images : D → ℕ → List ℕ → 
     placed = placed_noted v.placed;
   }
 
-  pub caused_noted : ArePlaced h notes → AllCaused w mounted h notes →
-      ((n : ℕ) (before : Note) → suc (suc n) ≡ length notes → slice_get notes n ≡ Some before → is_failed e.event ≡ true → HasCause w mounted (h ++ e ∷ []) (notes ++ note ∷ []) n note before) →
-      AllCaused w mounted (h ++ e ∷ []) (notes ++ note ∷ [])
+  -- an entry that has a note but the first is one of those that were there
+  within_noted : ArePlaced h notes → (n : ℕ) (x : Note) → slice_get notes (suc n) ≡ Some x → x.entries < length h
+  within_noted placed n x is = elim (placed (suc n) x.entries (ap (λ o. option_map (λ (y : Note). y.entries) o) is)) [ inl z ↦ absurd (omega (arith, z.0)) | inr it ↦ it ]
+
+  front_of : (n : ℕ) → n < length h → take n (h ++ e ∷ []) ≡ take n h
+  front_of n less = take-append-le n h (e ∷ []) (omega (arith, less))
+
+  -- the note that comes has all of them before it
+  front_whole : take note.entries (h ++ e ∷ []) ≡ h
+  front_whole = take-append-le note.entries h (e ∷ []) (omega (arith, behind)) ∙ take_all note.entries h (omega (arith, behind))
+
+  pub caused_noted : ArePlaced h notes → AllCaused images f s w mounted h notes →
+      ((n : ℕ) (before : Note) → suc (suc n) ≡ length notes → slice_get notes n ≡ Some before → is_failed e.event ≡ true → HasCause images f s w mounted (h ++ e ∷ []) (notes ++ note ∷ []) n note before) →
+      AllCaused images f s w mounted (h ++ e ∷ []) (notes ++ note ∷ [])
   caused_noted placed v why n x before is earlier at = elim (which notes note x (suc (suc n)) is) [
     | inl p ↦ old p.0 p.1
     | inr p ↦ (
         let early : n < length notes = omega (arith, p.0) in
         let known = why n before p.0 (sym (got_on notes (note ∷ []) n early) ∙ earlier) (sym (stands_last is_failed h e x.entries (ap (λ (y : Note). y.entries) p.1 ∙ behind)) ∙ at) in
-        subst (λ y. HasCause w mounted (h ++ e ∷ []) (notes ++ note ∷ []) n y before) (sym p.1) known
+        subst (λ y. HasCause images f s w mounted (h ++ e ∷ []) (notes ++ note ∷ []) n y before) (sym p.1) known
         )
   ]
     where
-      old : suc (suc n) < length notes → slice_get notes (suc (suc n)) ≡ Some x → HasCause w mounted (h ++ e ∷ []) (notes ++ note ∷ []) n x before
+      old : suc (suc n) < length notes → slice_get notes (suc (suc n)) ≡ Some x → HasCause images f s w mounted (h ++ e ∷ []) (notes ++ note ∷ []) n x before
       old less there =
-          let placed_x = placed (suc (suc n)) x.entries (ap (λ o. option_map (λ (y : Note). y.entries) o) there) in
-          let within : x.entries < length h = elim placed_x [ inl z ↦ absurd (omega (arith, z.0)) | inr it ↦ it ] in
+          let within = within_noted placed (suc n) x there in
           let known = v n x before there (sym (got_on notes (note ∷ []) n (omega (arith, less))) ∙ earlier) (sym (stands_on is_failed h (e ∷ []) x.entries within) ∙ at) in
-          let front : take x.entries (h ++ e ∷ []) ≡ take x.entries h = take-append-le x.entries h (e ∷ []) (omega (arith, within)) in
           record {
             cause = elim known.cause [
               | inl rose ↦ inl rose
-              | inr full ↦ inr (full.0, front_noted (suc n) full.0 placed (omega (arith, less)) full.1, subst (λ y. Overflows full.0 (at_cut w y)) (sym front) full.2)
+              | inr full ↦ inr (full.0, full.1, front_noted (suc n) full.0 placed (omega (arith, less)) full.2, subst (λ y. Overflows full.0 (at_cut w y)) (sym (front_of x.entries within)) full.3)
             ];
           }
 
+  abbrev DeltaNow : ℕ → Note → Note → List Entry → Type 0
+  DeltaNow n before x k = IsDelta images f s w mounted (h ++ e ∷ []) (notes ++ note ∷ []) n before x (at_cut w k)
+
   pub deltas_noted : ArePlaced h notes → AllDeltas images f s w mounted h notes →
-      ((n : ℕ) (c d : List ℕ) → suc n ≡ length notes → is_stored e.event ≡ true → images f (moment f) c → images s (moment s) d →
-      (x : Chosen) × IsFront w mounted (h ++ e ∷ []) (notes ++ note ∷ []) n x × (stored c d ≡ Ok (dumped_on x (at_cut w h)))) →
+      ((n : ℕ) (before : Note) → suc n ≡ length notes → slice_get notes n ≡ Some before → is_stored e.event ≡ true → IsDelta images f s w mounted (h ++ e ∷ []) (notes ++ note ∷ []) n before note (at_cut w h)) →
       AllDeltas images f s w mounted (h ++ e ∷ []) (notes ++ note ∷ [])
-  deltas_noted placed v wrote n x c d is at left_c left_d = elim (which notes note x (suc n) is) [
+  deltas_noted placed v wrote n before x earlier is at = elim (which notes note x (suc n) is) [
     | inl p ↦ old p.0 p.1
     | inr p ↦ (
-        let here_x : x.entries ≡ length h = ap (λ (y : Note). y.entries) p.1 ∙ behind in
-        let known = wrote n c d p.0 (sym (stands_last is_stored h e x.entries here_x) ∙ at)
-        (subst (λ i. images f i c) (ap (λ (y : Note). y.first_moment) p.1 ∙ here.0) left_c) (subst (λ i. images s i d) (ap (λ (y : Note). y.second_moment) p.1 ∙ here.1) left_d) in
-        (known.0, known.1, known.2 ∙ ap (λ k. Ok (dumped_on known.0 (at_cut w k))) (sym (front x here_x)))
+        let early : n < length notes = omega (arith, p.0) in
+        let known = wrote n before p.0 (sym (got_on notes (note ∷ []) n early) ∙ earlier) (sym (stands_last is_stored h e x.entries (ap (λ (y : Note). y.entries) p.1 ∙ behind)) ∙ at) in
+        subst (λ (y : Note). DeltaNow n before y (take y.entries (h ++ e ∷ []))) (sym p.1) (subst (λ k. DeltaNow n before note k) (sym front_whole) known)
         )
   ]
     where
-      front : (x : Note) → x.entries ≡ length h → take x.entries (h ++ e ∷ []) ≡ h
-      front x is = ap (λ k. take k (h ++ e ∷ [])) is ∙ take-append-le (length h) h (e ∷ []) (omega arith) ∙ take_all (length h) h (omega arith)
-
-      old : suc n < length notes → slice_get notes (suc n) ≡ Some x → (y : Chosen) × IsFront w mounted (h ++ e ∷ []) (notes ++ note ∷ []) n y × (stored c d ≡ Ok (dumped_on y (at_cut w (take x.entries (h ++ e ∷ [])))))
+      old : suc n < length notes → slice_get notes (suc n) ≡ Some x → DeltaNow n before x (take x.entries (h ++ e ∷ []))
       old less there =
-          let placed_x = placed (suc n) x.entries (ap (λ o. option_map (λ (y : Note). y.entries) o) there) in
-          let within : x.entries < length h = elim placed_x [ inl z ↦ absurd (omega (arith, z.0)) | inr it ↦ it ] in
-          let known = v n x c d there (sym (stands_on is_stored h (e ∷ []) x.entries within) ∙ at) left_c left_d in
-          let front : take x.entries (h ++ e ∷ []) ≡ take x.entries h = take-append-le x.entries h (e ∷ []) (omega (arith, within)) in
-          (known.0, front_noted n known.0 placed (omega (arith, less)) known.1, known.2 ∙ ap (λ y. Ok (dumped_on known.0 (at_cut w y))) (sym front))
+          let within = within_noted placed n x there in
+          let known = v n before x (sym (got_on notes (note ∷ []) n (omega (arith, less))) ∙ earlier) there (sym (stands_on is_stored h (e ∷ []) x.entries within) ∙ at) in
+          subst (λ k. DeltaNow n before x k) (sym (front_of x.entries within))
+          (record { base = known.base; held = known.held; front = front_noted n known.base placed (omega (arith, less)) known.front; fits = known.fits; wrote = known.wrote })
+
+  -- what gives a dump its number gives it still
+  number_noted : (n k : ℕ) (x : Note) → HasNumber images f s h notes n x k → HasNumber images f s (h ++ e ∷ []) (notes ++ note ∷ []) n x k
+  number_noted n k x (inl held) = inl held
+  number_noted n k x (inr failed) = inr (failed.0, got_on notes (note ∷ []) n (slice_get_within notes n failed.0 failed.1) ∙ failed.1, event_on h (e ∷ []) failed.0.entries (DumpFailed k) failed.2, failed.3)
+
+  pub numbered_noted : ArePlaced h notes → AllNumbered images f s h notes → ((n k : ℕ) → suc n ≡ length notes → e.event ≡ Cut k → HasNumber images f s h notes n note k) → AllNumbered images f s (h ++ e ∷ []) (notes ++ note ∷ [])
+  numbered_noted placed v now n k x is at = elim (which notes note x (suc n) is) [
+    | inl p ↦ number_noted n k x (v n k x p.1 (sym (event_off h (e ∷ []) x.entries (within_noted placed n x p.1)) ∙ at))
+    | inr p ↦ (
+        let cuts = same (sym (last_is x.entries (ap (λ (y : Note). y.entries) p.1 ∙ behind)) ∙ at) in
+        number_noted n k x (subst (λ y. HasNumber images f s h notes n y k) (sym p.1) (now n k p.0 cuts))
+        )
+  ]
+    where
+      last_is : (place : ℕ) → place ≡ length h → event_at (h ++ e ∷ []) place ≡ Some e.event
+      last_is place end = ap (event_at (h ++ e ∷ [])) end ∙ ap (option_map (λ (y : Entry). y.event)) (got_last h e)
+
+      same : Some e.event ≡ Some (Cut k) → e.event ≡ Cut k
+      same q = cc
+
+  pub rise_noted : (faults : D → ℕ) → AllRise faults f s notes → IsCounted faults f s note → AllRise faults f s (notes ++ note ∷ [])
+  rise_noted faults v count = record {
+    each = λ n before x earlier is. elim (which notes note x (suc n) is) [
+      | inl p ↦ v.each n before x (sym (got_on notes (note ∷ []) n (omega (arith, p.0))) ∙ earlier) p.1
+      | inr p ↦ (
+          let known = v.past n before (sym (got_on notes (note ∷ []) n (omega (arith, p.0))) ∙ earlier) in (
+            omega (arith, known.0, count.0, ap (λ (y : Note). y.first_faults) p.1),
+            omega (arith, known.1, count.1, ap (λ (y : Note). y.second_faults) p.1),
+          )
+          )
+    ];
+    past = λ n x is. elim (which notes note x n is) [
+      | inl p ↦ v.past n x p.1
+      | inr p ↦ (omega (arith, count.0, ap (λ (y : Note). y.first_faults) p.1), omega (arith, count.1, ap (λ (y : Note). y.second_faults) p.1))
+    ];
+  }

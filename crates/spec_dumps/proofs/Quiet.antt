@@ -1,8 +1,8 @@
 -- Histories that go on without a dump.
-use Rattle.std.proofs.Common.{◌≡◌, inl, inr, ℕ, ◌<◌, ◌≤◌, Bool, true, false, ◌||◌, zero, suc, List, [], ◌∷◌, ◌++◌, length, take, refl, ap, sym, ◌∙◌, subst, arith, Option, Some, None, Ok}
+use Rattle.std.proofs.Common.{◌≡◌, inl, inr, ℕ, ◌<◌, ◌≤◌, Bool, true, false, ◌||◌, zero, suc, List, [], ◌∷◌, ◌++◌, length, take, refl, ap, sym, ◌∙◌, subst, arith, Option, Some, None}
 use Rattle.std.specs.Prelude.{slice_get}
 use Rattle.std.specs.List.{list_any}
-use Rattle.std.specs.Option.{option_map_or}
+use Rattle.std.specs.Option.{option_map, option_map_or}
 use Rattle.std.proofs.lemmas.List.{length-append, take-append-le}
 use Rattle.std.proofs.lemmas.Bool.{cases_lt}
 use Rattle.muck_model.specs.declared.event.Entry.{Entry}
@@ -15,10 +15,10 @@ use Rattle.spec_events.specs.World.{World}
 use Rattle.spec_events.specs.Histories.{History, entered, Grew}
 use Rattle.spec_events.proofs.Runs.{grew_nothing, grew_one, grew_on}
 use Rattle.spec_events.specs.Logged.{is_dump, is_stored, is_failed}
-use Rattle.spec_dumps.specs.Fronts.{stands_at, at_cut, last_cut, number_at, IsFront, Overflows, dumped_on}
-use Rattle.spec_dumps.specs.Survival.{Survives, AllCaused, AllDeltas, IsSafe}
-use Rattle.spec_dumps.specs.inner.Holding.{Quietly, IsUsable, Keeps, Rests, IsDumped, Fails}
-use Rattle.spec_dumps.proofs.Fronts.{ArePlaced, stands_on, front_on, loads_by, last_cut_quiet, last_cut_short, at_cut_quiet, number_on}
+use Rattle.spec_dumps.specs.Fronts.{stands_at, event_at, at_cut, last_cut, number_at, IsFront, Fits, Overflows, dumped_on}
+use Rattle.spec_dumps.specs.Survival.{Survives, AllCaused, IsDelta, AllDeltas, AllNumbered, IsSafe}
+use Rattle.spec_dumps.specs.inner.Holding.{Quietly, IsUsable, Keeps, Rests, FailedLast, IsDumped, RisesInDump, OverflowsAtCut}
+use Rattle.spec_dumps.proofs.Fronts.{ArePlaced, stands_on, event_on, event_off, front_on, loads_by, last_cut_quiet, last_cut_short, at_cut_quiet, number_on}
 
 any_append : (es fs : List Entry) → list_any (λ (e : Entry). is_dump e.event) es ≡ false → list_any (λ (e : Entry). is_dump e.event) fs ≡ false → list_any (λ (e : Entry). is_dump e.event) (es ++ fs) ≡ false
 any_append [] fs a b = b
@@ -97,7 +97,7 @@ module _ {D : Type 0} (moment : D → ℕ) (images : D → ℕ → List ℕ → 
     ];
   }
 
-  caused_on : (h es : List Entry) → list_any (λ (e : Entry). is_dump e.event) es ≡ false → ArePlaced h notes → AllCaused w mounted h notes → AllCaused w mounted (h ++ es) notes
+  caused_on : (h es : List Entry) → list_any (λ (e : Entry). is_dump e.event) es ≡ false → ArePlaced h notes → AllCaused images f s w mounted h notes → AllCaused images f s w mounted (h ++ es) notes
   caused_on h es none placed v n note before is earlier at =
       let less = within is_failed h es note.entries failed_dump none at in
       let known = v n note before is earlier (sym (stands_on is_failed h es note.entries less) ∙ at) in
@@ -105,31 +105,42 @@ module _ {D : Type 0} (moment : D → ℕ) (images : D → ℕ → List ℕ → 
       record {
         cause = elim known.cause [
           | inl rose ↦ inl rose
-          | inr full ↦ inr (full.0, front_on w mounted h es notes (suc n) full.0 placed full.1, subst (λ x. Overflows full.0 (at_cut w x)) (sym front) full.2)
+          | inr full ↦ inr (full.0, full.1, front_on w mounted h es notes (suc n) full.0 placed full.2, subst (λ x. Overflows full.0 (at_cut w x)) (sym front) full.3)
         ];
       }
 
   deltas_on : (h es : List Entry) → list_any (λ (e : Entry). is_dump e.event) es ≡ false → ArePlaced h notes → AllDeltas images f s w mounted h notes → AllDeltas images f s w mounted (h ++ es) notes
-  deltas_on h es none placed v n note c d is at left_c left_d =
+  deltas_on h es none placed v n before note earlier is at =
       let less = within is_stored h es note.entries stored_dump none at in
-      let known = v n note c d is (sym (stands_on is_stored h es note.entries less) ∙ at) left_c left_d in
+      let known = v n before note earlier is (sym (stands_on is_stored h es note.entries less) ∙ at) in
       let front : take note.entries (h ++ es) ≡ take note.entries h = take-append-le note.entries h es (omega (arith, less)) in
-      (known.0, front_on w mounted h es notes n known.0 placed known.1, known.2 ∙ ap (λ x. Ok (dumped_on known.0 (at_cut w x))) (sym front))
+      subst (λ x. IsDelta images f s w mounted (h ++ es) notes n before note (at_cut w x)) (sym front)
+      (record { base = known.base; held = known.held; front = front_on w mounted h es notes n known.base placed known.front; fits = known.fits; wrote = known.wrote })
 
-  pub safe_on : (h es : List Entry) → list_any (λ (e : Entry). is_dump e.event) es ≡ false → IsSafe moment images f s w mounted h notes → IsSafe moment images f s w mounted (h ++ es) notes
-  safe_on h es none v = record {
+  numbered_on : (h es : List Entry) → ArePlaced h notes → AllNumbered images f s h notes → AllNumbered images f s (h ++ es) notes
+  numbered_on h es placed v n k note is at =
+      let less : note.entries < length h = elim (placed (suc n) note.entries (ap (λ o. option_map (λ (y : Note). y.entries) o) is)) [ inl z ↦ absurd (omega (arith, z.0)) | inr it ↦ it ] in
+      elim (v n k note is (sym (event_off h es note.entries less) ∙ at)) [
+        | inl held ↦ inl held
+        | inr failed ↦ inr (failed.0, failed.1, event_on h es failed.0.entries (DumpFailed k) failed.2, failed.3)
+      ]
+
+  pub safe_on : (faults : D → ℕ) (h es : List Entry) → list_any (λ (e : Entry). is_dump e.event) es ≡ false → IsSafe moment images faults f s w mounted h notes → IsSafe moment images faults f s w mounted (h ++ es) notes
+  safe_on faults h es none v = record {
     survives = survives_on h es none v.survives;
     caused = caused_on h es none v.survives.placed v.caused;
     deltas = deltas_on h es none v.survives.placed v.deltas;
+    numbered = numbered_on h es v.survives.placed v.numbered;
+    rise = v.rise;
   }
 
-module _ {D : Type 0} (moment : D → ℕ) (images : D → ℕ → List ℕ → Type 0) (f s : D) (mounted : ℕ) where
-  pub safe_quiet : (h k : History) → Quietly h k → IsSafe moment images f s h.start mounted h.entries h.notes → IsSafe moment images f s k.start mounted k.entries k.notes
+module _ {D : Type 0} (moment : D → ℕ) (images : D → ℕ → List ℕ → Type 0) (faults : D → ℕ) (f s : D) (mounted : ℕ) where
+  pub safe_quiet : (h k : History) → Quietly h k → IsSafe moment images faults f s h.start mounted h.entries h.notes → IsSafe moment images faults f s k.start mounted k.entries k.notes
   safe_quiet h k q v =
-      subst (λ (w : World). IsSafe moment images f s w mounted k.entries k.notes) (sym q.grew.start)
-      (subst (λ (es : List Entry). IsSafe moment images f s h.start mounted es k.notes) (sym q.grew.entries)
-      (subst (λ (ns : List Note). IsSafe moment images f s h.start mounted (h.entries ++ q.entries) ns) (sym q.grew.notes)
-      (safe_on moment images f s h.start mounted h.notes h.entries q.entries q.none v)))
+      subst (λ (w : World). IsSafe moment images faults f s w mounted k.entries k.notes) (sym q.grew.start)
+      (subst (λ (es : List Entry). IsSafe moment images faults f s h.start mounted es k.notes) (sym q.grew.entries)
+      (subst (λ (ns : List Note). IsSafe moment images faults f s h.start mounted (h.entries ++ q.entries) ns) (sym q.grew.notes)
+      (safe_on moment images f s h.start mounted h.notes faults h.entries q.entries q.none v)))
 
 module _ {D : Type 0} (seen : D → List ℕ) (moment : D → ℕ) (images : D → ℕ → List ℕ → Type 0) (faults : D → ℕ) (log : Option LogState) (f s : D) (mounted : ℕ) where
   usable_on : (l : Option LogState) (w : World) (h es : List Entry) (notes : List Note) (n : ℕ) → ArePlaced h notes → IsUsable seen moment images l f s w mounted h notes n → IsUsable seen moment images l f s w mounted (h ++ es) notes n
@@ -149,9 +160,8 @@ module _ {D : Type 0} (seen : D → List ℕ) (moment : D → ℕ) (images : D �
     note = v.note;
     is = ap (λ (ns : List Note). slice_get ns v.last) q.grew.notes ∙ v.is;
     end = ap (λ (ns : List Note). length ns) q.grew.notes ∙ v.end;
-    safe = safe_quiet moment images f s mounted h k q v.safe;
+    safe = safe_quiet moment images faults f s mounted h k q v.safe;
     usable = usable_quiet h k v.last q v.safe.survives.placed v.usable;
-    counted = v.counted;
   }
 
   pub rests_quiet : (h k : History) → Quietly h k → Rests seen moment images faults log f s mounted h → Rests seen moment images faults log f s mounted k
@@ -177,21 +187,38 @@ module _ (mounted : ℕ) (h k : History) (q : Quietly h k) (placed : ArePlaced h
       (subst (λ (ns : List Note). IsFront h.start mounted (h.entries ++ q.entries) ns n x) (sym q.grew.notes)
       (front_on h.start mounted h.entries q.entries h.notes n x placed p)))
 
-  pub dumped_quiet : (x : Chosen) → IsDumped mounted h x → IsDumped mounted k x
-  dumped_quiet x d = record {
+  same_notes : length k.notes ≡ length h.notes
+  same_notes = ap (λ (ns : List Note). length ns) q.grew.notes
+
+  pub dumped_quiet : {D : Type 0} (images : D → ℕ → List ℕ → Type 0) (f s : D) (x : Chosen) → IsDumped images f s mounted h x → IsDumped images f s mounted k x
+  dumped_quiet images f s x d = record {
     last = d.last;
-    end = ap (λ (ns : List Note). length ns) q.grew.notes ∙ d.end;
+    note = d.note;
+    there = ap (λ (ns : List Note). slice_get ns d.last) q.grew.notes ∙ d.there;
+    end = same_notes ∙ d.end;
     before = d.before;
+    held = d.held;
     front = front_quiet d.last d.before d.front;
+    fits = subst (Fits d.before) (sym same_cut) d.fits;
     is = d.is ∙ ap (dumped_on d.before) (sym same_cut);
     number = same_number ∙ d.number;
     consistent = subst (λ (w : World). IsConsistent w.live.objects) (sym same_cut) d.consistent;
   }
 
-  pub fails_quiet : (a b : ℕ) → Fails mounted h a b → Fails mounted k a b
-  fails_quiet a b fails n before end there =
-      let lengths : length k.notes ≡ length h.notes = ap (λ (ns : List Note). length ns) q.grew.notes in
-      elim (fails n before (end ∙ lengths) (ap (λ (ns : List Note). slice_get ns n) (sym q.grew.notes) ∙ there)) [
-        | inl rose ↦ inl rose
-        | inr full ↦ inr (full.0, front_quiet (suc n) full.0 full.1, subst (λ (w : World). Overflows full.0 w) (sym same_cut) full.2)
-      ]
+  pub overflows_quiet : {D : Type 0} (moment : D → ℕ) (images : D → ℕ → List ℕ → Type 0) (f s : D) (x : Chosen) → OverflowsAtCut moment images f s mounted h x → OverflowsAtCut moment images f s mounted k x
+  overflows_quiet moment images f s x o = record { last = o.last; end = same_notes ∙ o.end; held = o.held; front = front_quiet o.last x o.front; over = subst (Overflows x) (sym same_cut) o.over }
+
+-- What a disk counts, and how the last dump came out, is of the last notes.
+
+module _ (h k : History) (q : Quietly h k) where
+  pub rises_quiet : {D : Type 0} (faults : D → ℕ) (f s : D) → RisesInDump faults f s h → RisesInDump faults f s k
+  rises_quiet faults f s rose n before end there = rose n before (end ∙ ap (λ (ns : List Note). length ns) q.grew.notes) (ap (λ (ns : List Note). slice_get ns n) (sym q.grew.notes) ∙ there)
+
+  pub failed_quiet : (n : ℕ) → FailedLast n h → FailedLast n k
+  failed_quiet n v = record {
+    last = v.last;
+    note = v.note;
+    is = ap (λ (ns : List Note). slice_get ns v.last) q.grew.notes ∙ v.is;
+    end = ap (λ (ns : List Note). length ns) q.grew.notes ∙ v.end;
+    event = ap (λ (es : List Entry). event_at es v.note.entries) q.grew.entries ∙ event_on h.entries q.entries v.note.entries (DumpFailed n) v.event;
+  }

@@ -1,5 +1,5 @@
 -- The log is mounted again, behind a dump that failed.
-use Rattle.std.proofs.Common.{◌≡◌, ℕ, ◌≤◌, List, subst, arith, Option, Some, None, Result, Ok, Err}
+use Rattle.std.proofs.Common.{◌≡◌, ℕ, ◌≤◌, List, subst, Option, Some, None, Result, Ok, Err}
 use Rattle.muck_log.specs.Store.{Chosen, Damage, LogState, LeavesOnly, stored}
 use Rattle.muck_log.specs.inner.Mount.{IsMountedAs}
 use Rattle.spec_events.specs.Histories.{History}
@@ -21,9 +21,8 @@ module _ {D : Type 0} (seen : D → List ℕ) (moment : D → ℕ) (images : D �
     note = r.note;
     is = r.is;
     end = r.end;
-    safe = safe_kept moment images f s f' s' h.start mounted h.entries h.notes a b r.safe;
+    safe = safe_kept moment images faults f s f' s' h.start mounted h.entries h.notes a b first_later second_later r.safe;
     usable = tt;
-    counted = (omega (arith, r.counted.0, first_later), omega (arith, r.counted.1, second_later));
   }
 
   -- where it is, it stands on the world after a front of the history
@@ -36,7 +35,6 @@ module _ {D : Type 0} (seen : D → List ℕ) (moment : D → ℕ) (images : D �
     end = r.end;
     safe = mounting_moves.safe;
     usable = (is.mounted, is.limit, front);
-    counted = mounting_moves.counted;
   }
     where
       shown : Loads h.start mounted h.entries h.notes r.last (stored (seen f') (seen s'))

@@ -1,5 +1,6 @@
 -- A dump that began is written, and it is stored.
-use Rattle.std.proofs.Common.{◌≡◌, inl, inr, ℕ, ◌<◌, ◌≤◌, true, ◌||◌, zero, suc, List, [], ◌∷◌, length, take, refl, ap, sym, ◌∙◌, subst, arith, Some, None, Ok}
+use Rattle.std.proofs.Common.{◌≡◌, inl, inr, ℕ, ◌<◌, ◌≤◌, true, ◌||◌, zero, suc, List, [], ◌∷◌, length, take, refl, ap, sym, ◌∙◌, subst, arith, Some, None}
+use Rattle.std.specs.Prelude.{slice_get}
 use Rattle.std.proofs.lemmas.List.{take-append-le}
 use Rattle.muck_model.specs.declared.event.Entry.{Entry}
 use Rattle.muck_model.specs.declared.event.Event.{Event}
@@ -12,13 +13,13 @@ use Rattle.muck_log.specs.Append.{LoadsEither}
 use Rattle.spec_events.specs.World.{World}
 use Rattle.spec_events.specs.Histories.{History, after, entered, noted}
 use Rattle.spec_events.specs.Logged.{is_cut, is_stored, is_failed}
-use Rattle.spec_dumps.specs.Fronts.{persisted, last_cut, at_cut, number_at, IsNotedBy, IsFront, Loads, dumped_on, file_most}
-use Rattle.spec_dumps.specs.Survival.{AllNoted, StandsWhole}
+use Rattle.spec_dumps.specs.Fronts.{persisted, last_cut, at_cut, number_at, IsNotedBy, IsFront, Loads, Fits, dumped_on, file_most}
+use Rattle.spec_dumps.specs.Survival.{AllNoted, HoldsAt, HoldsBy, IsDelta, StandsWhole}
 use Rattle.spec_dumps.specs.inner.Holding.{IsAt, IsCounted, Keeps, Rests, IsDumped}
 use Rattle.spec_dumps.proofs.Lists.{got_last, length_last}
 use Rattle.spec_dumps.proofs.Fronts.{note_within, noted_on, number_on, last_cut_short, last_cut_taken, last_cut_front, last_cut_stands}
-use Rattle.spec_dumps.proofs.Moving.{safe_moved}
-use Rattle.spec_dumps.proofs.Noting.{front_noted, survives_noted, caused_noted, deltas_noted, stands_within}
+use Rattle.spec_dumps.proofs.Moving.{safe_moved, held_still, held_now, held_noted}
+use Rattle.spec_dumps.proofs.Noting.{front_noted, survives_noted, caused_noted, deltas_noted, numbered_noted, rise_noted, stands_within}
 use Rattle.spec_dumps.proofs.Quiet.{stands_dump}
 
 -- The store with a dump.
@@ -61,13 +62,19 @@ module _ {D : Type 0} (seen : D → List ℕ) (moment : D → ℕ) (images : D �
   abbrev dumped : Chosen
   dumped = dumped_on log.chosen (at_cut h.start h.entries)
 
-  -- a store with the batch
-  pub dumped_it : (x : Chosen) → x ≡ dumped → IsDumped mounted h x
-  dumped_it x is = record {
+  -- a store with the batch, where it fits
+  pub dumped_it : (f' s' : D) → LeavesBoth moment images f s f' s' (LoadsEither log.chosen dumped) → images f (moment f) (seen f) → images s (moment s) (seen s) → Fits log.chosen (at_cut h.start h.entries) → (x : Chosen) → x ≡ dumped →
+      IsDumped images f' s' mounted h x
+  dumped_it f' s' leaves left_f left_s fits x is = record {
     last = r.keeps.last;
+    note = r.keeps.note;
+    there = r.keeps.is;
     end = r.keeps.end;
     before = log.chosen;
+    held = held_still moment images f s f' s' (record { kept = leaves.first_kept; stays = leaves.first_stays }) (record { kept = leaves.second_kept; stays = leaves.second_stays }) r.keeps.note.first_moment r.keeps.note.second_moment log.chosen (omega (arith, r.rests.0)) (omega (arith, r.rests.1))
+        (held_noted moment images f s r.keeps.note log.chosen r.rests (held_now seen moment images log f s r.keeps.usable.0 left_f left_s));
     front = r.keeps.usable.2;
+    fits = fits;
     is = is;
     number = number ∙ sym (dumped_number log.chosen (at_cut h.start h.entries)) ∙ ap (λ (y : Chosen). y.held.number) (sym is);
     consistent = consistent;
@@ -84,9 +91,8 @@ module _ {D : Type 0} (seen : D → List ℕ) (moment : D → ℕ) (images : D �
     note = r.keeps.note;
     is = r.keeps.is;
     end = r.keeps.end;
-    safe = safe_moved moment images f s f' s' h.start mounted h.entries h.notes r.keeps.last r.keeps.note r.keeps.is r.keeps.end r.rests (LoadsEither log.chosen dumped) leaves loads r.keeps.safe;
+    safe = safe_moved moment images f s f' s' h.start mounted h.entries h.notes r.keeps.last r.keeps.note r.keeps.is r.keeps.end r.rests (LoadsEither log.chosen dumped) leaves loads faults first_later second_later r.keeps.safe;
     usable = tt;
-    counted = (omega (arith, r.keeps.counted.0, first_later), omega (arith, r.keeps.counted.1, second_later));
   }
     where
       loads : (c d : List ℕ) → LoadsEither log.chosen dumped c d → Loads h.start mounted h.entries h.notes r.keeps.last (stored c d)
@@ -95,8 +101,9 @@ module _ {D : Type 0} (seen : D → List ℕ) (moment : D → ℕ) (images : D �
 
 -- It was written, and is told to be stored.
 module _ {D : Type 0} (seen : D → List ℕ) (moment : D → ℕ) (images : D → ℕ → List ℕ → Type 0) (faults : D → ℕ) (f s : D) (mounted : ℕ) (h : History) (v : Keeps seen moment images faults None f s mounted h)
-    (log : LogState) (there : IsMounted seen moment images log f s) (limit : log.most ≡ file_most) (d : IsDumped mounted h log.chosen)
-    (note : Note) (here : IsAt moment f s note) (count : IsCounted faults f s note) (behind : note.entries ≡ length h.entries) (party n : ℕ) where
+    (log : LogState) (there : IsMounted seen moment images log f s) (limit : log.most ≡ file_most) (d : IsDumped images f s mounted h log.chosen)
+    (note : Note) (here : IsAt moment f s note) (count : IsCounted faults f s note) (behind : note.entries ≡ length h.entries)
+    (left_f : images f (moment f) (seen f)) (left_s : images s (moment s) (seen s)) (party n : ℕ) where
   abbrev stored_entry : Entry
   stored_entry = record { party = party; event = Stored n }
 
@@ -130,8 +137,8 @@ module _ {D : Type 0} (seen : D → List ℕ) (moment : D → ℕ) (images : D �
         omega (arith, last_cut_front h.entries place, ap last_cut (front place within));
   }
 
-  images_now : (c d : List ℕ) → images f (moment f) c → images s (moment s) d → stored c d ≡ Ok log.chosen
-  images_now c d left_c left_d = ap (λ x. stored x d) (there.first_durable c left_c) ∙ ap (stored (seen f)) (there.second_durable d left_d) ∙ there.load
+  holds_now : HoldsAt images f s (moment f) (moment s) log.chosen
+  holds_now = held_now seen moment images log f s there left_f left_s
 
   pub stored_rests : Rests seen moment images faults (Some log) f s mounted m
   stored_rests = record {
@@ -142,12 +149,13 @@ module _ {D : Type 0} (seen : D → List ℕ) (moment : D → ℕ) (images : D �
       end = length_last h.notes note;
       safe = record {
         survives = survives_noted moment images f s h.start mounted h.entries h.notes stored_entry note here behind some v.safe.survives
-            (λ c d left_c left_d. (log.chosen, images_now c d left_c left_d, stored_front));
+            (λ c d left_c left_d. (log.chosen, holds_now.each c d left_c left_d, stored_front));
         caused = caused_noted moment images f s h.start mounted h.entries h.notes stored_entry note here behind some v.safe.survives.placed v.safe.caused (λ i before at there fails. cc);
         deltas = deltas_noted moment images f s h.start mounted h.entries h.notes stored_entry note here behind some v.safe.survives.placed v.safe.deltas wrote;
+        numbered = numbered_noted moment images f s h.start mounted h.entries h.notes stored_entry note here behind some v.safe.survives.placed v.safe.numbered (λ i k at cuts. cc);
+        rise = rise_noted moment images f s h.start mounted h.entries h.notes stored_entry note here behind some faults v.safe.rise count;
       };
       usable = (there, limit, stored_front);
-      counted = count;
     };
     rests = here;
   }
@@ -155,15 +163,19 @@ module _ {D : Type 0} (seen : D → List ℕ) (moment : D → ℕ) (images : D �
       index : (i : ℕ) → suc i ≡ length h.notes → d.last ≡ i
       index i at = omega (arith, at, d.end)
 
-      wrote : (i : ℕ) (c e : List ℕ) → suc i ≡ length h.notes → is_stored stored_entry.event ≡ true → images f (moment f) c → images s (moment s) e →
-          (x : Chosen) × IsFront h.start mounted m.entries m.notes i x × (stored c e ≡ Ok (dumped_on x (at_cut h.start h.entries)))
-      wrote i c e at stores left_c left_e = (
-        d.before,
-        front_noted moment images f s h.start mounted h.entries h.notes stored_entry note here behind some i d.before v.safe.survives.placed (omega (arith, at))
-            (subst (λ j. IsFront h.start mounted h.entries h.notes j d.before) (index i at) d.front),
-        images_now c e left_c left_e ∙ ap Ok d.is,
-      )
+      same : (x y : Note) → Some x ≡ Some y → x ≡ y
+      same x y e = cc
+
+      wrote : (i : ℕ) (before : Note) → suc i ≡ length h.notes → slice_get h.notes i ≡ Some before → is_stored stored_entry.event ≡ true → IsDelta images f s h.start mounted m.entries m.notes i before note (at_cut h.start h.entries)
+      wrote i before at earlier stores = record {
+        base = d.before;
+        held = subst (λ x. HoldsBy images f s x d.before) (same d.note before (sym d.there ∙ ap (slice_get h.notes) (index i at) ∙ earlier)) d.held;
+        front = front_noted moment images f s h.start mounted h.entries h.notes stored_entry note here behind some i d.before v.safe.survives.placed (omega (arith, at))
+            (subst (λ j. IsFront h.start mounted h.entries h.notes j d.before) (index i at) d.front);
+        fits = d.fits;
+        wrote = subst (HoldsBy images f s note) d.is (held_noted moment images f s note log.chosen here holds_now);
+      }
 
   -- and where nothing that is stored changed since its Cut, the disks hold the world as it is
   pub stored_whole : persisted (after h.start m.entries) ≡ persisted (at_cut h.start h.entries) → StandsWhole moment images f s h.start m.entries
-  stored_whole same c e left_c left_e = (log.chosen, images_now c e left_c left_e, holds ∙ sym same)
+  stored_whole same c e left_c left_e = (log.chosen, holds_now.each c e left_c left_e, holds ∙ sym same)

@@ -26,6 +26,10 @@ abbrev pub cut_behind : ℕ → Bool → ℕ
 cut_behind zero cut = if cut then 1 else 0
 cut_behind (suc n) cut = suc (suc n)
 
+-- the event of the entry behind n others
+abbrev pub event_at : List Entry → ℕ → Option Event
+event_at h n = option_map (λ (e : Entry). e.event) (slice_get h n)
+
 -- how many entries there are up to the last Cut, and with it; 0 where there is none
 unfoldable pub last_cut : List Entry → ℕ
 last_cut [] = 0
@@ -89,6 +93,14 @@ dump_payload s w = payload_of (log_of s) (world_batch w.live.objects w.live.boar
 abbrev pub dumped_on : Chosen → World → Chosen
 dumped_on s w = after_batch s (dump_payload s w) (persisted w)
 
--- the batch would pass the most bytes of a file
+-- where the file would end with that batch
+abbrev pub end_with : Chosen → World → ℕ
+end_with s w = (target s).place + more_of (log_of s) (dump_payload s w)
+
+-- the batch fits in its file
+abbrev pub Fits : Chosen → World → Type 0
+Fits s w = end_with s w ≤ file_most
+
+-- or it would pass the most bytes of a file
 abbrev pub Overflows : Chosen → World → Type 0
-Overflows s w = file_most < (target s).place + more_of (log_of s) (dump_payload s w)
+Overflows s w = file_most < end_with s w

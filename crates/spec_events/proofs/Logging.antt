@@ -6,7 +6,8 @@ use Rattle.std.proofs.lemmas.Bool.{cond-true, cond-false}
 use Rattle.muck_model.specs.declared.event.Entry.{Entry}
 use Rattle.muck_model.specs.declared.event.Event.{Event}
 use Rattle.muck_model.specs.declared.note.Note.{Note}
-use Rattle.spec_events.specs.declared.logged.Count.{Count}
+use Rattle.muck_model.specs.declared.note.Count.{Count}
+use Rattle.muck_model.specs.declared.note.Counted.{Counted}
 use Rattle.spec_events.specs.declared.logged.Logged.{Logged}
 use Rattle.spec_events.specs.Histories.{History, entered, noted, links_noted}
 use Rattle.spec_events.specs.Logged.{is_dump, notes_at, notes_from, counted_at, counted_from, item_at, items_from, logged, loose_notes, loose_count, IsSettled, bare_item, noted_item, counted_item, entries_of, events_of, notes_of, NoNotes, NoCounts, placed_count, count_from, history_of, ArePlaced, IsCountPlaced, IsPlaced, IsOrderly}
@@ -139,9 +140,13 @@ at_from k m xs less = filter_from k (λ (x : Note). x.entries == m) (λ x e. gri
 from_from : (k m : ℕ) (xs : List Note) → k ≤ m → notes_from m (notes_from k xs) ≡ notes_from m xs
 from_from k m xs less = filter_from k (λ (x : Note). nat_le m x.entries) (λ x e. grind (arith, nat_tests)) xs
 
+-- a note of the links behind so many entries
+abbrev counted_by : ℕ → List Count → Counted
+counted_by n counts = record { entries = n; counts = counts }
+
 -- Items.
 
-items_append : (n : ℕ) (notes : List Note) (counted : Option (ℕ × List Count)) (a b : List Entry)
+items_append : (n : ℕ) (notes : List Note) (counted : Option Counted) (a b : List Entry)
     → items_from n notes counted (a ++ b) ≡ items_from n notes counted a ++ items_from (n + length a) notes counted b
 items_append n notes counted [] b = ap (λ (m : ℕ). items_from m notes counted b) (omega arith)
 items_append n notes counted (e ∷ es) b =
@@ -149,7 +154,7 @@ items_append n notes counted (e ∷ es) b =
     ap (λ (l : List Logged). item_at n notes counted e ∷ l)
     (items_append (suc n) notes counted es b ∙ ap (λ (m : ℕ). items_from (suc n) notes counted es ++ items_from m notes counted b) more)
 
-pub entries_items : (n : ℕ) (notes : List Note) (counted : Option (ℕ × List Count)) (es : List Entry) → entries_of (items_from n notes counted es) ≡ es
+pub entries_items : (n : ℕ) (notes : List Note) (counted : Option Counted) (es : List Entry) → entries_of (items_from n notes counted es) ≡ es
 entries_items n notes counted [] = refl
 entries_items n notes counted (e ∷ es) = ap (λ (l : List Entry). e ∷ l) (entries_items (suc n) notes counted es)
 
@@ -167,7 +172,7 @@ logged_entered h e =
     ∙ ap (λ (n : ℕ). items_from 0 (drop 1 h.notes) h.counted h.entries ++ item_at n (drop 1 h.notes) h.counted e ∷ []) end
 
 -- a note behind all entries is in no item
-items_noted : (n : ℕ) (notes : List Note) (x : Note) (counted : Option (ℕ × List Count)) (es : List Entry) → n + length es ≤ x.entries
+items_noted : (n : ℕ) (notes : List Note) (x : Note) (counted : Option Counted) (es : List Entry) → n + length es ≤ x.entries
     → items_from n (notes ++ x ∷ []) counted es ≡ items_from n notes counted es
 items_noted n notes x counted [] less = refl
 items_noted n notes x counted (e ∷ es) less =
@@ -184,22 +189,22 @@ logged_noted h x less = from h.notes
     from [] = refl
     from (y ∷ ys) = items_noted 0 ys x h.counted h.entries (omega arith)
 
-counted_before : (n m : ℕ) (cs : List Count) → n < m → counted_at n (Some (m, cs)) ≡ None
+counted_before : (n m : ℕ) (cs : List Count) → n < m → counted_at n (Some (counted_by m cs)) ≡ None
 counted_before n m cs less = let other : (m == n) ≡ false = grind (arith, nat_tests) in cond-false _ _ _ other
 
-items_linked : (n : ℕ) (notes : List Note) (m : ℕ) (cs : List Count) (es : List Entry) → n + length es ≤ m → items_from n notes (Some (m, cs)) es ≡ items_from n notes None es
+items_linked : (n : ℕ) (notes : List Note) (m : ℕ) (cs : List Count) (es : List Entry) → n + length es ≤ m → items_from n notes (Some (counted_by m cs)) es ≡ items_from n notes None es
 items_linked n notes m cs [] less = refl
 items_linked n notes m cs (e ∷ es) less =
     let here : n < m = omega arith in
     let later : suc n + length es ≤ m = omega arith in
-    ap (λ (o : Option (List Count)). let item : Logged = record { entry = e; notes = notes_at n notes; counted = o } in item ∷ items_from (suc n) notes (Some (m, cs)) es) (counted_before n m cs here)
+    ap (λ (o : Option (List Count)). let item : Logged = record { entry = e; notes = notes_at n notes; counted = o } in item ∷ items_from (suc n) notes (Some (counted_by m cs)) es) (counted_before n m cs here)
     ∙ ap (λ (l : List Logged). item_at n notes None e ∷ l) (items_linked (suc n) notes m cs es later)
 
 -- the note of the links, where there was none yet
 pub logged_linked : (h : History) (cs : List Count) → h.counted ≡ None → logged (links_noted h cs) ≡ logged h
 unfolding logged
 logged_linked h cs none =
-    items_linked 0 (drop 1 h.notes) (length h.entries) cs h.entries (omega arith) ∙ ap (λ (o : Option (ℕ × List Count)). items_from 0 (drop 1 h.notes) o h.entries) (sym none)
+    items_linked 0 (drop 1 h.notes) (length h.entries) cs h.entries (omega arith) ∙ ap (λ (o : Option Counted). items_from 0 (drop 1 h.notes) o h.entries) (sym none)
 
 -- Notes that wait.
 
@@ -233,21 +238,21 @@ settled mounting h s = from h.notes refl s.notes
           counted = s.counted;
         }
 
-count_none : (n : ℕ) (counted : Option (ℕ × List Count)) → counted_from n counted ≡ None → counted_at n counted ≡ None
+count_none : (n : ℕ) (counted : Option Counted) → counted_from n counted ≡ None → counted_at n counted ≡ None
 count_none n None none = refl
-count_none n (Some c) none = from (nat_le n c.0) refl none
+count_none n (Some c) none = from (nat_le n c.entries) refl none
   where
-    from : (b : Bool) → nat_le n c.0 ≡ b → cond b (Some c.1) None ≡ None → cond (c.0 == n) (Some c.1) None ≡ None
+    from : (b : Bool) → nat_le n c.entries ≡ b → cond b (Some c.counts) None ≡ None → cond (c.entries == n) (Some c.counts) None ≡ None
     from true is e = cc
-    from false is e = let other : (c.0 == n) ≡ false = grind (arith, nat_tests) in cond-false _ _ _ other
+    from false is e = let other : (c.entries == n) ≡ false = grind (arith, nat_tests) in cond-false _ _ _ other
 
-count_later : (n : ℕ) (counted : Option (ℕ × List Count)) → counted_from n counted ≡ None → counted_from (suc n) counted ≡ None
+count_later : (n : ℕ) (counted : Option Counted) → counted_from n counted ≡ None → counted_from (suc n) counted ≡ None
 count_later n None none = refl
-count_later n (Some c) none = from (nat_le n c.0) refl none
+count_later n (Some c) none = from (nat_le n c.entries) refl none
   where
-    from : (b : Bool) → nat_le n c.0 ≡ b → cond b (Some c.1) None ≡ None → cond (nat_le (suc n) c.0) (Some c.1) None ≡ None
+    from : (b : Bool) → nat_le n c.entries ≡ b → cond b (Some c.counts) None ≡ None → cond (nat_le (suc n) c.entries) (Some c.counts) None ≡ None
     from true is e = cc
-    from false is e = let other : nat_le (suc n) c.0 ≡ false = grind (arith, nat_tests) in cond-false _ _ _ other
+    from false is e = let other : nat_le (suc n) c.entries ≡ false = grind (arith, nat_tests) in cond-false _ _ _ other
 
 -- where none waits, an entry more is an item more without a note
 pub logged_bare : (m : Note) (h : History) (e : Entry) → IsSettled m h → logged (entered h e) ≡ logged h ++ bare_item e ∷ []
@@ -270,15 +275,15 @@ logged_with_note m h x e s is =
     ∙ ap (λ (l : List Note). let item : Logged = record { entry = e; notes = l; counted = counted_at (length h.entries) h.counted } in logged h ++ item ∷ []) one
     ∙ ap (λ (o : Option (List Count)). let item : Logged = record { entry = e; notes = x ∷ []; counted = o } in logged h ++ item ∷ []) (count_none (length h.entries) h.counted k.counted)
 
-count_here : (n : ℕ) (cs : List Count) → counted_at n (Some (n, cs)) ≡ Some cs
+count_here : (n : ℕ) (cs : List Count) → counted_at n (Some (counted_by n cs)) ≡ Some cs
 count_here n cs = let same : (n == n) ≡ true = grind (arith, nat_tests) in cond-true _ _ _ same
 
 pub logged_with_counts : (m : Note) (h : History) (cs : List Count) (e : Entry) → IsSettled m h → h.counted ≡ None → logged (entered (links_noted h cs) e) ≡ logged h ++ counted_item cs e ∷ []
 logged_with_counts m h cs e s none =
     let k = settled m h s in
     logged_entered (links_noted h cs) e
-    ∙ ap (λ (l : List Logged). l ++ item_at (length h.entries) (drop 1 h.notes) (Some (length h.entries, cs)) e ∷ []) (logged_linked h cs none)
-    ∙ ap (λ (l : List Note). let item : Logged = record { entry = e; notes = l; counted = counted_at (length h.entries) (Some (length h.entries, cs)) } in logged h ++ item ∷ []) (none_at (length h.entries) (drop 1 h.notes) k.none)
+    ∙ ap (λ (l : List Logged). l ++ item_at (length h.entries) (drop 1 h.notes) (Some (counted_by (length h.entries) cs)) e ∷ []) (logged_linked h cs none)
+    ∙ ap (λ (l : List Note). let item : Logged = record { entry = e; notes = l; counted = counted_at (length h.entries) (Some (counted_by (length h.entries) cs)) } in logged h ++ item ∷ []) (none_at (length h.entries) (drop 1 h.notes) k.none)
     ∙ ap (λ (o : Option (List Count)). let item : Logged = record { entry = e; notes = []; counted = o } in logged h ++ item ∷ []) (count_here (length h.entries) cs)
 
 -- What no entry has is the same after such an entry.
@@ -328,7 +333,7 @@ placed_entered h e p = record {
   counted = from h.counted p.counted;
 }
   where
-    from : (counted : Option (ℕ × List Count)) → IsCountPlaced (length h.entries) counted → IsCountPlaced (length (h.entries ++ e ∷ [])) counted
+    from : (counted : Option Counted) → IsCountPlaced (length h.entries) counted → IsCountPlaced (length (h.entries ++ e ∷ [])) counted
     from None c = tt
     from (Some x) c = omega (arith, c, length_one h.entries e)
 
@@ -340,13 +345,13 @@ placed_linked h cs p = record { notes = p.notes; counted = omega arith }
 
 -- Where no note waits, the history is that of its items.
 
-items_later : (n k : ℕ) (notes : List Note) (counted : Option (ℕ × List Count)) (es : List Entry) → k ≤ n → items_from n (notes_from k notes) counted es ≡ items_from n notes counted es
+items_later : (n k : ℕ) (notes : List Note) (counted : Option Counted) (es : List Entry) → k ≤ n → items_from n (notes_from k notes) counted es ≡ items_from n notes counted es
 items_later n k notes counted [] less = refl
 items_later n k notes counted (e ∷ es) less =
     ap (λ (l : List Note). let item : Logged = record { entry = e; notes = l; counted = counted_at n counted } in item ∷ items_from (suc n) (notes_from k notes) counted es) (at_from k n notes less)
     ∙ ap (λ (l : List Logged). item_at n notes counted e ∷ l) (items_later (suc n) k notes counted es (omega arith))
 
-notes_items : (n most : ℕ) (notes : List Note) (counted : Option (ℕ × List Count)) (es : List Entry) → ArePlaced n most notes
+notes_items : (n most : ℕ) (notes : List Note) (counted : Option Counted) (es : List Entry) → ArePlaced n most notes
     → notes_of (items_from n notes counted es) ++ notes_from (n + length es) notes ≡ notes
 notes_items n most notes counted [] h = from_all (n + length {A = Entry} []) n most notes (omega arith) h
 notes_items n most notes counted (e ∷ es) h =
@@ -359,17 +364,17 @@ notes_items n most notes counted (e ∷ es) h =
     ∙ ap (λ (l : List Note). notes_at n notes ++ l) (notes_items (suc n) most rest counted es (placed_from (suc n) n most notes (omega arith) h))
     ∙ placed_split n most notes h
 
-count_items : (n : ℕ) (notes : List Note) (counted : Option (ℕ × List Count)) (es : List Entry)
-    → ((c : ℕ × List Count) → counted ≡ Some c → (n ≤ c.0) × (c.0 < n + length es)) → count_from n (items_from n notes counted es) ≡ counted
+count_items : (n : ℕ) (notes : List Note) (counted : Option Counted) (es : List Entry)
+    → ((c : Counted) → counted ≡ Some c → (n ≤ c.entries) × (c.entries < n + length es)) → count_from n (items_from n notes counted es) ≡ counted
 count_items n notes None [] within = refl
 count_items n notes (Some c) [] within = absurd (let b = within c refl in omega (arith, b.0, b.1))
 count_items n notes None (e ∷ es) within = count_items (suc n) notes None es (λ c is. absurd (none_some c is))
   where
-    none_some : (c : ℕ × List Count) → ◌≡◌ {A = Option (ℕ × List Count)} None (Some c) → ⊥
+    none_some : (c : Counted) → ◌≡◌ {A = Option Counted} None (Some c) → ⊥
     none_some c is = cc
-count_items n notes (Some c) (e ∷ es) within = from (c.0 == n) refl (λ apart. count_items (suc n) notes (Some c) es apart)
+count_items n notes (Some c) (e ∷ es) within = from (c.entries == n) refl (λ apart. count_items (suc n) notes (Some c) es apart)
   where
-    some_is : (a b : ℕ × List Count) → ◌≡◌ {A = Option (ℕ × List Count)} (Some a) (Some b) → a ≡ b
+    some_is : (a b : Counted) → ◌≡◌ {A = Option Counted} (Some a) (Some b) → a ≡ b
     some_is a b is = cc
 
     same : (a b : ℕ) → (a == b) ≡ true → b ≡ a
@@ -378,13 +383,13 @@ count_items n notes (Some c) (e ∷ es) within = from (c.0 == n) refl (λ apart.
     apart : (a b : ℕ) → (a == b) ≡ false → b ≤ a → suc b ≤ a
     apart a b is less = grind (arith, nat_tests)
 
-    from : (t : Bool) → (c.0 == n) ≡ t
-        → (((d : ℕ × List Count) → Some c ≡ Some d → (suc n ≤ d.0) × (d.0 < suc n + length es)) → count_from (suc n) (items_from (suc n) notes (Some c) es) ≡ Some c)
-        → placed_count n (cond t (Some c.1) None) (count_from (suc n) (items_from (suc n) notes (Some c) es)) ≡ Some c
-    from true is ih = ap (λ (m : ℕ). Some (m, c.1)) (same c.0 n is)
+    from : (t : Bool) → (c.entries == n) ≡ t
+        → (((d : Counted) → Some c ≡ Some d → (suc n ≤ d.entries) × (d.entries < suc n + length es)) → count_from (suc n) (items_from (suc n) notes (Some c) es) ≡ Some c)
+        → placed_count n (cond t (Some c.counts) None) (count_from (suc n) (items_from (suc n) notes (Some c) es)) ≡ Some c
+    from true is ih = ap (λ (m : ℕ). Some (counted_by m c.counts)) (same c.entries n is)
     from false is ih = ih (λ d is_c.
         let b = within c refl in
-        subst (λ (x : ℕ × List Count). (suc n ≤ x.0) × (x.0 < suc n + length es)) (some_is c d is_c) (apart c.0 n is b.0, omega (arith, b.1)))
+        subst (λ (x : Counted). (suc n ≤ x.entries) × (x.entries < suc n + length es)) (some_is c d is_c) (apart c.entries n is b.0, omega (arith, b.1)))
 
 pub rebuilt : (m : Note) (h : History) → IsSettled m h → IsPlaced h → history_of h.start m (logged h) ≡ h
 unfolding logged
@@ -399,17 +404,17 @@ rebuilt m h s p =
     (entries_items 0 (drop 1 h.notes) h.counted h.entries)
     ∙ ap (λ (ns : List Note). let x : History = record { start = h.start; entries = h.entries; notes = m ∷ ns; counted = count_from 0 (items_from 0 (drop 1 h.notes) h.counted h.entries) } in x) whole
     ∙ ap (λ (ns : List Note). let x : History = record { start = h.start; entries = h.entries; notes = ns; counted = count_from 0 (items_from 0 (drop 1 h.notes) h.counted h.entries) } in x) (sym k.first)
-    ∙ ap (λ (o : Option (ℕ × List Count)). let x : History = record { start = h.start; entries = h.entries; notes = h.notes; counted = o } in x)
+    ∙ ap (λ (o : Option Counted). let x : History = record { start = h.start; entries = h.entries; notes = h.notes; counted = o } in x)
     (count_items 0 (drop 1 h.notes) h.counted h.entries (λ c is. (omega arith, within c (sym (ap (counted_from (length h.entries)) is) ∙ k.counted))))
   where
     end : (n : ℕ) → 0 + n ≡ n
     end n = omega arith
 
-    within : (c : ℕ × List Count) → counted_from (length h.entries) (Some c) ≡ None → c.0 < 0 + length h.entries
-    within c none = from (nat_le (length h.entries) c.0) refl none
+    within : (c : Counted) → counted_from (length h.entries) (Some c) ≡ None → c.entries < 0 + length h.entries
+    within c none = from (nat_le (length h.entries) c.entries) refl none
       where
-        from : (b : Bool) → nat_le (length h.entries) c.0 ≡ b → cond b (Some c.1) None ≡ None → c.0 < 0 + length h.entries
-        from true is e = absurd (some_none c.1 e)
+        from : (b : Bool) → nat_le (length h.entries) c.entries ≡ b → cond b (Some c.counts) None ≡ None → c.entries < 0 + length h.entries
+        from true is e = absurd (some_none c.counts e)
           where
             some_none : (cs : List Count) → ◌≡◌ {A = Option (List Count)} (Some cs) None → ⊥
             some_none cs e = cc

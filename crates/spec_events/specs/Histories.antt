@@ -3,7 +3,8 @@ use Rattle.std.specs.Prelude.{◌≡◌, ℕ, true, List, [], ◌∷◌, ◌++�
 use Rattle.muck_model.specs.declared.event.Entry.{Entry}
 use Rattle.muck_model.specs.declared.event.Event.{Event}
 use Rattle.muck_model.specs.declared.note.Note.{Note}
-use Rattle.spec_events.specs.declared.logged.Count.{Count}
+use Rattle.muck_model.specs.declared.note.Count.{Count}
+use Rattle.muck_model.specs.declared.note.Counted.{Counted}
 use Rattle.spec_events.specs.World.{World}
 use Rattle.spec_events.specs.Steps.{Step, is_lawful, effect}
 use Rattle.spec_events.specs.Licences.{EventLicensed}
@@ -34,7 +35,7 @@ pub record History : Type 0 where
   pub start : World
   pub entries : List Entry
   pub notes : List Note
-  pub counted : Option (ℕ × List Count)
+  pub counted : Option Counted
 
 -- the world as it is now
 unfoldable pub now : History → World
@@ -50,7 +51,7 @@ noted h note = record h { notes = h.notes ++ note ∷ [] }
 
 -- and then the note of the links
 abbrev pub links_noted : History → List Count → History
-links_noted h counts = record h { counted = Some (length h.entries, counts) }
+links_noted h counts = record h { counted = Some (record { entries = length h.entries; counts = counts }) }
 
 -- k is the history h, and then these entries
 pub record Longer (h k : History) (es : List Entry) : Type 0 where

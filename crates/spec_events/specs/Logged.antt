@@ -5,7 +5,8 @@ use Rattle.muck_model.specs.declared.event.Entry.{Entry}
 use Rattle.muck_model.specs.declared.event.Event.{Event}
 use Rattle.muck_model.specs.declared.event.Event.TheVariants.{Cut, Stored, DumpFailed}
 use Rattle.muck_model.specs.declared.note.Note.{Note}
-use Rattle.spec_events.specs.declared.logged.Count.{Count}
+use Rattle.muck_model.specs.declared.note.Count.{Count}
+use Rattle.muck_model.specs.declared.note.Counted.{Counted}
 use Rattle.spec_events.specs.declared.logged.Logged.{Logged}
 use Rattle.spec_events.specs.World.{World}
 use Rattle.spec_events.specs.Histories.{History}
@@ -37,19 +38,19 @@ notes_at n notes = filter (λ (x : Note). x.entries == n) notes
 abbrev pub notes_from : ℕ → List Note → List Note
 notes_from n notes = filter (λ (x : Note). nat_le n x.entries) notes
 
-abbrev pub counted_at : ℕ → Option (ℕ × List Count) → Option (List Count)
-counted_at n (Some c) = if c.0 == n then Some c.1 else None
+abbrev pub counted_at : ℕ → Option Counted → Option (List Count)
+counted_at n (Some c) = if c.entries == n then Some c.counts else None
 counted_at n None = None
 
-abbrev pub counted_from : ℕ → Option (ℕ × List Count) → Option (List Count)
-counted_from n (Some c) = if nat_le n c.0 then Some c.1 else None
+abbrev pub counted_from : ℕ → Option Counted → Option (List Count)
+counted_from n (Some c) = if nat_le n c.entries then Some c.counts else None
 counted_from n None = None
 
 -- an entry behind so many others
-abbrev pub item_at : ℕ → List Note → Option (ℕ × List Count) → Entry → Logged
+abbrev pub item_at : ℕ → List Note → Option Counted → Entry → Logged
 item_at n notes counted e = record { entry = e; notes = notes_at n notes; counted = counted_at n counted }
 
-abbrev pub items_from : ℕ → List Note → Option (ℕ × List Count) → List Entry → List Logged
+abbrev pub items_from : ℕ → List Note → Option Counted → List Entry → List Logged
 items_from n notes counted [] = []
 items_from n notes counted (e ∷ es) = item_at n notes counted e ∷ items_from (suc n) notes counted es
 
@@ -110,11 +111,11 @@ NoCounts [] = Unit {0}
 NoCounts (l ∷ ls) = (l.counted ≡ None) × NoCounts ls
 
 -- the first note of the links, with its place behind so many entries
-abbrev pub placed_count : ℕ → Option (List Count) → Option (ℕ × List Count) → Option (ℕ × List Count)
-placed_count n (Some counts) later = Some (n, counts)
+abbrev pub placed_count : ℕ → Option (List Count) → Option Counted → Option Counted
+placed_count n (Some counts) later = Some (record { entries = n; counts = counts })
 placed_count n None later = later
 
-abbrev pub count_from : ℕ → List Logged → Option (ℕ × List Count)
+abbrev pub count_from : ℕ → List Logged → Option Counted
 count_from n [] = None
 count_from n (l ∷ ls) = placed_count n l.counted (count_from (suc n) ls)
 
@@ -127,9 +128,9 @@ abbrev pub ArePlaced : ℕ → ℕ → List Note → Type 0
 ArePlaced from most [] = Unit {0}
 ArePlaced from most (x ∷ xs) = (from ≤ x.entries) × (x.entries ≤ most) × ArePlaced x.entries most xs
 
-abbrev pub IsCountPlaced : ℕ → Option (ℕ × List Count) → Type 0
+abbrev pub IsCountPlaced : ℕ → Option Counted → Type 0
 IsCountPlaced most None = Unit {0}
-IsCountPlaced most (Some c) = c.0 ≤ most
+IsCountPlaced most (Some c) = c.entries ≤ most
 
 -- Each note has the place behind at most all entries, and none the place before an earlier one's.
 pub record IsPlaced (h : History) : Type 0 where

@@ -1,6 +1,6 @@
 -- What a party's own entries look like.
-use Rattle.std.specs.Prelude.{◌≡◌, ℕ, ℤ, true, ◌==◌, nat_lt, if◌then◌else◌, List, [], ◌∷◌, Option, Some, None, is_some}
-use Rattle.std.specs.Option.{option_and_then}
+use Rattle.std.specs.Prelude.{◌≡◌, ℕ, ℤ, Bool, true, false, ◌==◌, nat_lt, if◌then◌else◌, List, [], ◌∷◌, Option, Some, None, is_some}
+use Rattle.std.specs.Option.{option_and_then, option_map_or}
 use Rattle.std.specs.Ordering.{int_eq}
 use Rattle.muck_model.specs.declared.event.Event.{Event}
 use Rattle.muck_model.specs.declared.event.Event.TheVariants.{Opened, Input, Closed, Moment, Exec, Claim, Slice, Lost, Idle, Take, Cut, Stored, DumpFailed, Halt, StopSeen, Died}
@@ -109,3 +109,21 @@ stage_of party events = stage_from party (Some Stage.unbound) events
 -- A party's own entries have these events, as they may.
 abbrev pub IsWellFormed : ℕ → List Event → Type 0
 IsWellFormed party events = is_some (stage_of party events) ≡ true
+
+-- where nothing may follow but Died, or the last dump of the porter: it has seen the stop, that dump is made, or memory was wanted
+abbrev pub is_last : Stage → Bool
+is_last Stage.stopped = true
+is_last Stage.finished = true
+is_last Stage.ended = true
+is_last Stage.unbound = false
+is_last Stage.timed = false
+is_last (Stage.claimed pid) = false
+is_last (Stage.dumping k) = false
+
+-- what a party has done leaves nothing open: the last of it is StopSeen, what became of the last dump, or Died
+abbrev pub is_over : ℕ → List Event → Bool
+is_over party events = option_map_or is_last (stage_of party events) false
+
+-- A party that has returned did these, as it may: no claim is left that isn't sliced, and no dump that is neither stored nor failed.
+abbrev pub IsOver : ℕ → List Event → Type 0
+IsOver party events = is_over party events ≡ true

@@ -11,7 +11,7 @@ mod starting;
 mod texts;
 
 pub use agents::ends_what_runs_it;
-pub use logged::{Count, Logged};
+pub use logged::Logged;
 pub use rows::rows_hold;
 pub use starting::{Agent, Call, Manner};
 pub use texts::{dump_stored, error_text, flaw_text};

@@ -1,12 +1,6 @@
 // What stands in the history of a world that several parties share. No value of these types is ever made: contracts see them.
-use muck_model::{Entry, Note};
+use muck_model::{Count, Entry, Note};
 use std::collections::LinkedList;
-
-/// How many writes a link had refused when that was noted, by its number.
-pub struct Count {
-    pub number: u32,
-    pub refused: u64,
-}
 
 /// An entry with the notes that were made just before it: of the disks, and of the links.
 pub struct Logged {

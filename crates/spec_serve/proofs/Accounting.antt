@@ -1,6 +1,6 @@
 -- The account of one link, step by step.
 use Rattle.std.proofs.Common.{true≢false, ◌≡◌, ℕ, zero, suc, ◌<◌, ◌≤◌, true, List, [], ◌∷◌, ◌++◌, length, take, drop, refl, sym, ap, ◌∙◌, subst, append_assoc, arith, length-append, Option, None}
-use Rattle.std.specs.Prelude.{is_some}
+use Rattle.std.specs.Prelude.{is_some, is_none}
 use Rattle.std.proofs.lemmas.List.{append-nil}
 use Rattle.muck_io.specs.Faults.{one_more}
 use Rattle.muck_links.specs.inner.Cutting.{Cut, Rest, fresh, cut_lines, cut_rest, fed}
@@ -25,6 +25,7 @@ keeps_agrees counted p t s k =
       bytes = (p.unsent, k.bytes);
       lack = omega arith;
       closing = subst (λ (o : Option World). ClosedWell counted o t s) (sym k.not_closed) tt;
+      in_use = k.in_use ∙ sym (ap is_none k.not_closed);
     }
 
 -- a connection was opened, while there is no note
@@ -179,7 +180,7 @@ keeps_taken counted p t s bytes n none_kept le k = record {
 pub keeps_closed : (counted : LinksNote) (p : Peer) (t : Talk) (s : Session) (w : World) → Cause counted w t s → Keeps counted p t s → Agrees counted (ended_in w t) (shut s)
 keeps_closed counted p t s w cause k =
     let a = keeps_agrees counted p t s k in
-    record { number = a.number; lines = a.lines; bytes = a.bytes; lack = a.lack; closing = after_all cause }
+    record { number = a.number; lines = a.lines; bytes = a.bytes; lack = a.lack; closing = after_all cause; in_use = refl }
   where
     worked : WorkedOff counted w t s → WorkedOff counted w (ended_in w t) (shut s)
     worked (WorkedOff.done a b c) = WorkedOff.done a b c
@@ -209,4 +210,5 @@ agrees_read counted p t s bytes k =
       bytes = a.bytes;
       lack = a.lack;
       closing = subst (λ (o : Option World). ClosedWell counted o t (with_read bytes s)) (sym k.not_closed) tt;
+      in_use = a.in_use;
     }

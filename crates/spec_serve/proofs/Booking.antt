@@ -13,13 +13,14 @@ use Rattle.muck_links.specs.Sessions.{Session, Told, number_of, accepted, on_ses
 use Rattle.muck_links.proofs.Keys.{altered_same, told_same}
 use Rattle.spec_events.specs.World.{World}
 use Rattle.spec_talks.specs.Talks.{Talk, talk_of, begun, ended_in}
-use Rattle.spec_serve.specs.Marks.{LinksNote}
+use Rattle.spec_serve.specs.Marks.{LinksNote, AreCountsOf}
 use Rattle.spec_serve.specs.Accounts.{Agrees, Cause}
 use Rattle.spec_serve.specs.Promises.{Tally, HaltCause, HaltsCaused}
 use Rattle.spec_serve.specs.inner.Keeping.{Keeps, Peer, new_peer}
 use Rattle.spec_serve.specs.inner.Books.{with_told, Waits, Books}
 use Rattle.spec_serve.proofs.Keys.{latest_altered, latest_else, altered_front, latest_front, altered_behind, latest_behind, latest_head}
 use Rattle.spec_serve.proofs.Pairs.{all2_altered}
+use Rattle.spec_serve.proofs.Counted.{counts_came, counts_altered}
 use Rattle.spec_serve.proofs.Accounting.{keeps_agrees, keeps_new, keeps_closed}
 
 pub set_there : {A : Type 0} (xs : List A) (i : ℕ) (v w : A) → get_elem? xs i ≡ some v → get_elem? (set xs i w) i ≡ some w
@@ -46,10 +47,10 @@ through d g (Some c) extra mine before s waits away there =
 -- what one peer's step does to the books
 pub books_changed : (counted : LinksNote) (b : Tally) (ts : List Talk) (hs : List World) (k : Tally) (peers : List Peer) (coming : Option ℕ)
     (i d : ℕ) (p p' : Peer) (f : Talk → Talk) (g : Session → Session) → get_elem? peers i ≡ some p → p.number ≡ d → p'.number ≡ d
-    → ((t : Talk) → talk_of (f t) ≡ talk_of t) → ((s : Session) → number_of (g s) ≡ number_of s)
+    → ((t : Talk) → talk_of (f t) ≡ talk_of t) → ((s : Session) → number_of (g s) ≡ number_of s) → ((s : Session) → s.refused ≤ (g s).refused)
     → ((t : Talk) (s : Session) → latest talk_of d ts ≡ Some t → Keeps counted p t s → Keeps counted p' (f t) (g s))
     → Books counted b ts hs k peers coming → Books counted b (altered talk_of d f ts) hs (with_told (on_session d g k.told) k) (set peers i p') coming
-books_changed counted b ts hs k peers coming i d p p' f g at is is' tells links keeps bk =
+books_changed counted b ts hs k peers coming i d p p' f g at is is' tells links refuses keeps bk =
     let m = bk.kept i p at in
     let t = m.0 in
     let s = m.1 in
@@ -82,6 +83,7 @@ books_changed counted b ts hs k peers coming i d p p' f g at is is' tells links 
           (λ here. (i, p', set_there peers i p p' at, is' ∙ sym here))
           (λ other. let o = bk.known d' t' (sym (latest_else talk_of d d' f (λ e. other (sym e)) tells ts) ∙ l) live in
           (o.0, o.1, set_else peers i o.0 p' (λ e. other (sym o.3 ∙ ap (λ (y : Peer). y.number) (some-injective o.1 p (sym o.2 ∙ ap (λ (n : ℕ). get_elem? peers n) e ∙ at)) ∙ is)) ∙ o.2, o.3));
+      counts = counts_altered d g links refuses counted k.told.sessions bk.counts;
       halts = bk.halts;
     }
   where
@@ -97,12 +99,12 @@ books_changed counted b ts hs k peers coming i d p p' f g at is is' tells links 
 
 -- a call for one link
 pub books_linked : (counted : LinksNote) (b : Tally) (ts : List Talk) (hs : List World) (k : Tally) (peers : List Peer) (coming : Option ℕ)
-    (i : ℕ) (p p' : Peer) (g : Session → Session) → get_elem? peers i ≡ some p → p'.number ≡ p.number → ((s : Session) → number_of (g s) ≡ number_of s)
+    (i : ℕ) (p p' : Peer) (g : Session → Session) → get_elem? peers i ≡ some p → p'.number ≡ p.number → ((s : Session) → number_of (g s) ≡ number_of s) → ((s : Session) → s.refused ≤ (g s).refused)
     → ((t : Talk) (s : Session) → Keeps counted p t s → Keeps counted p' t (g s))
     → Books counted b ts hs k peers coming → Books counted b ts hs (with_told (on_session p.number g k.told) k) (set peers i p') coming
-books_linked counted b ts hs k peers coming i p p' g at same links keeps bk =
+books_linked counted b ts hs k peers coming i p p' g at same links refuses keeps bk =
     subst (λ (l : List Talk). Books counted b l hs (with_told (on_session p.number g k.told) k) (set peers i p') coming) (altered_same talk_of p.number (λ t. t) (λ t. refl) ts)
-    (books_changed counted b ts hs k peers coming i p.number p p' (λ t. t) g at refl same (λ t. refl) links (λ t s l x. keeps t s x) bk)
+    (books_changed counted b ts hs k peers coming i p.number p p' (λ t. t) g at refl same (λ t. refl) links refuses (λ t s l x. keeps t s x) bk)
 
 -- an entry for one connection
 pub books_talked : (counted : LinksNote) (b : Tally) (ts : List Talk) (hs : List World) (k : Tally) (peers : List Peer) (coming : Option ℕ)
@@ -111,7 +113,7 @@ pub books_talked : (counted : LinksNote) (b : Tally) (ts : List Talk) (hs : List
     → Books counted b ts hs k peers coming → Books counted b (altered talk_of p.number f ts) hs k (set peers i p') coming
 books_talked counted b ts hs k peers coming i p p' f at same talks keeps bk =
     subst (λ (x : Told). Books counted b (altered talk_of p.number f ts) hs (with_told x k) (set peers i p') coming) (sym (told_same p.number (λ s. s) (λ s. refl) k.told))
-    (books_changed counted b ts hs k peers coming i p.number p p' f (λ s. s) at refl same talks (λ s. refl) (λ t s l x. keeps t s x) bk)
+    (books_changed counted b ts hs k peers coming i p.number p p' f (λ s. s) at refl same talks (λ s. refl) (λ s. omega arith) (λ t s l x. keeps t s x) bk)
 
 -- as the call begins
 pub books_begin : (b : Tally) → Books None b [] [] b [] None
@@ -125,6 +127,7 @@ books_begin b = record {
   apart = λ i j p q at at' e. absurd (some-ne-none p (sym at));
   away = λ d e i p at. absurd (some-ne-none p (sym at));
   known = λ d t l live. absurd (none-some t l);
+  counts = tt;
   halts = λ i w at. absurd (some-ne-none w (sym at));
 }
 
@@ -154,6 +157,7 @@ books_still counted b ts hs k k' peers coming same more over bk = record {
   apart = bk.apart;
   away = bk.away;
   known = bk.known;
+  counts = subst (AreCountsOf counted) (sym same) bk.counts;
   halts = halts_later b k k' hs more over bk.halts;
 }
 
@@ -174,6 +178,7 @@ books_came counted b ts hs k k' peers d is unused more bk = record {
       ∙ ap is_open (sym (latest_front number_of d bk.mine b.told.sessions m.1 (subst (λ (n : ℕ). latest number_of n bk.mine ≡ Some m.1) (same ∙ sym (same_Some d c e)) m.3)))
       ∙ ap (λ (l : List Session). is_open (latest number_of d l)) (sym before) ∙ unused);
   known = bk.known;
+  counts = subst (AreCountsOf counted) (sym (ap (λ (x : Told). x.sessions) is)) (counts_came counted (accepted d) k.told.sessions bk.counts);
   halts = halts_later b k k' hs more (λ over. ap (λ (x : Told). x.over) is ∙ over) bk.halts;
 }
   where
@@ -211,6 +216,7 @@ books_opened b ts hs k peers d p is bk = record {
   known = λ d' t l live. dite (ℕ_discrete d d')
       (λ here. let last = at_end peers p in (last.0, p, last.1, ap (λ (z : Peer). z.number) is ∙ here))
       (λ other. let o = bk.known d' t (sym (latest_behind talk_of d' (begun d) ts other) ∙ l) live in (o.0, o.1, at_longer peers (p ∷ []) o.0 o.1 o.2, o.3));
+  counts = tt;
   halts = bk.halts;
 }
   where
@@ -278,6 +284,7 @@ books_closed counted b ts hs k peers peers' coming i d p w at is gone cause bk =
           let o = bk.known d' t' (sym (latest_else talk_of d d' (ended_in w) (λ e. other (sym e)) (λ x. refl) ts) ∙ l) live in
           let n = still_at peers i o.0 o.1 o.2 (λ e. other (sym o.3 ∙ ap (λ (y : Peer). y.number) (some-injective o.1 p (sym o.2 ∙ ap (λ (m : ℕ). get_elem? peers m) e ∙ at)) ∙ is)) in
           (n.0, o.1, ap (λ (l : List Peer). get_elem? l n.0) gone ∙ n.1, o.3));
+      counts = counts_altered d shut (λ x. refl) (λ x. omega arith) counted k.told.sessions bk.counts;
       halts = bk.halts;
     }
   where
@@ -316,5 +323,6 @@ books_halted counted b ts hs k peers coming w cause bk = record {
   apart = bk.apart;
   away = bk.away;
   known = bk.known;
+  counts = bk.counts;
   halts = λ i x at. ⊎_elim (λ (y : get_elem? hs i ≡ some x). bk.halts i x y) (λ (y : w ≡ x). subst (HaltCause b k) y cause) (at_snoc hs w x i at);
 }

@@ -1,6 +1,8 @@
 pub mod Keys
 pub mod Pairs
 pub mod Marks
+pub mod Counted
+pub mod Longer
 pub mod Accounting
 pub mod Causes
 pub mod Booking

@@ -6,7 +6,7 @@ use Rattle.muck_links.specs.Keyed.{latest}
 use Rattle.muck_links.specs.Sessions.{Session, number_of, accepted}
 use Rattle.spec_events.specs.World.{World}
 use Rattle.spec_talks.specs.Talks.{Talk}
-use Rattle.spec_events.specs.declared.logged.Count.{Count}
+use Rattle.muck_model.specs.declared.note.Count.{Count}
 use Rattle.spec_talks.specs.Counts.{counts}
 use Rattle.spec_serve.specs.Marks.{noted}
 use Rattle.spec_serve.specs.Accounts.{WorkedOff, Cause, ClosedWell, Agrees}
@@ -16,6 +16,7 @@ use Rattle.spec_serve.specs.inner.Books.{Waits, Books}
 use Rattle.spec_serve.proofs.Keys.{latest_front, latest_behind}
 use Rattle.spec_serve.proofs.Pairs.{all2_map}
 use Rattle.spec_serve.proofs.Marks.{noted_latest}
+use Rattle.spec_serve.proofs.Counted.{counts_made}
 
 -- Causes from before the note stay.
 
@@ -36,7 +37,7 @@ closed_noted cs None t s h = tt
 closed_noted cs (Some w) t s h = cause_noted cs w t s h
 
 pub agrees_noted : (cs : List Count) (t : Talk) (s : Session) → Agrees None t s → Agrees (Some cs) t s
-agrees_noted cs t s a = record { number = a.number; lines = a.lines; bytes = a.bytes; lack = a.lack; closing = closed_noted cs t.closed t s a.closing }
+agrees_noted cs t s a = record { number = a.number; lines = a.lines; bytes = a.bytes; lack = a.lack; closing = closed_noted cs t.closed t s a.closing; in_use = a.in_use }
 
 -- an open link's count is noted, and it has refused no write since
 keeps_noted : (cs : List Count) (p : Peer) (t : Talk) (s : Session) → noted s.number (Some cs) ≡ Some s.refused → Keeps None p t s → Keeps (Some cs) p t s
@@ -89,5 +90,6 @@ books_noted b ts hs k peers coming bk = record {
   apart = bk.apart;
   away = bk.away;
   known = bk.known;
+  counts = counts_made k.told.sessions;
   halts = bk.halts;
 }

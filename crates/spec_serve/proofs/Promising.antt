@@ -1,5 +1,5 @@
 -- From the books to what is promised.
-use Rattle.std.proofs.Common.{◌≡◌, ℕ, List, [], ◌++◌, refl, sym, ap, ◌∙◌, subst, inl, inr, Option, Some, None}
+use Rattle.std.proofs.Common.{◌≡◌, ℕ, ◌≤◌, List, [], ◌++◌, refl, sym, ap, ◌∙◌, subst, inl, inr, Option, Some, None}
 use Rattle.std.proofs.lemmas.Option.{same_Some}
 use Rattle.std.specs.Prelude.{slice_get}
 use Rattle.std.specs.Option.{option_map_or}
@@ -24,6 +24,7 @@ use Rattle.spec_serve.specs.inner.Keeping.{Keeps, Peer}
 use Rattle.spec_serve.specs.inner.Books.{with_told, Waits, Books, AllWorkedOff}
 use Rattle.spec_serve.proofs.Pairs.{all2_altered, by_number}
 use Rattle.spec_serve.proofs.Booking.{same_number, through}
+use Rattle.spec_serve.proofs.Counted.{counts_altered}
 use Rattle.spec_serve.proofs.Noting.{latest_ours}
 
 at_most_one : (coming : Option ℕ) (extra : List Session) → Waits coming extra → AtMostOne extra
@@ -34,13 +35,14 @@ at_most_one (Some d) extra waits = inr (accepted d, waits, refl, refl)
 pub books_promised : (counted : LinksNote) (b : Tally) (ts : List Talk) (hs : List World) (k : Tally) (peers : List Peer) (coming : Option ℕ)
     → Books counted b ts hs k peers coming → Promised counted b ts hs k
 books_promised counted b ts hs k peers coming bk =
-    record { mine = bk.mine; extra = bk.extra; whole = bk.whole; single = at_most_one coming bk.extra bk.waits; agree = bk.agree; halts = bk.halts }
+    record { mine = bk.mine; extra = bk.extra; whole = bk.whole; single = at_most_one coming bk.extra bk.waits; agree = bk.agree; counts = bk.counts; halts = bk.halts }
 
 -- A call for one link after which nothing more is kept of it, as where memory was wanted: what is promised stands.
 pub books_lost : (counted : LinksNote) (b : Tally) (ts : List Talk) (hs : List World) (k : Tally) (peers : List Peer) (coming : Option ℕ)
-    (i : ℕ) (p : Peer) (g : Session → Session) → get_elem? peers i ≡ some p → ((t : Talk) (s : Session) → Keeps counted p t s → Agrees counted t (g s))
+    (i : ℕ) (p : Peer) (g : Session → Session) → get_elem? peers i ≡ some p → ((s : Session) → number_of (g s) ≡ number_of s) → ((s : Session) → s.refused ≤ (g s).refused)
+    → ((t : Talk) (s : Session) → Keeps counted p t s → Agrees counted t (g s))
     → Books counted b ts hs k peers coming → Promised counted b ts hs (with_told (on_session p.number g k.told) k)
-books_lost counted b ts hs k peers coming i p g at agrees bk =
+books_lost counted b ts hs k peers coming i p g at links refuses agrees bk =
     let m = bk.kept i p at in
     record {
       mine = altered number_of p.number g bk.mine;
@@ -50,6 +52,7 @@ books_lost counted b ts hs k peers coming i p g at agrees bk =
       single = at_most_one coming bk.extra bk.waits;
       agree = subst (λ (l : List Talk). All2 (Agrees counted) l (altered number_of p.number g bk.mine)) (altered_same talk_of p.number (λ t. t) (λ t. refl) ts)
           (all2_altered talk_of number_of (Agrees counted) (same_number counted) p.number (λ t. t) g ts bk.mine m.0 m.1 bk.agree m.2 m.3 (agrees m.0 m.1 m.4));
+      counts = counts_altered p.number g links refuses counted k.told.sessions bk.counts;
       halts = bk.halts;
     }
 

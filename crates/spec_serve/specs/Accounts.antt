@@ -1,5 +1,5 @@
 -- The account of one link: what it carried against what the history says of its connection.
-use Rattle.std.specs.Prelude.{◌≡◌, ℕ, true, false, ◌+◌, ◌<◌, ◌≤◌, ◌⊎◌, not, ◌&&◌, List, [], length, Option, Some, None}
+use Rattle.std.specs.Prelude.{◌≡◌, ℕ, true, false, ◌+◌, ◌<◌, ◌≤◌, ◌⊎◌, not, ◌&&◌, List, [], length, Option, Some, None, is_none}
 use Rattle.turn_lock.specs.Histories.{StartsWith}
 use Rattle.muck_links.specs.Lines.{lines}
 use Rattle.muck_links.specs.Sessions.{Session}
@@ -37,11 +37,12 @@ ClosedWell counted None t s = Unit {0}
 ClosedWell counted (Some w) t s = Cause counted w t s
 
 -- What is promised of an acceptance and of the connection that it became: the lines that were entered are a front of those of
--- the bytes read; the bytes written are a front of those taken, and lack at most as many as were taken last; and where it was
--- closed, it was so for a cause.
+-- the bytes read; the bytes written are a front of those taken, and lack at most as many as were taken last; where it was
+-- closed, it was so for a cause; and its link is in use just as long as it isn't closed.
 pub record Agrees (counted : LinksNote) (t : Talk) (s : Session) : Type 0 where
   pub number : t.number ≡ s.number
   pub lines : StartsWith (lines s.read) t.entered
   pub bytes : StartsWith t.sent s.written
   pub lack : length t.sent ≤ length s.written + t.last
   pub closing : ClosedWell counted t.closed t s
+  pub in_use : s.in_use ≡ is_none t.closed

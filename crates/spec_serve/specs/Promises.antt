@@ -10,7 +10,7 @@ use Rattle.spec_events.specs.World.{World, connection}
 use Rattle.spec_talks.specs.Parties.{worlds_at, is_halt}
 use Rattle.spec_talks.specs.Talks.{Talk, talk_of, talks}
 use Rattle.spec_serve.specs.Pairs.{All2}
-use Rattle.spec_serve.specs.Marks.{LinksNote}
+use Rattle.spec_serve.specs.Marks.{LinksNote, AreCountsOf}
 use Rattle.spec_serve.specs.Accounts.{Agrees, WorkedOff}
 
 -- what the links tell, with the count of faults in listening
@@ -30,13 +30,14 @@ abbrev pub AtMostOne : List Session → Type 0
 AtMostOne extra = (extra ≡ []) ⊎ ((s : Session) × (extra ≡ s ∷ []) × (s.read ≡ []) × (s.written ≡ []))
 
 -- What is promised of all links at any time, also where memory was wanted: each acceptance of the call agrees with the opening
--- of the same place.
+-- of the same place, and the note of the links has its counts of the first acceptances.
 pub record Promised (counted : LinksNote) (b : Tally) (ts : List Talk) (hs : List World) (k : Tally) : Type 0 where
   pub mine : List Session
   pub extra : List Session
   pub whole : k.told.sessions ≡ extra ++ (mine ++ b.told.sessions)
   pub single : AtMostOne extra
   pub agree : All2 (Agrees counted) ts mine
+  pub counts : AreCountsOf counted k.told.sessions
   pub halts : HaltsCaused b hs k
 
 -- the same of a history that begins in a world

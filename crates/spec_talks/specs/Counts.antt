@@ -1,7 +1,7 @@
 -- What the note of the links says of links.
 use Rattle.std.specs.Prelude.{ℕ, List, map}
 use Rattle.muck_links.specs.Sessions.{Session}
-use Rattle.spec_events.specs.declared.logged.Count.{Count}
+use Rattle.muck_model.specs.declared.note.Count.{Count}
 
 abbrev pub count_of : Count → ℕ
 count_of c = c.number

@@ -24,6 +24,7 @@ fresh_begun began log note h is = record {
   counted = ap (λ (x : History). x.counted) is;
   nobody = ap (λ (x : History). x.start.live.board.connections) is;
   idle = ap (λ (x : History). x.start.dumps.running) is;
+  going = ap (λ (x : History). x.start.stopping) is;
 }
 
 -- the log stands on the disks from which it was mounted

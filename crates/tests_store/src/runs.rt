@@ -1,6 +1,6 @@
 // Runs that change nothing.
 use crate::run_once;
-use muck_disk::{FailDisk, MemDisk};
+use muck_disk::{Disk, FailDisk, MemDisk};
 use muck_log::{Log, LogFault};
 use muck_model::NoMemory;
 use std::alloc::Global;
@@ -58,6 +58,23 @@ fn two_runs_byte_for_byte(rt: HostRuntime) -> Result<(), Fail> {
     assert_eq!(rt; run_once(alloc, &mut first, &mut second, MOST)?, 2);
     assert_eq!(rt; first.bytes().len(), 133);
     assert!(rt; all_load(alloc, &first)?);
+    Ok(())
+}
+
+// What a crash leaves of a write that wasn't synced: the torn byte where it went, and of what is past the old end as many bytes as are kept.
+#[test]
+fn images_of_a_torn_write(rt: HostRuntime) -> Result<(), Fail> {
+    let alloc = rt.alloc();
+    let mut disk = MemDisk::new(alloc, &[1, 2])?;
+    assert!(rt; disk.write_at(1, &[7, 8, 9]).is_ok());
+    assert!(rt; disk.image(0, 0, 5)?.as_slice() == [1u8, 2].as_slice());
+    let written = disk.moment();
+    assert!(rt; disk.image(written, 0, 5)?.as_slice() == [1u8, 5].as_slice());
+    assert!(rt; disk.image(written, 1, 5)?.as_slice() == [1u8, 5, 5].as_slice());
+    assert!(rt; disk.image(written, 9, 6)?.as_slice() == [1u8, 6, 6, 6].as_slice());
+    assert!(rt; disk.sync().is_ok());
+    let synced = disk.moment();
+    assert!(rt; disk.image(synced, 0, 5)?.as_slice() == [1u8, 7, 8, 9].as_slice());
     Ok(())
 }
 

@@ -90,7 +90,7 @@ impl<T: Story> Turn<T> {
             if table.shared.load::<Look<T>>(seat, 1) == ticket {
                 return;
             }
-            rest.rest();
+            rest.pause();
         }
         unreachable!()
     }
@@ -109,7 +109,7 @@ impl<T: Story> Turn<T> {
             if table.shared.load::<Look<T>>(seat, 1) >= MOST {
                 return;
             }
-            rest.rest();
+            rest.pause();
         }
         unreachable!()
     }

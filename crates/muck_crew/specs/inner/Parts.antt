@@ -1,20 +1,20 @@
 -- The seats of a server as they are given out and taken in, and what its parts are given and leave.
-use Rattle.std.specs.Prelude.{◌≡◌, ◌⊎◌, ℕ, zero, suc, ◌<◌, Bool, true, List, [], ◌∷◌, length, slice_get, slice_index_or, Option, Some}
+use Rattle.std.specs.Prelude.{◌≡◌, ◌⊎◌, ℕ, zero, suc, ◌<◌, Bool, true, List, [], ◌∷◌, length, slice_get, slice_index_or, Some}
 use Rattle.atomic_table.specs.Seated.{TableId}
-use Rattle.muck_log.specs.Store.{LogState}
 use Rattle.turn_lock.specs.inner.Turns.{left_after, newcomer, taken_in}
 use Rattle.turn_lock.specs.declared.view.Place.TheVariants.{Idle, Told}
 use Rattle.muck_worker.specs.inner.Working.{WorkerReady, WorkerDone}
-use Rattle.muck_dumping.specs.inner.Between.{IsReady as HasLog, GoesByMarks}
+use Rattle.muck_dumping.specs.declared.store.Store.{Store}
+use Rattle.muck_dumping.specs.inner.Between.{IsReady as HasLog, Knows}
 use Rattle.muck_dumper.specs.inner.Dumping.{history_seen, DumperReady}
 use Rattle.muck_machine.specs.inner.Seats.{Sight, Chair}
 use Rattle.muck_crew.specs.declared.seats.Part.{Part}
 
 -- The seat of the dumper may begin, with the store and the disks.
-pub record IsAble {D : Type 0} (tells : Bool) (seen : D → List ℕ) (moment : D → ℕ) (images : D → ℕ → List ℕ → Type 0) (faults : D → ℕ) (log : Option LogState) (by_marks : Bool) (first second : D) (me : Chair) : Type 0 where
+pub record IsAble {D : Type 0} (tells : Bool) (seen : D → List ℕ) (moment : D → ℕ) (images : D → ℕ → List ℕ → Type 0) (faults : D → ℕ) (store : Store) (first second : D) (me : Chair) : Type 0 where
   pub ready : DumperReady me
-  pub marks : GoesByMarks by_marks log (history_seen me.0)
-  pub mounted : tells ≡ true → (mounted : ℕ) × HasLog seen moment images faults log first second mounted (history_seen me.0)
+  pub knows : Knows store (history_seen me.0)
+  pub mounted : tells ≡ true → (mounted : ℕ) × HasLog seen moment images faults store.log first second mounted (history_seen me.0)
 
 -- Seats as they are given out.
 

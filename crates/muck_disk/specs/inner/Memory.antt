@@ -3,11 +3,23 @@ use Rattle.std.specs.Prelude.{◌≡◌, ℕ, ◌+◌, ◌-◌, ◌≤◌, List,
 use Rattle.std.proofs.Common.{sym, ◌∙◌, ap, subst, arith, length-append, length-take, length-drop}
 use Rattle.std.proofs.lemmas.List.{take_all, take_at, drop_at, append_assoc}
 use Rattle.std.proofs.lemmas.Bool.{and_parts, leb-true}
-use Rattle.muck_disk.specs.Images.{written, Torn}
+use Rattle.muck_disk.specs.Images.{written, Torn, Elapses}
 use Rattle.muck_disk.specs.inner.Replay.{seen_after, left_after, is_within, all_within, left_at}
 use Rattle.muck_disk.specs.declared.memory.Call.{Call}
 use Rattle.muck_disk.specs.declared.memory.Call.TheVariants.{Asked, Wrote, Synced}
 use Rattle.muck_disk.specs.declared.memory.MemDisk.{MemDisk}
+
+-- what a crash may leave now
+abbrev pub left_of : MemDisk → List ℕ → Type 0
+left_of d = left_at d.first.items d.calls.items (length d.calls.items)
+
+-- all that the step may make of what could be left is left
+abbrev pub Leaves : (List ℕ → Type 0) → (List ℕ → Type 0) → (List ℕ → List ℕ → Type 0) → Type 0
+Leaves past images step = (c d : List ℕ) → past c → step c d → images d
+
+-- time passes from a disk to what it is later
+abbrev pub Passes : MemDisk → MemDisk → (List ℕ → List ℕ → Type 0) → Type 0
+Passes old now step = Elapses (length old.calls.items) (length now.calls.items) (left_at old.first.items old.calls.items) (left_at now.first.items now.calls.items) step
 
 -- what a whole write leaves is what a crash in it may leave
 pub Torn-written : (at : ℕ) (bytes old : List ℕ) → at ≤ length old → Torn at (length bytes) old (written old at bytes)

@@ -3,7 +3,6 @@ use Rattle.std.specs.Prelude.{◌≡◌, ℕ, ◌≤◌, ◌^◌, Bool, true, Li
 use Rattle.turn_lock.specs.Histories.{StartsWith, own_of}
 use Rattle.muck_model.specs.declared.event.Event.{Event}
 use Rattle.muck_model.specs.declared.event.Event.TheVariants.{StopSeen, Died}
-use Rattle.muck_log.specs.Store.{LogState}
 use Rattle.spec_events.specs.declared.logged.Logged.{Logged}
 use Rattle.spec_events.specs.World.{starting}
 use Rattle.spec_events.specs.Histories.{History, now}
@@ -13,7 +12,8 @@ use Rattle.spec_dumps.specs.Survival.{IsSafe}
 use Rattle.muck_machine.specs.declared.beginning.Beginning.{Beginning}
 use Rattle.muck_machine.specs.inner.Seats.{Sight, Chair, AllOrderly, Rests, Left, SameLists}
 use Rattle.muck_dumping.specs.inner.Dumps.{by}
-use Rattle.muck_dumping.specs.inner.Between.{IsReady, GoesByMarks}
+use Rattle.muck_dumping.specs.declared.store.Store.{Store}
+use Rattle.muck_dumping.specs.inner.Between.{IsReady, Knows}
 use Rattle.muck_dumper.specs.declared.dumping.Why.{Why}
 use Rattle.muck_dumper.specs.declared.dumping.Why.TheVariants.{Fine, NoMemory, Spent}
 
@@ -42,9 +42,9 @@ pub record DumperReady (me : Chair) : Type 0 where
   pub idle : (now (history_seen me.0)).dumps.running ≡ None
 
 -- What the dumper did, by its answer: its items are well formed; and of the history as its seat knows it, with the notes that it made, it has
--- kept all that is said of dumps, their marks too. It knows which items of what it has seen were others', up to its last turn. Where it was stopped no dump runs, and
+-- kept all that is said of dumps, and what the store knows of them. It knows which items of what it has seen were others', up to its last turn. Where it was stopped no dump runs, and
 -- whoever has the world may make the last one.
-pub record DumperDone {D : Type 0} (tells : Bool) (seen : D → List ℕ) (moment : D → ℕ) (images : D → ℕ → List ℕ → Type 0) (faults : D → ℕ) (why : Why) (log log' : Option LogState) (marks' : Bool) (first second first' second' : D) (me me' : Chair) : Type 0 where
+pub record DumperDone {D : Type 0} (tells : Bool) (seen : D → List ℕ) (moment : D → ℕ) (images : D → ℕ → List ℕ → Type 0) (faults : D → ℕ) (why : Why) (store store' : Store) (first second first' second' : D) (me me' : Chair) : Type 0 where
   pub left : Left 9 me'
   pub lists : SameLists me.0 me'.0
   pub sight : StartsWith me'.0.seen me.0.seen
@@ -55,11 +55,11 @@ pub record DumperDone {D : Type 0} (tells : Bool) (seen : D → List ℕ) (momen
   pub spent : why ≡ Spent → 2 ^ 62 ≤ length me'.0.seen
   pub known : List Logged
   pub knows : IsKnown known me'.0
-  pub safe : (mounted : ℕ) → tells ≡ true → IsReady seen moment images faults log first second mounted (history_seen me.0)
-      → IsSafe moment images first' second' (history_from me'.0.root known).start mounted (history_from me'.0.root known).entries (history_from me'.0.root known).notes
-  pub ready : why ≡ Fine → (mounted : ℕ) → tells ≡ true → IsReady seen moment images faults log first second mounted (history_seen me.0)
-      → IsReady seen moment images faults log' first' second' mounted (history_from me'.0.root known)
-  pub marks : why ≡ Fine → GoesByMarks marks' log' (history_from me'.0.root known)
+  pub safe : (mounted : ℕ) → tells ≡ true → IsReady seen moment images faults store.log first second mounted (history_seen me.0)
+      → IsSafe moment images faults first' second' (history_from me'.0.root known).start mounted (history_from me'.0.root known).entries (history_from me'.0.root known).notes
+  pub ready : why ≡ Fine → (mounted : ℕ) → tells ≡ true → IsReady seen moment images faults store.log first second mounted (history_seen me.0)
+      → IsReady seen moment images faults store'.log first' second' mounted (history_from me'.0.root known)
+  pub stands : why ≡ Fine → Knows store' (history_from me'.0.root known)
   pub idle : why ≡ Fine → (now (history_from me'.0.root known)).dumps.running ≡ None
   pub first_later : faults first ≤ faults first'
   pub second_later : faults second ≤ faults second'

@@ -1,7 +1,6 @@
 -- What is kept between the parts of a dump. Each of it stays where the history goes on with entries that are none of a dump.
-use Rattle.std.specs.Prelude.{◌≡◌, ℕ, suc, ◌+◌, ◌<◌, List, [], All, length, slice_get, Option, Some, None, Result, Ok, Err, Bool, true, false}
+use Rattle.std.specs.Prelude.{◌≡◌, ℕ, List, [], All, length, Option, Some, None, Result, Ok, Err, Bool, true, false}
 use Rattle.std.specs.Option.{option_map_or}
-use Rattle.muck_model.specs.declared.note.Note.{Note}
 use Rattle.muck_model.specs.declared.tune.Tune.{Tune}
 use Rattle.muck_codec.specs.declared.stored.Stored.{Stored}
 use Rattle.muck_codec.specs.inner.Stored.{IsStored}
@@ -18,9 +17,10 @@ use Rattle.muck_log.specs.declared.fault.LogFault.{LogFault}
 use Rattle.muck_log.specs.declared.fault.LogFault.TheVariants.{NoMemory, DiskFault, Damaged, StoreFull, Stale}
 use Rattle.spec_events.specs.World.{World}
 use Rattle.spec_events.specs.Histories.{History}
-use Rattle.spec_dumps.specs.Fronts.{IsFront, at_cut, last_cut, number_at, dump_payload, log_of, file_most}
-use Rattle.spec_dumps.specs.inner.Holding.{IsCounted, Keeps, Rests, IsDumped, Fails}
+use Rattle.spec_dumps.specs.Fronts.{at_cut, last_cut, number_at, dump_payload, log_of, file_most}
+use Rattle.spec_dumps.specs.inner.Holding.{Keeps, Rests, FailedLast, IsDumped, RisesInDump, OverflowsAtCut}
 use Rattle.muck_dumping.specs.declared.parts.Pending.{Pending}
+use Rattle.muck_dumping.specs.declared.store.Store.{Store}
 use Rattle.muck_dumping.specs.inner.Dumps.{HasRisen}
 
 -- From one dump to the next: where no log is mounted, a count of faults rose since the last note, for which it couldn't be.
@@ -60,28 +60,36 @@ HoldsThese marks log objects = marks ≡ true → (x : LogState) → log ≡ Som
 abbrev pub GoesByMarks : Bool → Option LogState → History → Type 0
 GoesByMarks marks log h = HoldsThese marks log (at_cut h.start h.entries).live.objects
 
+-- The number of the next dump: one more than that of the store on which the log stands, or the one that is kept where none is mounted.
+abbrev pub next_number : Store → ℕ
+next_number store = option_map_or (λ (log : LogState). after_number log.chosen.held.number) store.log store.number
+
+-- What a store knows of the history, from one dump to the next: what goes by marks, and, where no log is mounted, which number the dump had that failed last.
+pub record Knows (store : Store) (h : History) : Type 0 where
+  pub marks : GoesByMarks store.marks store.log h
+  pub number : store.log ≡ None → FailedLast store.number h
+
 -- A dump is pending: its Cut is the last one, with the last note; the disks are as they stood then; and its batch is that of the world at
 -- its Cut. Where no log is mounted it is to fail.
 pub record IsPending {D : Type 0} (seen : D → List ℕ) (moment : D → ℕ) (images : D → ℕ → List ℕ → Type 0) (faults : D → ℕ) (log : Option LogState) (first second : D) (mounted : ℕ) (h : History) (p : Pending) : Type 0 where
   pub rests : Rests seen moment images faults log first second mounted h
   pub number : (x : LogState) → log ≡ Some x → number_at mounted h.entries (last_cut h.entries) ≡ after_number x.chosen.held.number
   pub batch : IsBatchAtCut (base_in log) h p
-  pub counted : (n : ℕ) (before : Note) → suc (suc n) ≡ length h.notes → slice_get h.notes n ≡ Some before → IsCounted faults first second before
-  pub fails : log ≡ None → Fails mounted h (faults first) (faults second)
+  pub fails : log ≡ None → RisesInDump faults first second h
 
--- the batch of the world at the last Cut is too large for its file, on the store after a front of the history
-abbrev pub IsFullAtCut : ℕ → History → ℕ → ℕ → Type 0
-IsFullAtCut mounted h end more = (n : ℕ) × (store : Chosen) × (length h.notes ≡ suc n) × IsFront h.start mounted h.entries h.notes n store
-    × (end ≡ (target store).place) × (more ≡ more_of (log_of store) (dump_payload store (at_cut h.start h.entries))) × (file_most < end + more)
+-- the batch of the world at the last Cut is too large for its file, on the store that both disks hold
+abbrev pub IsFullAtCut : {D : Type 0} → (D → ℕ) → (D → ℕ → List ℕ → Type 0) → D → D → ℕ → History → ℕ → ℕ → Type 0
+IsFullAtCut moment images first second mounted h end more = (store : Chosen) × OverflowsAtCut moment images first second mounted h store
+    × (end ≡ (target store).place) × (more ≡ more_of (log_of store) (dump_payload store (at_cut h.start h.entries)))
 
 -- what is left of the log, by what it answered to the batch
 abbrev pub IsLeft : {D : Type 0} → (D → List ℕ) → (D → ℕ) → (D → ℕ → List ℕ → Type 0) → (D → ℕ) → Option LogState → D → D → ℕ → History → Result (Unit {0}) LogFault → Type 0
 IsLeft seen moment images faults log first second mounted h (Ok x) =
-    (next : LogState) × (log ≡ Some next) × IsMounted seen moment images next first second × (next.most ≡ file_most) × IsDumped mounted h next.chosen
+    (next : LogState) × (log ≡ Some next) × IsMounted seen moment images next first second × (next.most ≡ file_most) × IsDumped images first second mounted h next.chosen
 IsLeft seen moment images faults log first second mounted h (Err NoMemory) = log ≡ None
-IsLeft seen moment images faults log first second mounted h (Err DiskFault) = (log ≡ None) × Fails mounted h (faults first) (faults second)
-IsLeft seen moment images faults log first second mounted h (Err Stale) = (log ≡ None) × Fails mounted h (faults first) (faults second)
-IsLeft seen moment images faults log first second mounted h (Err (StoreFull end more)) = (log ≡ None) × IsFullAtCut mounted h end more
+IsLeft seen moment images faults log first second mounted h (Err DiskFault) = (log ≡ None) × RisesInDump faults first second h
+IsLeft seen moment images faults log first second mounted h (Err Stale) = (log ≡ None) × RisesInDump faults first second h
+IsLeft seen moment images faults log first second mounted h (Err (StoreFull end more)) = (log ≡ None) × IsFullAtCut moment images first second mounted h end more
 IsLeft seen moment images faults log first second mounted h (Err (Damaged on place)) = ⊥
 
 -- The batch of the dump whose Cut is the last one was handed to the log: what is kept of the disks, whatever came of it.

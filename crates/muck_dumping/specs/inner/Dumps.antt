@@ -1,19 +1,19 @@
 -- What a dump comes to.
-use Rattle.std.specs.Prelude.{◌≡◌, ◌⊎◌, ℕ, suc, ◌+◌, ◌<◌, List, length, slice_get, Bool, Option, Some, None, Result, Ok, Err, OnOk, IfOk, if◌then◌else◌}
+use Rattle.std.specs.Prelude.{◌≡◌, ◌⊎◌, ℕ, suc, ◌+◌, ◌<◌, ◌≤◌, List, length, slice_get, Bool, Option, Some, None, Result, Ok, Err, OnOk, IfOk, if◌then◌else◌}
 use Rattle.muck_io.specs.Faults.{Rose}
 use Rattle.muck_model.specs.declared.event.Event.{Event}
 use Rattle.muck_model.specs.declared.event.Event.TheVariants.{Cut, Stored, DumpFailed as Failed, Died}
 use Rattle.muck_model.specs.declared.event.Entry.{Entry}
 use Rattle.muck_model.specs.declared.note.Note.{Note}
 use Rattle.muck_log.specs.World.{World as Kept, laid}
-use Rattle.muck_log.specs.Store.{Chosen, LogState, LeavesBoth, IsMounted, target, after_batch}
+use Rattle.muck_log.specs.Store.{Chosen, LogState, LeavesBoth, IsMounted, target, after_batch, stored}
 use Rattle.muck_log.specs.Append.{IsNext, LoadsEither, more_of}
 use Rattle.muck_log.specs.declared.fault.LogFault.{LogFault}
 use Rattle.muck_log.specs.declared.fault.LogFault.TheVariants.{NoMemory, DiskFault, StoreFull}
 use Rattle.spec_events.specs.Histories.{History, after, entered, noted}
 use Rattle.spec_dumps.specs.Fronts.{IsFront, dump_payload, log_of, file_most}
 use Rattle.spec_dumps.specs.inner.Holding.{Rests}
-use Rattle.spec_dumps.specs.Survival.{IsSafe, StandsWhole}
+use Rattle.spec_dumps.specs.Survival.{IsSafe, RoseInLast, StandsWhole}
 
 -- the note of both disks as they are behind the history
 abbrev pub note_of : {D : Type 0} → (D → ℕ) → (D → ℕ) → D → D → History → Note
@@ -41,7 +41,9 @@ IsMountingFault fault = ⊥
 abbrev pub IsAnswer : {D : Type 0} → (D → List ℕ) → (D → ℕ) → (D → ℕ → List ℕ → Type 0) → List ℕ → Kept → LogState → Option LogState → D → D → Result (Unit {0}) LogFault → Type 0
 IsAnswer seen moment images payload made log left first second (Ok x) =
     (next : LogState) × (left ≡ Some next) × IsNext log next payload × IsMounted seen moment images next first second × (laid payload (target log.chosen).held.world ≡ Some made)
+    × ((target log.chosen).place + more_of log payload ≤ log.most)
 IsAnswer seen moment images payload made log left first second (Err (StoreFull end more)) = (left ≡ None) × (end ≡ (target log.chosen).place) × (more ≡ more_of log payload) × (log.most < end + more)
+    × IsMounted seen moment images log first second
 IsAnswer seen moment images payload made log left first second (Err DiskFault) = left ≡ None
 IsAnswer seen moment images payload made log left first second (Err NoMemory) = left ≡ None
 IsAnswer seen moment images payload made log left first second (Err fault) = ⊥
@@ -58,18 +60,24 @@ IsDumpFault (Some DiskFault) = Unit {0}
 IsDumpFault (Some (StoreFull end more)) = Unit {0}
 IsDumpFault (Some fault) = ⊥
 
--- the batch that is too large is one of the world as it is now, on the store after a front of its history
-abbrev pub IsFull : ℕ → History → ℕ → ℕ → Type 0
-IsFull mounted h end more = (n : ℕ) × (store : Chosen) × IsFront h.start mounted h.entries h.notes n store
-    × (end ≡ (target store).place) × (more ≡ more_of (log_of store) (dump_payload store (after h.start h.entries))) × (file_most < end + more)
+-- The batch that is too large is one of the world as it is now, on the store that the disks hold, which is one after a front of its history.
+pub record IsFull {D : Type 0} (seen : D → List ℕ) (first second : D) (mounted : ℕ) (h : History) (end more : ℕ) : Type 0 where
+  pub n : ℕ
+  pub store : Chosen
+  pub shown : stored (seen first) (seen second) ≡ Ok store
+  pub front : IsFront h.start mounted h.entries h.notes n store
+  pub place : end ≡ (target store).place
+  pub size : more ≡ more_of (log_of store) (dump_payload store (after h.start h.entries))
+  pub over : file_most < end + more
 
 -- What is kept of both disks behind a dump that was made at once, by its answer.
 pub record Dumps {D E : Type 0} (seen : D → List ℕ) (moment : D → ℕ) (images : D → ℕ → List ℕ → Type 0) (faults : D → ℕ) (log : Option LogState) (first second : D) (mounted : ℕ) (h : History) (r : Result (Option LogFault) E) : Type 0 where
-  pub safe : IsSafe moment images first second h.start mounted h.entries h.notes
+  pub safe : IsSafe moment images faults first second h.start mounted h.entries h.notes
   pub rests : OnOk r (Rests seen moment images faults log first second mounted h)
   pub whole : IfOk r (λ o. o ≡ None → StandsWhole moment images first second h.start h.entries)
-  pub full : IfOk r (λ o. (end more : ℕ) → o ≡ Some (StoreFull end more) → IsFull mounted h end more)
+  pub full : IfOk r (λ o. (end more : ℕ) → o ≡ Some (StoreFull end more) → IsFull seen first second mounted h end more)
   pub fault : IfOk r IsDumpFault
+  pub rose : IfOk r (λ o. o ≡ Some DiskFault → RoseInLast h.notes)
 
 -- Memory was wanted: before a dump, for its batch, for the log, or for telling how it came out.
 pub data Dies (party : ℕ) (h k : History) : Type 0 where

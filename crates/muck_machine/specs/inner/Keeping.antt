@@ -1,12 +1,13 @@
 -- What a world keeps of its history.
-use Rattle.std.specs.Prelude.{◌≡◌, ℕ, true, false, List, length, Option, Some, Result, Ok, Err}
-use Rattle.atomic_table.specs.Table.{Me, Step}
+use Rattle.std.specs.Prelude.{◌≡◌, ℕ, true, false, List, None, Result, Ok, Err}
 use Rattle.muck_model.specs.declared.event.Entry.{Entry}
 use Rattle.muck_model.specs.declared.event.Event.TheVariants.{Died}
 use Rattle.muck_model.specs.declared.memory.NoMemory.{NoMemory}
 use Rattle.muck_model.specs.declared.note.Note.{Note}
-use Rattle.muck_model.specs.Told.{with_entry, with_note}
-use Rattle.spec_events.specs.declared.logged.Count.{Count}
+use Rattle.muck_model.specs.Told.{with_entry, with_note, with_counts}
+use Rattle.muck_model.specs.declared.note.Count.{Count}
+use Rattle.spec_live.specs.Objects.{Entry as Kept, mark_in}
+use Rattle.muck_queue.specs.inner.Numbered.{IsNumbered}
 use Rattle.spec_events.specs.World.{World}
 use Rattle.spec_events.specs.Histories.{History, after, AllLawful}
 use Rattle.spec_events.specs.Logged.{IsPlaced}
@@ -14,14 +15,15 @@ use Rattle.spec_events.specs.inner.Sound.{IsSound}
 use Rattle.muck_machine.specs.declared.past.Past.{Past}
 
 abbrev pub history : Past → History
-history p = record { start = p.origin; entries = p.tale.entries; notes = p.tale.notes; counted = p.counting }
+history p = record { start = p.origin; entries = p.tale.entries; notes = p.tale.notes; counted = p.tale.counted }
 
--- the view of the seat that keeps the note of the links is that note after a step
-abbrev pub Counts : ℕ × List Count → Step ℕ → Me ℕ (Option (ℕ × List Count)) → ℕ → Me ℕ (Option (ℕ × List Count)) → Type 0
-Counts counted s v found w = (w.0 ≡ Some counted) × (w.1 ≡ v.1)
+-- of none of these objects anything is to be told to what runs it
+abbrev pub AreTold : List Kept → Type 0
+AreTold es = (n : ℕ) → mark_in es n ≡ None
 
 -- The tale may grow, each entry of it is lawful where it stands, and each note has its place. The world after it is dead or not as is kept, and as
--- long as it isn't it is sound, and it is the state that is kept.
+-- long as it isn't it is sound, and it is the state that is kept. It began with objects of which nothing was to be told, and with processes whose
+-- numbers rise.
 pub record Keeps (p : Past) (state : World) : Type 0 where
   pub grows : p.tale.open_ended ≡ true
   pub lawful : AllLawful p.origin p.tale.entries
@@ -29,6 +31,8 @@ pub record Keeps (p : Past) (state : World) : Type 0 where
   pub dies : (after p.origin p.tale.entries).dead ≡ p.dead
   pub sound : p.dead ≡ false → IsSound (after p.origin p.tale.entries)
   pub lives : p.dead ≡ false → state ≡ after p.origin p.tale.entries
+  pub told : AreTold p.origin.live.objects
+  pub numbered : IsNumbered p.origin.queue
 
 -- longer by an entry
 abbrev pub told : Entry → Past → Past
@@ -40,7 +44,7 @@ remarked note p = record p { tale = with_note note p.tale }
 
 -- longer by the note of the links
 abbrev pub counted_at_end : List Count → Past → Past
-counted_at_end counts p = record p { counting = Some (length p.tale.entries, counts) }
+counted_at_end counts p = record p { tale = with_counts counts p.tale }
 
 -- and by memory that a party wanted
 abbrev pub lost : ℕ → Past → Past

@@ -3,6 +3,8 @@ use Rattle.std.specs.Prelude.{◌≡◌, Bool, true, ◌≤◌, ◌^◌, ◌⊎�
 use Rattle.muck_io.specs.Faults.{Rose}
 use Rattle.muck_model.specs.declared.note.Note.{Note}
 use Rattle.spec_events.specs.World.{World}
+use Rattle.spec_events.specs.Logged.{events_of}
+use Rattle.spec_events.specs.Own.{IsOver}
 use Rattle.muck_machine.specs.inner.Beginnings.{begun}
 use Rattle.muck_machine.specs.inner.Seats.{Chair, Rests, SameLists}
 use Rattle.muck_porter.specs.declared.porting.Why.{Why}
@@ -27,7 +29,7 @@ pub record PorterDone (why : Why) (tells : Bool) (b k : Account) (me me' : Chair
   pub over : Over me'
   -- at each return what is promised of the links holds, where they tell what they carried
   pub kept : tells ≡ true → KeptBy b.links me'.0 k.links
-  -- each moment is the clock's, wherever the clock tells
+  -- each moment is the clock's, wherever the clock tells, and the note of the links stands where it has to
   pub timed : TimedBy b.answers k.answers me'.0
   -- the porter asks the links to listen on no port
   pub ports : tells ≡ true → k.links.told.ports ≡ b.links.told.ports
@@ -37,5 +39,7 @@ pub record PorterDone (why : Why) (tells : Bool) (b k : Account) (me me' : Chair
   -- a fault in listening was counted
   pub fault : why ≡ ListenFault → Rose b.links.listening k.links.listening
   pub later : b.links.listening ≤ k.links.listening
+  -- but where all turns were had, its own entries are over
+  pub ended : ¬ (why ≡ Spent) → IsOver 0 (events_of me'.0.own)
   -- all turns were had
   pub spent : why ≡ Spent → 2 ^ 62 ≤ length me'.0.seen

@@ -3,6 +3,8 @@ use Rattle.std.specs.Prelude.{◌≡◌, ℕ, Bool, true, false, ◌≤◌, ◌<
 use mathlib.Core.Option.{some}
 use lib.ListN.{get_elem?}
 use Rattle.muck_links.specs.Sessions.{Told, on_session, shut}
+use Rattle.spec_events.specs.Logged.{events_of}
+use Rattle.spec_events.specs.Own.{IsOver}
 use Rattle.spec_serve.specs.Marks.{LinksNote}
 use Rattle.spec_serve.specs.Promises.{Tally}
 use Rattle.spec_serve.specs.inner.Keeping.{Peer}
@@ -15,10 +17,10 @@ use Rattle.muck_porter.specs.declared.rounds.Round.TheVariants.{Busy, Idle, Left
 use Rattle.muck_porter.specs.inner.Kept.{Ready, ReadyTimed, BooksAt, KeptBy, Stopped, EndsWithStop}
 use Rattle.muck_porter.specs.inner.Moves.{Carries, CarriesOn}
 
--- only where all turns were had
-abbrev pub IsSpent : Fault → Sight → Type 0
-IsSpent Spent v = 2 ^ 62 ≤ length v.seen
-IsSpent NoMemory v = Unit {0}
+-- the porter ends early: only where all turns were had; or where memory was wanted, and then its own entries are over
+abbrev pub EndsEarly : Fault → Sight → Type 0
+EndsEarly Spent v = 2 ^ 62 ≤ length v.seen
+EndsEarly NoMemory v = IsOver 0 (events_of v.own)
 
 -- one link was served, or none wants anything: then a moment was entered
 abbrev pub IsServed : Option ℕ → Bool → Chair → Type 0

@@ -14,15 +14,15 @@ use Rattle.spec_serve.specs.Marks.{LinksNote}
 use Rattle.muck_machine.specs.inner.Beginnings.{beginning, begun}
 use Rattle.muck_machine.specs.inner.Seats.{Sight, Chair, AllOrderly, Waited, SameLists}
 
--- The note of the links is made in a hold, where the world is stopping and there is none yet, or not.
+-- The note of the links is made in a hold, where the world is stopping, memory wasn't wanted, and there is none yet; or not.
 pub data Marked (noted noted' : Bool) (k : Told) (w : World) (counted : LinksNote) : Type 0 where
   kept : noted' ≡ noted → counted ≡ None → (noted ≡ false → w.dead ≡ false → w.stopping ≡ false) → Marked noted noted' k w counted
-  made : noted ≡ false → noted' ≡ true → w.stopping ≡ true → counted ≡ Some (counts k.sessions) → Marked noted noted' k w counted
+  made : noted ≡ false → noted' ≡ true → w.stopping ≡ true → w.dead ≡ false → counted ≡ Some (counts k.sessions) → Marked noted noted' k w counted
 
 -- the same of the history that the porter was given
 pub data MarkedIn (noted noted' : Bool) (k : Told) (h h' : History) : Type 0 where
   kept : noted' ≡ noted → h' ≡ h → (noted ≡ false → (now h).dead ≡ false → (now h).stopping ≡ false) → MarkedIn noted noted' k h h'
-  made : noted ≡ false → noted' ≡ true → (now h).stopping ≡ true → h.counted ≡ None → h' ≡ links_noted h (counts k.sessions) → MarkedIn noted noted' k h h'
+  made : noted ≡ false → noted' ≡ true → (now h).stopping ≡ true → (now h).dead ≡ false → h.counted ≡ None → h' ≡ links_noted h (counts k.sessions) → MarkedIn noted noted' k h h'
 
 -- What the porter knows once it has the turn: the history that it was given, which is what its seat has seen, and that it is lawful.
 pub record Given (noted noted' : Bool) (k : Told) (me me' : Chair) (h' : History) : Type 0 where

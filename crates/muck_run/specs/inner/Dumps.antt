@@ -16,7 +16,7 @@ pub use Rattle.muck_dumping.specs.inner.Dumps.{note_of, ending_event, IsDumpFaul
 
 -- What is kept of both disks behind a part of a run, by its answer.
 pub record Held {D T : Type 0} (seen : D → List ℕ) (moment : D → ℕ) (images : D → ℕ → List ℕ → Type 0) (faults : D → ℕ) (log : Option LogState) (first second : D) (mounted : ℕ) (h : History) (r : Result T RunFault) : Type 0 where
-  pub safe : IsSafe moment images first second h.start mounted h.entries h.notes
+  pub safe : IsSafe moment images faults first second h.start mounted h.entries h.notes
   pub rests : (r ≡ Err OutOfMemory → ⊥) → Rests seen moment images faults log first second mounted h
 
 -- A dump was made, or memory was wanted for it.

@@ -10,7 +10,7 @@ use Rattle.muck_log.specs.World.{World as Kept, tune_fits}
 use Rattle.muck_log.specs.Store.{LogState, stored}
 use Rattle.muck_log.specs.declared.fault.LogFault.{LogFault}
 use Rattle.muck_log.specs.declared.fault.LogFault.TheVariants.{NoMemory as LogMemory, DiskFault as LogDisk, Damaged as LogDamaged, StoreFull as LogFull, Stale}
-use Rattle.spec_dumps.specs.Survival.{IsSafe, StandsWhole}
+use Rattle.spec_dumps.specs.Survival.{IsSafe, StandsWhole, RoseInLast}
 use Rattle.spec_events.specs.World.{World, booted}
 use Rattle.muck_model.specs.declared.event.Event.TheVariants.{Died}
 use Rattle.spec_events.specs.Histories.{History, Longer, noted, by_porter, AllLawful}
@@ -80,23 +80,30 @@ booted_at began kept = booted (loaded kept.objects) kept.tune began began
 abbrev pub booted_from : Kept → World
 booted_from kept = booted_at 0 kept
 
--- the first note is that of these disks
-pub record IsNotedAt {D : Type 0} (moment : D → ℕ) (first second : D) (notes : List Note) : Type 0 where
+-- a note is that of these disks
+pub record IsNoteOf {D : Type 0} (moment : D → ℕ) (faults : D → ℕ) (first second : D) (note : Note) : Type 0 where
+  pub first_moment : note.first_moment ≡ moment first
+  pub second_moment : note.second_moment ≡ moment second
+  pub first_faults : note.first_faults ≡ faults first
+  pub second_faults : note.second_faults ≡ faults second
+
+-- and it is the first one
+pub record IsNotedAt {D : Type 0} (moment : D → ℕ) (faults : D → ℕ) (first second : D) (notes : List Note) : Type 0 where
   pub note : Note
   pub others : List Note
   pub noted : notes ≡ note ∷ others
-  pub first_moment : note.first_moment ≡ moment first
-  pub second_moment : note.second_moment ≡ moment second
+  pub is : IsNoteOf moment faults first second note
 
 -- A run on the log that was mounted.
-pub record HasPlayed {K D : Type 0} (written : K → Option (List ℕ)) (breaks : K → ℕ) (tells : Bool) (moment : D → ℕ) (images : D → ℕ → List ℕ → Type 0) (log : LogState) (why : Why) (acts : List Act)
+pub record HasPlayed {K D : Type 0} (written : K → Option (List ℕ)) (breaks : K → ℕ) (tells : Bool) (seen : D → List ℕ) (moment : D → ℕ) (images : D → ℕ → List ℕ → Type 0) (faults : D → ℕ) (log : LogState) (why : Why) (acts : List Act)
     (k l : K) (first second first' second' : D) (tale : List Entry) (notes : List Note) : Type 0 where
   pub lawful : AllLawful (booted_from log.chosen.held.world) tale
   pub run : HasRun written breaks (booted_from log.chosen.held.world) why acts k l tale
-  pub noted : IsNotedAt moment first second notes
-  pub safe : tells ≡ true → IsSafe moment images first' second' (booted_from log.chosen.held.world) log.chosen.held.number tale notes
+  pub noted : IsNotedAt moment faults first second notes
+  pub safe : tells ≡ true → IsSafe moment images faults first' second' (booted_from log.chosen.held.world) log.chosen.held.number tale notes
   pub whole : tells ≡ true → why ≡ Fine → StandsWhole moment images first' second' (booted_from log.chosen.held.world) tale
-  pub full : (end more : ℕ) → tells ≡ true → why ≡ StoreFull end more → IsTooLarge (booted_from log.chosen.held.world) log.chosen.held.number tale notes end more
+  pub full : (end more : ℕ) → tells ≡ true → why ≡ StoreFull end more → IsTooLarge seen first' second' (booted_from log.chosen.held.world) log.chosen.held.number tale notes end more
+  pub failed : tells ≡ true → why ≡ DiskFault → RoseInLast notes
 
 -- memory was wanted before it began
 pub record NeverPlayed {K D : Type 0} (why : Why) (k l : K) (first second first' second' : D) (tale : List Entry) : Type 0 where
@@ -135,10 +142,11 @@ ComesOutAs h k NoMemory = Unit {0}
 ComesOutAs h k why = (n : ℕ) × Longer h k (dump_entries (failed n))
 
 -- What is kept of both disks behind the last dump.
-pub record LastKept {D : Type 0} (moment : D → ℕ) (images : D → ℕ → List ℕ → Type 0) (first second : D) (mounted : ℕ) (h : History) (why : Why) : Type 0 where
-  pub safe : IsSafe moment images first second h.start mounted h.entries h.notes
+pub record LastKept {D : Type 0} (seen : D → List ℕ) (moment : D → ℕ) (images : D → ℕ → List ℕ → Type 0) (faults : D → ℕ) (first second : D) (mounted : ℕ) (h : History) (why : Why) : Type 0 where
+  pub safe : IsSafe moment images faults first second h.start mounted h.entries h.notes
   pub whole : why ≡ Fine → StandsWhole moment images first second h.start h.entries
-  pub full : (end more : ℕ) → why ≡ StoreFull end more → IsFull mounted h end more
+  pub full : (end more : ℕ) → why ≡ StoreFull end more → IsFull seen first second mounted h end more
+  pub failed : why ≡ DiskFault → RoseInLast h.notes
 
 -- why a last dump lets a run end that was played whole
 abbrev pub MayEndDump : Bool → Why → Type 0

@@ -62,3 +62,9 @@ argued_of (Some doing) a items w = doing.argued a items w
 abbrev pub does_of : Option Doing → Actor → List Datum → Live → Row
 does_of None a items w = refuses NotCompiled
 does_of (Some doing) a items w = doing.does a items w
+
+-- This stands where a primitive was used and where it was refused. After want of memory nothing is said.
+abbrev pub OnAnswer : {X : Type 0} → Result X PrimFault → Type 0 → Type 0
+OnAnswer (Ok x) stands = stands
+OnAnswer (Err (Fault f)) stands = stands
+OnAnswer (Err NoMemory) stands = Unit {0}

@@ -1,7 +1,8 @@
 -- What whoever makes the dumps keeps of the disks, the log and the history from one dump to the next.
-use Rattle.std.specs.Prelude.{◌≡◌, ◌⊎◌, ℕ, suc, ◌≤◌, false, List, length, slice_get, Option, Some, None}
+use Rattle.std.specs.Prelude.{◌≡◌, ◌⊎◌, ℕ, suc, false, List, length, slice_get, Option, Some, None}
 use Rattle.std.specs.List.{list_any}
 use Rattle.muck_model.specs.declared.event.Entry.{Entry}
+use Rattle.muck_model.specs.declared.event.Event.TheVariants.{DumpFailed}
 use Rattle.muck_model.specs.declared.note.Note.{Note}
 use Rattle.muck_io.specs.Faults.{Rose}
 use Rattle.spec_live.specs.Consistent.{IsConsistent}
@@ -9,8 +10,8 @@ use Rattle.muck_log.specs.Store.{Chosen, LogState, IsMounted}
 use Rattle.spec_events.specs.World.{World}
 use Rattle.spec_events.specs.Histories.{History, Grew}
 use Rattle.spec_events.specs.Logged.{is_dump}
-use Rattle.spec_dumps.specs.Fronts.{last_cut, at_cut, number_at, IsFront, Overflows, dumped_on, file_most}
-use Rattle.spec_dumps.specs.Survival.{IsSafe}
+use Rattle.spec_dumps.specs.Fronts.{event_at, last_cut, at_cut, number_at, IsFront, Fits, Overflows, dumped_on, file_most}
+use Rattle.spec_dumps.specs.Survival.{HoldsAt, HoldsBy, IsSafe}
 
 -- k is the history h and then entries that are none of a dump, without a note
 pub record Quietly (h k : History) : Type 0 where
@@ -28,9 +29,9 @@ IsUsable seen moment images (Some log) first second w mounted h notes n =
 abbrev pub IsAt : {D : Type 0} → (D → ℕ) → D → D → Note → Type 0
 IsAt moment first second note = (note.first_moment ≡ moment first) × (note.second_moment ≡ moment second)
 
--- and that note counts no more faults than the disks do
+-- and it counts the faults of the disks
 abbrev pub IsCounted : {D : Type 0} → (D → ℕ) → D → D → Note → Type 0
-IsCounted faults first second note = (note.first_faults ≤ faults first) × (note.second_faults ≤ faults second)
+IsCounted faults first second note = (note.first_faults ≡ faults first) × (note.second_faults ≡ faults second)
 
 -- From one dump to the next: what is kept of the disks, and what the log stands on, if one is mounted.
 pub record Keeps {D : Type 0} (seen : D → List ℕ) (moment : D → ℕ) (images : D → ℕ → List ℕ → Type 0) (faults : D → ℕ) (log : Option LogState) (first second : D) (mounted : ℕ) (h : History) : Type 0 where
@@ -38,30 +39,52 @@ pub record Keeps {D : Type 0} (seen : D → List ℕ) (moment : D → ℕ) (imag
   pub note : Note
   pub is : slice_get h.notes last ≡ Some note
   pub end : length h.notes ≡ suc last
-  pub safe : IsSafe moment images first second h.start mounted h.entries h.notes
+  pub safe : IsSafe moment images faults first second h.start mounted h.entries h.notes
   pub usable : IsUsable seen moment images log first second h.start mounted h.entries h.notes last
-  pub counted : IsCounted faults first second note
 
 -- and nothing moved the disks since the last note
 pub record Rests {D : Type 0} (seen : D → List ℕ) (moment : D → ℕ) (images : D → ℕ → List ℕ → Type 0) (faults : D → ℕ) (log : Option LogState) (first second : D) (mounted : ℕ) (h : History) : Type 0 where
   pub keeps : Keeps seen moment images faults log first second mounted h
   pub rests : IsAt moment first second keeps.note
 
--- Between the Cut of a dump and its end, where other entries may stand.
-
--- The store x is one after a front of the history with one dump more, that of the last Cut, whose number it has.
-pub record IsDumped (mounted : ℕ) (h : History) (x : Chosen) : Type 0 where
+-- the dump k failed, with the last note
+pub record FailedLast (k : ℕ) (h : History) : Type 0 where
   pub last : ℕ
+  pub note : Note
+  pub is : slice_get h.notes last ≡ Some note
+  pub end : length h.notes ≡ suc last
+  pub event : event_at h.entries note.entries ≡ Some (DumpFailed k)
+
+-- Between the Cut of a dump and its end, where other entries may stand. The last note is that of the Cut.
+
+-- The store x is the one that both disks held at that note, which is one after a front of the history, with one dump more: that of the last Cut, whose
+-- number it has, and which fits.
+pub record IsDumped {D : Type 0} (images : D → ℕ → List ℕ → Type 0) (first second : D) (mounted : ℕ) (h : History) (x : Chosen) : Type 0 where
+  pub last : ℕ
+  pub note : Note
+  pub there : slice_get h.notes last ≡ Some note
   pub end : length h.notes ≡ suc last
   pub before : Chosen
+  pub held : HoldsBy images first second note before
   pub front : IsFront h.start mounted h.entries h.notes last before
+  pub fits : Fits before (at_cut h.start h.entries)
   pub is : x ≡ dumped_on before (at_cut h.start h.entries)
   pub number : number_at mounted h.entries (last_cut h.entries) ≡ x.held.number
   pub consistent : IsConsistent (at_cut h.start h.entries).live.objects
 
--- Why the dump fails whose Cut has the last note, where the disks count so many faults: one of both counts rose since the note before that
--- one, or its batch would pass the most bytes of a file.
-abbrev pub Fails : ℕ → History → ℕ → ℕ → Type 0
-Fails mounted h first_faults second_faults = (n : ℕ) (before : Note) → suc (suc n) ≡ length h.notes → slice_get h.notes n ≡ Some before →
-    (Rose before.first_faults first_faults ⊎ Rose before.second_faults second_faults)
-    ⊎ ((x : Chosen) × IsFront h.start mounted h.entries h.notes (suc n) x × Overflows x (at_cut h.start h.entries))
+-- the count of faults of a disk rose since the note before that one
+abbrev pub RisesInDump : {D : Type 0} → (D → ℕ) → D → D → History → Type 0
+RisesInDump faults first second h = (n : ℕ) (before : Note) → suc (suc n) ≡ length h.notes → slice_get h.notes n ≡ Some before →
+    Rose before.first_faults (faults first) ⊎ Rose before.second_faults (faults second)
+
+-- its batch would pass the most bytes of a file, in the store x that both disks hold
+pub record OverflowsAtCut {D : Type 0} (moment : D → ℕ) (images : D → ℕ → List ℕ → Type 0) (first second : D) (mounted : ℕ) (h : History) (x : Chosen) : Type 0 where
+  pub last : ℕ
+  pub end : length h.notes ≡ suc last
+  pub held : HoldsAt images first second (moment first) (moment second) x
+  pub front : IsFront h.start mounted h.entries h.notes last x
+  pub over : Overflows x (at_cut h.start h.entries)
+
+-- why the dump fails
+abbrev pub Fails : {D : Type 0} → (D → ℕ) → (D → ℕ → List ℕ → Type 0) → (D → ℕ) → D → D → ℕ → History → Type 0
+Fails moment images faults first second mounted h = RisesInDump faults first second h ⊎ ((x : Chosen) × OverflowsAtCut moment images first second mounted h x)

@@ -4,7 +4,7 @@ use Rattle.muck_model.specs.declared.event.Event.TheVariants.{Opened, Input, Clo
 use Rattle.spec_events.specs.World.{booted, starting}
 use Rattle.spec_events.specs.Steps.{is_lawful, effect}
 use Rattle.spec_events.specs.Histories.{by_porter}
-use Rattle.spec_events.specs.Own.{stage_of, IsWellFormed}
+use Rattle.spec_events.specs.Own.{stage_of, IsWellFormed, is_over, IsOver}
 
 unfoldable pub OwnRows : Type 0
 OwnRows =
@@ -34,6 +34,16 @@ OwnRows =
     × (is_some (stage_of 3 (Died ∷ Died ∷ [])) ≡ false)
     × (is_some (stage_of 3 (Died ∷ Idle ∷ [])) ≡ false)
     × (is_some (stage_of 10 (Idle ∷ [])) ≡ false)
+    -- over is what ends with the stop, with what became of the last dump, or with Died; and no open claim or dump is
+    × IsOver 0 (Halt ∷ StopSeen ∷ Cut 1 ∷ DumpFailed 1 ∷ [])
+    × IsOver 3 (Claim (pos 1) ∷ Died ∷ [])
+    × IsOver 9 (Idle ∷ StopSeen ∷ [])
+    × (is_over 3 (Claim (pos 1) ∷ []) ≡ false)
+    × (is_over 3 (Claim (pos 1) ∷ Slice (pos 1) ∷ []) ≡ false)
+    × (is_over 9 (Cut 1 ∷ []) ≡ false)
+    × (is_over 9 (Cut 1 ∷ Stored 1 ∷ []) ≡ false)
+    × (is_over 0 (StopSeen ∷ Cut 1 ∷ []) ≡ false)
+    × (is_over 0 (Moment 1 ∷ []) ≡ false)
     -- any party sees the stop once the world is stopping
     × (is_lawful starting (record { party = 3; event = StopSeen }) ≡ false)
     × (is_lawful (effect starting (by_porter Halt)) (record { party = 3; event = StopSeen }) ≡ true)
@@ -41,4 +51,4 @@ OwnRows =
 
 pub own_rows : OwnRows
 unfolding OwnRows stage_of booted starting is_lawful effect
-own_rows = (refl, refl, refl, refl, refl, refl, refl, refl, refl, refl, refl, refl, refl, refl, refl, refl, refl, refl, refl, refl, refl, refl, refl, refl, refl)
+own_rows = (refl, refl, refl, refl, refl, refl, refl, refl, refl, refl, refl, refl, refl, refl, refl, refl, refl, refl, refl, refl, refl, refl, refl, refl, refl, refl, refl, refl, refl, refl, refl, refl, refl, refl)

@@ -9,7 +9,7 @@ use Rattle.spec_events.specs.World.{World}
 use Rattle.spec_talks.specs.Parties.{worlds_at, is_halt}
 use Rattle.spec_talks.specs.Talks.{Talk, talk_of, talks}
 use Rattle.spec_serve.specs.Pairs.{All2}
-use Rattle.spec_serve.specs.Marks.{LinksNote}
+use Rattle.spec_serve.specs.Marks.{LinksNote, AreCountsOf}
 use Rattle.spec_serve.specs.Accounts.{Agrees, WorkedOff}
 use Rattle.spec_serve.specs.Promises.{Tally, HaltsCaused}
 use Rattle.spec_serve.specs.inner.Keeping.{Peer, Keeps}
@@ -35,6 +35,7 @@ pub record Books (counted : LinksNote) (b : Tally) (ts : List Talk) (hs : List W
   pub apart : (i j : ℕ) (p q : Peer) → get_elem? peers i ≡ some p → get_elem? peers j ≡ some q → p.number ≡ q.number → i ≡ j
   pub away : (d : ℕ) → coming ≡ Some d → (i : ℕ) (p : Peer) → get_elem? peers i ≡ some p → ¬ (p.number ≡ d)
   pub known : (d : ℕ) (t : Talk) → latest talk_of d ts ≡ Some t → t.closed ≡ None → (i : ℕ) × (p : Peer) × (get_elem? peers i ≡ some p) × (p.number ≡ d)
+  pub counts : AreCountsOf counted k.told.sessions
   pub halts : HaltsCaused b hs k
 
 -- the same of a history that begins in a world

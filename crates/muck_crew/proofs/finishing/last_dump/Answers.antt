@@ -5,8 +5,8 @@ use Rattle.muck_crew.proofs.finishing.last_dump.Goals as goal
 pub dump-answer-requires-clause-may : goal.dump-answer-requires-clause-may
 dump-answer-requires-clause-may g c = may_last (now c.args.world.now) c.requires.idle
 
-pub returns : goal.returns
-returns g c = record {
+pub returns-clause-dump : goal.returns-clause-dump
+returns-clause-dump g c = record {
   answer = c.dump-answer.result;
   log' = c.dump-answer.new.store.log;
   made = c.dump-answer.ensures.happened;

@@ -9,7 +9,7 @@ use Rattle.muck_crew.specs.inner.Parts.{all_in}
 use Rattle.muck_crew.specs.inner.Runs.{IsEndOf}
 use Rattle.muck_crew.proofs.Seating.{given_low, given_count, given_place}
 use Rattle.muck_crew.proofs.Closing.{Begins, fresh_logged, ready_porter, ready_dumper, ready_parts}
-use Rattle.muck_crew.proofs.Ending.{Shut, over_done, all_taken, last_place, goes, has_run}
+use Rattle.muck_crew.proofs.Ending.{Shut, over_done, all_taken, last_place, stands, has_run}
 use Rattle.muck_crew.proofs.serving.run.Goals as goal
 
 -- the first seat, as the lock gives it
@@ -47,8 +47,8 @@ all_beside-porter-requires-clause-dumper g c κs within =
     let v = c.in_ok-turn.seat.me in
     let en = c.in_ok-turn.ensures in
     ready_dumper c.requires.fresh.0 c.args.world c.requires.fresh.1 v (begins v c.args.world en.party.0 en.party.1 en.seat.2 en.history.0 en.history.1 en.history.2 en.alone.0 en.alone.1) c.args.workers
-    g.D.Disk.tells g.D.Disk.seen g.D.Disk.moment g.D.Disk.images g.D.Disk.faults c.args.store.now.log c.args.store.now.marks c.args.first.now c.args.second.now
-    c.split-other.result.me (c.split-other.ensures.second ∙ ap (λ (m : Chair). (newcomer 9 m.0, [])) c.deal.ensures.first) c.requires.marks c.requires.mounted
+    g.D.Disk.tells g.D.Disk.seen g.D.Disk.moment g.D.Disk.images g.D.Disk.faults c.args.store.now c.args.first.now c.args.second.now
+    c.split-other.result.me (c.split-other.ensures.second ∙ ap (λ (m : Chair). (newcomer 9 m.0, [])) c.deal.ensures.first) c.requires.knows c.requires.mounted
 
 pub all_beside-porter-requires-clause-workers : goal.all_beside-porter-requires-clause-workers
 all_beside-porter-requires-clause-workers g c κs within =
@@ -78,8 +78,8 @@ close-world-requires-clause-all g c =
     (c.split-other.ensures.first ∙ ap (λ (m : Chair). (left_after 9 m.0, m.1)) c.deal.ensures.first) c.deal.ensures.parts c.all_beside-porter.ensures.workers c.all_beside-porter.ensures.porter.lists
     (c.take_in.ensures.taken ∙ ap (λ (m : Chair). (all_in c.all_beside-porter.new.parts.all.items m.0, m.1)) c.join.ensures.taken)
 
-pub returns-clause-marks : goal.returns-clause-marks
-returns-clause-marks g c =
+pub returns-clause-knows : goal.returns-clause-knows
+returns-clause-knows g c =
     let v = c.in_ok-turn.seat.me in
     let en = c.in_ok-turn.ensures in
     let shut : Shut c.take_in.new.seat.me.0 c.close-world.result = record {
@@ -90,10 +90,10 @@ returns-clause-marks g c =
       known = c.close-world.ensures.known;
       allowed = c.close-world.ensures.allowed;
     } in
-    goes g.D.Disk.tells g.D.Disk.seen g.D.Disk.moment g.D.Disk.images g.D.Disk.faults (g.L.Links.tells c.args.links.now)
+    stands g.D.Disk.tells g.D.Disk.seen g.D.Disk.moment g.D.Disk.images g.D.Disk.faults (g.L.Links.tells c.args.links.now)
     (account (g.L.Links.told c.args.links.now) (g.L.Links.listening c.args.links.now) (g.C.Clock.answers c.args.clock.now)) (account (g.L.Links.told c.all_beside-porter.new.links) (g.L.Links.listening c.all_beside-porter.new.links) (g.C.Clock.answers c.all_beside-porter.new.clock))
     c.args.workers c.way_of-ended.result c.all_beside-porter.result.0 c.all_beside-porter.result.1
-    c.args.store.now.log c.all_beside-porter.new.store.log c.all_beside-porter.new.store.marks c.args.first.now c.args.second.now c.all_beside-porter.new.first c.all_beside-porter.new.second c.args.world c.close-world.result
+    c.args.store.now c.all_beside-porter.new.store c.args.first.now c.args.second.now c.all_beside-porter.new.first c.all_beside-porter.new.second c.args.world c.close-world.result
     c.requires.fresh.0 c.requires.fresh.1 c.requires.few c.deal.new.parts.all.items c.all_beside-porter.new.parts.all.items c.in_ok-turn.seat.table_id
     v c.split-other.new.seat.me c.all_beside-porter.new.seat.me c.split-other.result.me c.all_beside-porter.new.other.me c.take_in.new.seat.me
     (begins v c.args.world en.party.0 en.party.1 en.seat.2 en.history.0 en.history.1 en.history.2 en.alone.0 en.alone.1)
@@ -119,7 +119,7 @@ returns-clause-ran g c =
     has_run g.D.Disk.tells g.D.Disk.seen g.D.Disk.moment g.D.Disk.images g.D.Disk.faults (g.L.Links.tells c.args.links.now)
     (account (g.L.Links.told c.args.links.now) (g.L.Links.listening c.args.links.now) (g.C.Clock.answers c.args.clock.now)) (account (g.L.Links.told c.all_beside-porter.new.links) (g.L.Links.listening c.all_beside-porter.new.links) (g.C.Clock.answers c.all_beside-porter.new.clock))
     c.args.workers c.way_of-ended.result c.all_beside-porter.result.0 c.all_beside-porter.result.1
-    c.args.store.now.log c.all_beside-porter.new.store.log c.all_beside-porter.new.store.marks c.args.first.now c.args.second.now c.all_beside-porter.new.first c.all_beside-porter.new.second c.args.world c.close-world.result
+    c.args.store.now c.all_beside-porter.new.store c.args.first.now c.args.second.now c.all_beside-porter.new.first c.all_beside-porter.new.second c.args.world c.close-world.result
     c.requires.fresh.0 c.requires.fresh.1 c.requires.few c.deal.new.parts.all.items c.all_beside-porter.new.parts.all.items c.in_ok-turn.seat.table_id
     v c.split-other.new.seat.me c.all_beside-porter.new.seat.me c.split-other.result.me c.all_beside-porter.new.other.me c.take_in.new.seat.me
     (begins v c.args.world en.party.0 en.party.1 en.seat.2 en.history.0 en.history.1 en.history.2 en.alone.0 en.alone.1)

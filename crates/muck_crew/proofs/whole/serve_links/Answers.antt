@@ -1,15 +1,14 @@
 use Rattle.std.proofs.Common.{sym, subst, Option}
 use Rattle.muck_log.specs.Store.{LogState}
-use Rattle.spec_dumps.specs.Fronts.{at_cut}
 use Rattle.muck_dumping.specs.inner.Between.{IsReady as HasLog}
-use Rattle.muck_dumping.proofs.Marks.{unmarked_holds}
+use Rattle.muck_dumping.proofs.Knowing.{knows_new}
 use Rattle.muck_crew.proofs.whole.serve_links.Goals as goal
 
-pub run-requires-clause-marks : goal.run-requires-clause-marks
-run-requires-clause-marks g c κs within = unmarked_holds c.new-store.result.marks c.new-store.result.log (at_cut c.args.world.start c.args.world.entries).live.objects c.new-store.ensures.marks
+pub run-requires-clause-knows : goal.run-requires-clause-knows
+run-requires-clause-knows g c κs within = knows_new c.new-store.result c.args.log c.args.world c.new-store.ensures.log c.new-store.ensures.marks
 
-pub finish-why-requires-clause-marks : goal.finish-why-requires-clause-marks
-finish-why-requires-clause-marks g c = c.in-Ok.ensures.marks
+pub finish-why-requires-clause-knows : goal.finish-why-requires-clause-knows
+finish-why-requires-clause-knows g c = c.in-Ok.ensures.knows
 
 pub finish-why-requires-clause-mounted : goal.finish-why-requires-clause-mounted
 finish-why-requires-clause-mounted g c stop tells =

@@ -15,6 +15,9 @@ returns-in-Ok-clause-made g c = with_note (note_of g.D.Disk.moment g.D.Disk.faul
 pub returns-in-Ok-clause-idle : goal.returns-in-Ok-clause-idle
 returns-in-Ok-clause-idle g c = λ is. ended_idle c.args.world.now c.end.new.world (note_of g.D.Disk.moment g.D.Disk.faults c.args.first.now c.args.second.now c.args.world.now) 9 c.args.number c.args.stored c.in-Ok.ensures.step
 
+pub returns-in-Ok-clause-last : goal.returns-in-Ok-clause-last
+returns-in-Ok-clause-last g c = λ failed is. c.in-Ok.ensures.last failed
+
 pub returns-in-Ok-clause-rests : goal.returns-in-Ok-clause-rests
 returns-in-Ok-clause-rests g c = λ mounted log r tells w e is. c.in-Ok.ensures.rests mounted log r tells w e
 

@@ -30,3 +30,6 @@ returns-in-Err-clause-err g c = λ r e.
     let x = c.in-Err.ensures.err in
     stops_spent g.D.Disk.tells g.D.Disk.seen g.D.Disk.moment g.D.Disk.images g.D.Disk.faults c.args.first.now c.args.second.now (Stage.dumping c.args.number) (λ mounted. IsWritten g.D.Disk.seen g.D.Disk.moment g.D.Disk.images g.D.Disk.faults c.args.store.now.log c.args.first.now c.args.second.now mounted (history_seen c.args.seat.now.me.0) r) c.args.seat.now.me c.finish_turn.new.seat.me c.requires.rests x.0 x.1 x.2
     (λ mounted on w. w.keeps.safe)
+
+pub returns-in-Ok-true-clause-last : goal.returns-in-Ok-true-clause-last
+returns-in-Ok-true-clause-last g c = λ failed. c.in-Ok-true.ensures.last failed c.in-Ok-true.field-0-test

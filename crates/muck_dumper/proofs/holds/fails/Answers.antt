@@ -1,9 +1,10 @@
-use Rattle.std.proofs.Common.{sym, subst, Err}
+use Rattle.std.proofs.Common.{ℕ, refl, sym, subst, Err}
 use Rattle.std.proofs.lemmas.Result.{err_from_is_err_and}
 use Rattle.muck_log.specs.declared.fault.LogFault.TheVariants.{DiskFault}
 use Rattle.spec_events.specs.Own.{Stage}
+use Rattle.spec_dumps.specs.inner.Holding.{FailedLast}
 use Rattle.muck_machine.specs.inner.Seats.{Chair}
-use Rattle.muck_dumping.specs.inner.Between.{GoesByMarks, IsWritten}
+use Rattle.muck_dumping.specs.inner.Between.{Knows, IsWritten}
 use Rattle.muck_dumping.proofs.Ending.{on_ok}
 use Rattle.muck_dumper.specs.inner.Dumping.{history_seen}
 use Rattle.muck_dumper.proofs.Making.{watches_after, stops_after}
@@ -17,10 +18,13 @@ returns-in_err-ends-clause-err g c = λ r e.
     let p = err_from_is_err_and c.from_residual.result c.from_residual.ensures.1 in
     rw (p.1, p.2) (c.in_err-ends.ensures.err r e)
 
-pub returns-clause-marks : goal.returns-clause-marks
-returns-clause-marks g c = λ goes.
-    on_ok c.mounts.result c.mounts.ensures.same (λ same. subst (λ (x : Chair). GoesByMarks c.mounts.new.store.marks c.mounts.new.store.log (history_seen x.0)) (sym same)
-    (c.mounts.ensures.marks (history_seen c.ends.new.seat.me.0) (c.in_ok-ends.ensures.marks goes)))
+pub returns-clause-knows : goal.returns-clause-knows
+returns-clause-knows g c = λ goes number.
+    let k : Knows c.args.store.now (history_seen c.ends.new.seat.me.0) = record {
+      marks = c.in_ok-ends.ensures.marks goes;
+      number = λ none. subst (λ n. FailedLast n (history_seen c.ends.new.seat.me.0)) (sym {A = ℕ} number) (c.in_ok-ends.ensures.last refl);
+    } in
+    on_ok c.mounts.result c.mounts.ensures.same (λ same. subst (λ (x : Chair). Knows c.mounts.new.store (history_seen x.0)) (sym {A = Chair} same) (c.mounts.ensures.knows (history_seen c.ends.new.seat.me.0) k))
 
 pub returns-clause-ok : goal.returns-clause-ok
 returns-clause-ok g c = λ r e.

@@ -1,10 +1,11 @@
-use Rattle.std.proofs.Common.{refl, None, Ok, Err}
+use Rattle.std.proofs.Common.{refl, sym, ◌∙◌, None, Ok, Err}
 use Rattle.spec_events.specs.Own.{Stage}
 use Rattle.spec_dumps.specs.Fronts.{at_cut}
 use Rattle.spec_dumps.specs.inner.Holding.{Keeps}
 use Rattle.muck_dumping.specs.inner.Between.{IsPending, IsWritten}
 use Rattle.muck_dumping.proofs.AtOnce.{pending_mounted}
 use Rattle.muck_dumping.proofs.Ending.{on_ok}
+use Rattle.muck_dumping.proofs.Knowing.{knows_stored}
 use Rattle.muck_dumper.specs.inner.Dumping.{history_seen}
 use Rattle.muck_dumper.specs.inner.Steps.{Stops}
 use Rattle.muck_dumper.proofs.Making.{if_err, told_as, told_ends, told_written}
@@ -20,11 +21,12 @@ pub write-requires-clause-batch : goal.write-requires-clause-batch
 write-requires-clause-batch g c =
     let w = at_cut (history_seen c.args.seat.now.me.0).start (history_seen c.args.seat.now.me.0).entries in (w.live.objects, w.live.board.tune, c.requires.batch)
 
-pub returns-in-Ok-clause-marks : goal.returns-in-Ok-clause-marks
-returns-in-Ok-clause-marks g c = c.ends.ensures.marks (c.write.ensures.marks _ _ c.requires.batch)
+pub returns-in-Ok-clause-knows : goal.returns-in-Ok-clause-knows
+returns-in-Ok-clause-knows g c =
+    on_ok c.ends.result (c.ends.ensures.marks (c.write.ensures.marks _ _ c.requires.batch)) (λ goes. knows_stored c.write.new.store (history_seen c.ends.new.seat.me.0) c.in-Ok.ensures.some goes)
 
-pub returns-clause-marks : goal.returns-clause-marks
-returns-clause-marks g c = c.fails.ensures.marks (c.write.ensures.marks _ _ c.requires.batch)
+pub returns-clause-knows : goal.returns-clause-knows
+returns-clause-knows g c = c.fails.ensures.knows (c.write.ensures.marks _ _ c.requires.batch) (c.in-Err.ensures.number ∙ sym c.requires.number)
 
 pub returns-in-Ok-clause-ok : goal.returns-in-Ok-clause-ok
 returns-in-Ok-clause-ok g c =
@@ -37,17 +39,17 @@ returns-in-Ok-clause-ok g c =
 pub returns-in-Ok-clause-err : goal.returns-in-Ok-clause-err
 returns-in-Ok-clause-err g c =
     if_err c.ends.result
-    (λ fault. Stops g.D.Disk.tells g.D.Disk.moment g.D.Disk.images c.write.new.first c.write.new.second fault (Stage.dumping c.args.pending.number) (λ mounted. IsWritten g.D.Disk.seen g.D.Disk.moment g.D.Disk.images g.D.Disk.faults c.write.new.store.log c.write.new.first c.write.new.second mounted (history_seen c.args.seat.now.me.0) (Ok tt)) c.args.seat.now.me c.ends.new.seat.me)
-    (λ fault. Stops g.D.Disk.tells g.D.Disk.moment g.D.Disk.images c.write.new.first c.write.new.second fault (Stage.dumping c.args.pending.number) (λ mounted. IsPending g.D.Disk.seen g.D.Disk.moment g.D.Disk.images g.D.Disk.faults c.args.store.now.log c.args.first.now c.args.second.now mounted (history_seen c.args.seat.now.me.0) c.args.pending) c.args.seat.now.me c.ends.new.seat.me)
+    (λ fault. Stops g.D.Disk.tells g.D.Disk.moment g.D.Disk.images g.D.Disk.faults c.write.new.first c.write.new.second fault (Stage.dumping c.args.pending.number) (λ mounted. IsWritten g.D.Disk.seen g.D.Disk.moment g.D.Disk.images g.D.Disk.faults c.write.new.store.log c.write.new.first c.write.new.second mounted (history_seen c.args.seat.now.me.0) (Ok tt)) c.args.seat.now.me c.ends.new.seat.me)
+    (λ fault. Stops g.D.Disk.tells g.D.Disk.moment g.D.Disk.images g.D.Disk.faults c.write.new.first c.write.new.second fault (Stage.dumping c.args.pending.number) (λ mounted. IsPending g.D.Disk.seen g.D.Disk.moment g.D.Disk.images g.D.Disk.faults c.args.store.now.log c.args.first.now c.args.second.now mounted (history_seen c.args.seat.now.me.0) c.args.pending) c.args.seat.now.me c.ends.new.seat.me)
     (c.ends.ensures.err (Ok tt) tt) (λ fault t.
-    stops_before g.D.Disk.tells g.D.Disk.moment g.D.Disk.images c.write.new.first c.write.new.second fault (Stage.dumping c.args.pending.number)
+    stops_before g.D.Disk.tells g.D.Disk.moment g.D.Disk.images g.D.Disk.faults c.write.new.first c.write.new.second fault (Stage.dumping c.args.pending.number)
     (λ mounted. IsPending g.D.Disk.seen g.D.Disk.moment g.D.Disk.images g.D.Disk.faults c.args.store.now.log c.args.first.now c.args.second.now mounted (history_seen c.args.seat.now.me.0) c.args.pending)
     (λ mounted. IsWritten g.D.Disk.seen g.D.Disk.moment g.D.Disk.images g.D.Disk.faults c.write.new.store.log c.write.new.first c.write.new.second mounted (history_seen c.args.seat.now.me.0) (Ok tt))
     c.args.seat.now.me c.ends.new.seat.me (λ mounted on p. c.in-Ok.ensures.written mounted (history_seen c.args.seat.now.me.0) on p) t)
 
 pub returns-in-NoMemory-clause-err : goal.returns-in-NoMemory-clause-err
 returns-in-NoMemory-clause-err g c =
-    stops_before g.D.Disk.tells g.D.Disk.moment g.D.Disk.images c.write.new.first c.write.new.second c.dies.result (Stage.dumping c.args.pending.number)
+    stops_before g.D.Disk.tells g.D.Disk.moment g.D.Disk.images g.D.Disk.faults c.write.new.first c.write.new.second c.dies.result (Stage.dumping c.args.pending.number)
     (λ mounted. IsPending g.D.Disk.seen g.D.Disk.moment g.D.Disk.images g.D.Disk.faults c.args.store.now.log c.args.first.now c.args.second.now mounted (history_seen c.args.seat.now.me.0) c.args.pending)
     (λ mounted. Keeps g.D.Disk.seen g.D.Disk.moment g.D.Disk.images g.D.Disk.faults None c.write.new.first c.write.new.second mounted (history_seen c.args.seat.now.me.0))
     c.args.seat.now.me c.dies.new.seat.me (λ mounted on p. (c.in-Err.ensures.written mounted (history_seen c.args.seat.now.me.0) on p).keeps)
@@ -65,10 +67,10 @@ returns-clause-ok g c =
 pub returns-clause-err : goal.returns-clause-err
 returns-clause-err g c =
     if_err c.fails.result
-    (λ fault. Stops g.D.Disk.tells g.D.Disk.moment g.D.Disk.images c.fails.new.first c.fails.new.second fault (Stage.dumping c.args.pending.number) (λ mounted. IsWritten g.D.Disk.seen g.D.Disk.moment g.D.Disk.images g.D.Disk.faults c.write.new.store.log c.write.new.first c.write.new.second mounted (history_seen c.args.seat.now.me.0) (Err (told_as c.in-Err.fault))) c.args.seat.now.me c.fails.new.seat.me)
-    (λ fault. Stops g.D.Disk.tells g.D.Disk.moment g.D.Disk.images c.fails.new.first c.fails.new.second fault (Stage.dumping c.args.pending.number) (λ mounted. IsPending g.D.Disk.seen g.D.Disk.moment g.D.Disk.images g.D.Disk.faults c.args.store.now.log c.args.first.now c.args.second.now mounted (history_seen c.args.seat.now.me.0) c.args.pending) c.args.seat.now.me c.fails.new.seat.me)
+    (λ fault. Stops g.D.Disk.tells g.D.Disk.moment g.D.Disk.images g.D.Disk.faults c.fails.new.first c.fails.new.second fault (Stage.dumping c.args.pending.number) (λ mounted. IsWritten g.D.Disk.seen g.D.Disk.moment g.D.Disk.images g.D.Disk.faults c.write.new.store.log c.write.new.first c.write.new.second mounted (history_seen c.args.seat.now.me.0) (Err (told_as c.in-Err.fault))) c.args.seat.now.me c.fails.new.seat.me)
+    (λ fault. Stops g.D.Disk.tells g.D.Disk.moment g.D.Disk.images g.D.Disk.faults c.fails.new.first c.fails.new.second fault (Stage.dumping c.args.pending.number) (λ mounted. IsPending g.D.Disk.seen g.D.Disk.moment g.D.Disk.images g.D.Disk.faults c.args.store.now.log c.args.first.now c.args.second.now mounted (history_seen c.args.seat.now.me.0) c.args.pending) c.args.seat.now.me c.fails.new.seat.me)
     (c.fails.ensures.err (Err (told_as c.in-Err.fault)) (told_ends c.in-Err.fault c.in_default.not-NoMemory)) (λ fault t.
-    stops_before g.D.Disk.tells g.D.Disk.moment g.D.Disk.images c.fails.new.first c.fails.new.second fault (Stage.dumping c.args.pending.number)
+    stops_before g.D.Disk.tells g.D.Disk.moment g.D.Disk.images g.D.Disk.faults c.fails.new.first c.fails.new.second fault (Stage.dumping c.args.pending.number)
     (λ mounted. IsPending g.D.Disk.seen g.D.Disk.moment g.D.Disk.images g.D.Disk.faults c.args.store.now.log c.args.first.now c.args.second.now mounted (history_seen c.args.seat.now.me.0) c.args.pending)
     (λ mounted. IsWritten g.D.Disk.seen g.D.Disk.moment g.D.Disk.images g.D.Disk.faults c.write.new.store.log c.write.new.first c.write.new.second mounted (history_seen c.args.seat.now.me.0) (Err (told_as c.in-Err.fault)))
     c.args.seat.now.me c.fails.new.seat.me (λ mounted on p.

@@ -12,7 +12,7 @@ returns-in-Ok-clause-ready g c = λ mounted h tells v.
 
 pub returns-in-NoMemory-clause-err : goal.returns-in-NoMemory-clause-err
 returns-in-NoMemory-clause-err g c =
-    stops_before g.D.Disk.tells g.D.Disk.moment g.D.Disk.images c.mount.new.first c.mount.new.second c.dies.result Stage.unbound
+    stops_before g.D.Disk.tells g.D.Disk.moment g.D.Disk.images g.D.Disk.faults c.mount.new.first c.mount.new.second c.dies.result Stage.unbound
     (λ mounted. Keeps g.D.Disk.seen g.D.Disk.moment g.D.Disk.images g.D.Disk.faults c.args.store.now.log c.args.first.now c.args.second.now mounted (history_seen c.args.seat.now.me.0))
     (λ mounted. Keeps g.D.Disk.seen g.D.Disk.moment g.D.Disk.images g.D.Disk.faults c.mount.new.self.log c.mount.new.first c.mount.new.second mounted (history_seen c.args.seat.now.me.0))
     c.args.seat.now.me c.dies.new.seat.me

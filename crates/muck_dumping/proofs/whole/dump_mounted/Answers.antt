@@ -1,9 +1,9 @@
-use Rattle.std.proofs.Common.{refl, ap, None, Ok, Err}
+use Rattle.std.proofs.Common.{refl, ap, sym, ◌∙◌, None, Ok, Err}
 use Rattle.muck_model.specs.declared.event.Event.TheVariants.{Stored}
 use Rattle.spec_events.specs.Histories.{now}
-use Rattle.spec_dumps.specs.Fronts.{at_cut}
 use Rattle.muck_dumping.specs.inner.Dumps.{by, Dies}
-use Rattle.muck_dumping.proofs.Marks.{unmounted_holds, goes_noted}
+use Rattle.muck_dumping.proofs.Marks.{goes_noted}
+use Rattle.muck_dumping.proofs.Knowing.{knows_stored, knows_failed}
 use Rattle.muck_dumping.proofs.Steps.{cut_lives, cut_runs}
 use Rattle.muck_dumping.proofs.AtOnce.{may_makes, dies_cut, dies_ending, fault_ends, never_damaged, some_not_none}
 use Rattle.muck_dumping.proofs.Beginning.{died_here}
@@ -25,16 +25,17 @@ end-requires-clause-runs g c = cut_runs _ _ _ _ _ c.in-Ok.ensures.step
 
 pub returns-in-Ok-end-clause-kept : goal.returns-in-Ok-end-clause-kept
 returns-in-Ok-end-clause-kept g c = λ mounted tells v.
-    dumps_stored g.D.Disk.seen g.D.Disk.moment g.D.Disk.images g.D.Disk.faults c.write.new.store.log c.write.new.first c.write.new.second mounted c.begin.new.world c.args.party c.in-Ok.pending.number c.args.world.now _ c.in-Ok.ensures.step c.end.new.world c.in-Ok-end.ensures.step
+    dumps_stored g.D.Disk.seen g.D.Disk.moment g.D.Disk.images g.D.Disk.faults c.write.new.store.log c.write.new.first c.write.new.second mounted c.begin.new.world (λ x. g.met.D.Disk.seen_left x tells) c.args.party c.in-Ok.pending.number c.args.world.now _ c.in-Ok.ensures.step c.end.new.world c.in-Ok-end.ensures.step
     (c.in-Ok-write.ensures.written mounted c.begin.new.world tells (c.in-Ok.ensures.pending mounted tells (ready_mounted g.D.Disk.seen g.D.Disk.moment g.D.Disk.images g.D.Disk.faults mounted c.args.store.now.log c.args.first.now c.args.second.now c.args.world.now c.requires.some v)))
 
-pub returns-in-Ok-end-clause-marks : goal.returns-in-Ok-end-clause-marks
-returns-in-Ok-end-clause-marks g c =
-    goes_noted c.write.new.store.marks c.write.new.store.log c.begin.new.world c.end.new.world _ (by c.args.party (Stored c.in-Ok.pending.number)) refl c.in-Ok-end.ensures.step (c.write.ensures.marks _ _ c.in-Ok.ensures.batch)
+pub returns-in-Ok-end-clause-knows : goal.returns-in-Ok-end-clause-knows
+returns-in-Ok-end-clause-knows g c =
+    knows_stored c.write.new.store c.end.new.world c.in-Ok-write.ensures.some
+    (goes_noted c.write.new.store.marks c.write.new.store.log c.begin.new.world c.end.new.world _ (by c.args.party (Stored c.in-Ok.pending.number)) refl c.in-Ok-end.ensures.step (c.write.ensures.marks _ _ c.in-Ok.ensures.batch))
 
-pub returns-in-Ok-end-2-clause-marks : goal.returns-in-Ok-end-2-clause-marks
-returns-in-Ok-end-2-clause-marks g c =
-    unmounted_holds c.write.new.store.marks c.write.new.store.log (at_cut c.end-in_default-fault.new.world.start c.end-in_default-fault.new.world.entries).live.objects c.in-Err.ensures.none
+pub returns-in-Ok-end-2-clause-knows : goal.returns-in-Ok-end-2-clause-knows
+returns-in-Ok-end-2-clause-knows g c =
+    knows_failed c.write.new.store c.end-in_default-fault.new.world c.in-Ok.pending.number c.in-Err.ensures.none (c.in-Err.ensures.number ∙ sym c.in-Ok.ensures.number) (c.in-Ok-end-2.ensures.last refl)
 
 pub returns-in-Ok-write-clause-happened : goal.returns-in-Ok-write-clause-happened
 returns-in-Ok-write-clause-happened g c = dies_ending c.args.party _ _ _ _ _ _ c.in-Ok.ensures.step c.in-Err-end.ensures.died
@@ -58,7 +59,7 @@ pub returns-in-Ok-end-2-clause-kept : goal.returns-in-Ok-end-2-clause-kept
 returns-in-Ok-end-2-clause-kept g c = λ mounted tells v.
     let pend = (c.in-Ok.ensures.pending mounted tells (ready_mounted g.D.Disk.seen g.D.Disk.moment g.D.Disk.images g.D.Disk.faults mounted c.args.store.now.log c.args.first.now c.args.second.now c.args.world.now c.requires.some v)) in
     let w = c.in-Err.ensures.written mounted c.begin.new.world tells pend in
-    dumps_failed g.D.Disk.seen g.D.Disk.moment g.D.Disk.images g.D.Disk.faults c.write.new.store.log c.write.new.first c.write.new.second mounted c.begin.new.world c.args.party c.in-Ok.pending.number c.args.world.now _ c.in-Ok.ensures.step c.end-in_default-fault.new.world c.in-Ok-end-2.ensures.step c.in-Err.fault
+    dumps_failed g.D.Disk.seen g.D.Disk.moment g.D.Disk.images g.D.Disk.faults c.write.new.store.log c.write.new.first c.write.new.second mounted c.begin.new.world (λ x. g.met.D.Disk.seen_left x tells) c.args.party c.in-Ok.pending.number c.args.world.now _ c.in-Ok.ensures.step c.end-in_default-fault.new.world c.in-Ok-end-2.ensures.step c.in-Err.fault
     (λ is. some_not_none c.args.store.now.log c.requires.some (c.in-Err.ensures.stale mounted c.begin.new.world tells pend (ap Err is))) w
     (fault_ends c.in-Err.fault c.in_default-fault.not-NoMemory (never_damaged g.D.Disk.seen g.D.Disk.moment g.D.Disk.images g.D.Disk.faults c.write.new.store.log c.write.new.first c.write.new.second mounted c.begin.new.world c.in-Err.fault w))
 

@@ -13,4 +13,5 @@ returns-then-not-is_stopping g c = MarkedIn.kept refl refl (λ n dead. sym (c.is
 
 pub returns : goal.returns
 returns g c =
-    MarkedIn.made c.if-noted.false refl (sym (c.is_stopping.ensures (sym c.is_dead.ensures.dead ∙ c.if-is_dead.false)) ∙ c.if-not-is_stopping.false) (c.requires c.if-noted.false) c.note_links.ensures
+    let alive = sym c.is_dead.ensures.dead ∙ c.if-is_dead.false in
+    MarkedIn.made c.if-noted.false refl (sym (c.is_stopping.ensures alive) ∙ c.if-not-is_stopping.false) alive (c.requires c.if-noted.false) c.note_links.ensures

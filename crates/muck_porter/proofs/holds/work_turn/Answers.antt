@@ -36,7 +36,7 @@ returns-in-Ok-clause-time g c =
     let s = c.works-worked.ensures in
     let t = turn_made c.args.noted.now c.begins.new.noted (g.L.Links.told c.args.links.now) c.args.seat.now.me c.begins.new.seat.me c.in-Ok.held.state c.works-worked.new.world s.0 c.requires.ready c.in-Ok.ensures.ok (worked_quiet _ s.0 s.2) s.1
     c.give.new.seat.me c.give.ensures.own.2 c.give.ensures.idle c.give.ensures.seen c.give.ensures.same c.give.ensures.mine in
-    timed_turned c.args.noted.now c.begins.new.noted (g.L.Links.told c.args.links.now) _ _ c.args.seat.now.me c.give.new.seat.me (now c.in-Ok.held.state) s.0 c.requires.ready.rests t.0 t.1 s.3
+    timed_turned c.args.noted.now c.begins.new.noted (g.L.Links.told c.args.links.now) _ _ c.args.seat.now.me c.give.new.seat.me (now c.in-Ok.held.state) s.0 c.requires.ready t.0 t.1 s.3
 
 pub returns-in-Err-clause-time : goal.returns-in-Err-clause-time
 returns-in-Err-clause-time g c = timed_waited _ _ _ c.in-Err.ensures.waited.0

@@ -19,6 +19,7 @@ returns-in-NoMemory-clause-done g c =
       stopped = λ h t. absurd (not_stopped NoMemory refl h);
       fault = λ f. cc;
       later = omega arith;
+      ended = λ n. s.spent;
       spent = λ f. cc;
     }
 
@@ -35,5 +36,6 @@ returns-clause-done g c =
       stopped = λ h t. absurd (not_stopped Spent refl h);
       fault = λ f. cc;
       later = omega arith;
+      ended = λ n. absurd (n refl);
       spent = λ f. s.spent;
     }

@@ -1,8 +1,8 @@
 use Rattle.std.proofs.Common.{true≢false, refl, sym, ◌∙◌, subst, arith}
 use Rattle.muck_porter.specs.declared.serving.Fault.{Fault}
-use Rattle.muck_porter.specs.inner.Rounds.{IsSpent}
+use Rattle.muck_porter.specs.inner.Rounds.{EndsEarly}
 use Rattle.muck_porter.specs.declared.porting.Why.TheVariants.{NoMemory, Spent}
-use Rattle.muck_porter.proofs.InRounds.{stays_ready, stays_carried, left_last, left_kept, broke_on, ready_fresh, books_start, timed_start, not_stopped}
+use Rattle.muck_porter.proofs.InRounds.{stays_ready, stays_carried, left_last, left_kept, broke_on, ready_fresh, books_start, timed_start, not_stopped, stop_over}
 use Rattle.muck_porter.proofs.porting.goes_on.Goals as goal
 
 pub loop-init : goal.loop-init
@@ -56,6 +56,7 @@ returns-then-broke-clause-done g c =
       stopped = λ h t. (left_kept _ _ _ _ _ _ _ _ _ left (s.ok (inv.tells ∙ t)) _ (inv.books t)).1;
       fault = λ f. broke_on c.loop.broke c.in-Ok.gone.broke _ _ _ inv.later s.later inv.broke s.broke (sym c.either-broke.ensures ∙ c.if-broke.true);
       later = omega arith;
+      ended = λ n. stop_over _ (left_last _ _ _ left s.ready) s.over.formed;
       spent = λ f. cc;
     }
 
@@ -76,6 +77,7 @@ returns-then-has_left-clause-done g c =
       stopped = λ h t. (left_kept _ _ _ _ _ _ _ _ _ left (s.ok (inv.tells ∙ t)) _ (inv.books t)).1;
       fault = λ f. cc;
       later = omega arith;
+      ended = λ n. stop_over _ (left_last _ _ _ left s.ready) s.over.formed;
       spent = λ f. cc;
     }
 
@@ -95,6 +97,7 @@ returns-in-Err-NoMemory-clause-done g c =
       stopped = λ h t. absurd (not_stopped NoMemory refl h);
       fault = λ f. cc;
       later = omega arith;
+      ended = λ n. subst (λ (x : Fault). EndsEarly x c.goes_round.new.seat.me.0) c.in-Err-NoMemory.field-0-is s.spent;
       spent = λ f. cc;
     }
 
@@ -114,5 +117,6 @@ returns-in-Err-Spent-clause-done g c =
       stopped = λ h t. absurd (not_stopped Spent refl h);
       fault = λ f. cc;
       later = omega arith;
-      spent = λ f. subst (λ (x : Fault). IsSpent x c.goes_round.new.seat.me.0) c.in-Err-Spent.field-0-is s.spent;
+      ended = λ n. absurd (n refl);
+      spent = λ f. subst (λ (x : Fault). EndsEarly x c.goes_round.new.seat.me.0) c.in-Err-Spent.field-0-is s.spent;
     }

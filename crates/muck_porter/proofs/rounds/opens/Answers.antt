@@ -4,7 +4,7 @@ use Rattle.muck_porter.specs.inner.Kept.{tally}
 use Rattle.muck_porter.specs.inner.Deeds.{DidAs}
 use Rattle.muck_porter.specs.inner.Moves.{Carries}
 use Rattle.muck_porter.proofs.Stages.{formed_free}
-use Rattle.muck_porter.proofs.Doing.{over_waited, ends_waited, ends_last, over_ready, dead_did, died_ends, died_over}
+use Rattle.muck_porter.proofs.Doing.{over_waited, ends_waited, ends_last, over_ready, dead_did, died_ends, died_over, died_ended}
 use Rattle.muck_porter.proofs.InRounds.{open_ready, open_carries, open_late, open_later}
 use Rattle.muck_porter.specs.declared.deeds.Deed.TheVariants.{Open}
 use Rattle.muck_porter.proofs.rounds.opens.Goals as goal
@@ -63,3 +63,8 @@ returns-in-Err-deed_turn-clause-over g c = over_waited c.args.seat.now.me c.deed
 
 pub returns-in-Err-deed_turn-clause-spent : goal.returns-in-Err-deed_turn-clause-spent
 returns-in-Err-deed_turn-clause-spent g c = c.in-Err-deed_turn.ensures.left.1
+
+pub returns-in-Ok-Dead-clause-spent : goal.returns-in-Ok-Dead-clause-spent
+returns-in-Ok-Dead-clause-spent g c =
+    let ok = c.in-Ok-Dead.ensures.ok in
+    died_ended _ _ _ c.args.seat.now.me c.deed_turn.new.seat.me ok.1.0 ok.1.1 ok.0 ok.1.2 c.requires.ready.resting.known c.requires.ready.free (dead_did _ _ _ c.args.seat.now.me c.deed_turn.new.seat.me ok.1.0 ok.1.1 ok.0 ok.1.2 c.requires.ready.resting.known (Open c.number.result) _ _ c.in-Ok-Dead.field-0-is ok.1.3)

@@ -4,7 +4,7 @@ use Rattle.muck_porter.specs.inner.Moves.{HasClaimed}
 use Rattle.spec_events.specs.Own.{Stage}
 use Rattle.muck_porter.proofs.Stages.{formed_at}
 use Rattle.muck_porter.proofs.Doing.{over_waited, ends_waited, over_ready, dead_did, died_ends}
-use Rattle.muck_porter.proofs.InRounds.{slice_ready, slice_carries, slice_over, slice_never}
+use Rattle.muck_porter.proofs.InRounds.{slice_ready, slice_carries, slice_over, slice_ended, slice_never}
 use Rattle.muck_porter.specs.declared.deeds.Deed.TheVariants.{Slice}
 use Rattle.muck_porter.proofs.rounds.runs.Goals as goal
 
@@ -54,3 +54,9 @@ pub deed_turn-requires-clause-claim : goal.deed_turn-requires-clause-claim
 deed_turn-requires-clause-claim g c =
     let read : to_z w32 (of_z w32 c.args.pid) ≡ c.args.pid = search rules in
     subst (λ (pid : ℤ). HasClaimed pid c.args.seat.now.me.0) (sym read) c.requires.claim
+
+pub returns-in-Ok-Dead-clause-spent : goal.returns-in-Ok-Dead-clause-spent
+returns-in-Ok-Dead-clause-spent g c =
+    let ok = c.in-Ok-Dead.ensures.ok in
+    let read : to_z w32 (of_z w32 c.args.pid) ≡ c.args.pid = search rules in
+    slice_ended _ _ _ c.args.seat.now.me c.deed_turn.new.seat.me ok.1.0 ok.1.1 ok.0 ok.1.2 c.requires.ready c.args.peers.now.items c.in-Ok-Dead.field-0 c.args.pid c.requires.stage (dead_did _ _ _ c.args.seat.now.me c.deed_turn.new.seat.me ok.1.0 ok.1.1 ok.0 ok.1.2 c.requires.ready.known (Slice c.args.pid) _ _ c.in-Ok-Dead.field-0-is (subst (λ (pid : ℤ). DidAs (Slice pid) c.in-Ok-Dead.field-0 c.deed_turn.new.noted c.args.peers.now.items ok.1.0 ok.1.1) read ok.1.3))

@@ -4,7 +4,7 @@ use Rattle.muck_porter.specs.inner.Moves.{HasClaimed}
 use Rattle.muck_porter.specs.inner.Kept.{IsAt, IsFree}
 use Rattle.muck_porter.proofs.Stages.{formed_free}
 use Rattle.muck_porter.proofs.Doing.{over_waited, ends_waited, over_ready, carried_on, carried_end}
-use Rattle.muck_porter.proofs.InRounds.{exec_ready, exec_carries, claim_resting, claim_stage, claim_made, claim_carries, idle_ready, idle_carries, off_ready, off_carries, work_ends, work_over}
+use Rattle.muck_porter.proofs.InRounds.{exec_ready, exec_carries, claim_resting, claim_stage, claim_made, claim_carries, idle_ready, idle_carries, off_ready, off_carries, work_ends, work_over, work_ended}
 use Rattle.muck_porter.proofs.rounds.works_once.Goals as goal
 
 pub returns-in-Ok-Done-clause-ready : goal.returns-in-Ok-Done-clause-ready
@@ -103,3 +103,8 @@ returns-in-Ok-clause-time g c before t = c.in-Ok.ensures.time before (c.in-Ok-Cl
 
 pub returns-in-Err-runs-clause-time : goal.returns-in-Err-runs-clause-time
 returns-in-Err-runs-clause-time g c before t = c.in-Err-runs.ensures.time before (c.in-Ok-Claimed.ensures.time before t)
+
+pub returns-in-Ok-Dead-clause-spent : goal.returns-in-Ok-Dead-clause-spent
+returns-in-Ok-Dead-clause-spent g c =
+    let ok = c.in-Ok-Dead.ensures.ok in
+    work_ended _ _ _ c.args.seat.now.me c.work_turn.new.seat.me ok.1.0 ok.1.1 ok.0 ok.1.2 c.requires.ready c.args.peers.now.items _ c.in-Ok-Dead.field-0-is ok.1.3

@@ -2,7 +2,7 @@ use Rattle.std.proofs.Common.{ℕ, Some, sym, subst}
 use Rattle.muck_porter.specs.inner.Rounds.{Nearer}
 use Rattle.muck_porter.proofs.Stages.{formed_free}
 use Rattle.muck_porter.proofs.Doing.{over_waited, ends_waited, listened}
-use Rattle.muck_porter.proofs.OneServed.{went_below, closed_below, went_nearer, closed_nearer, went_ready, went_carries, closed_ready, closed_carries, nobody_ready, nobody_carries, dead_ends, dead_over, went_over, closed_over, nobody_over}
+use Rattle.muck_porter.proofs.OneServed.{went_below, closed_below, went_nearer, closed_nearer, went_ready, went_carries, closed_ready, closed_carries, nobody_ready, nobody_carries, dead_ends, dead_over, dead_ended, went_over, closed_over, nobody_over}
 use Rattle.muck_porter.proofs.serving.serve_one.Goals as goal
 
 pub writes-next-requires : goal.writes-next-requires
@@ -87,3 +87,8 @@ returns-in-Err-clause-over g c = over_waited c.args.seat.now.me c.serve_turn.new
 
 pub returns-in-Err-clause-spent : goal.returns-in-Err-clause-spent
 returns-in-Err-clause-spent g c = c.in-Err.ensures.left.1
+
+pub returns-in-Ok-Dead-clause-spent : goal.returns-in-Ok-Dead-clause-spent
+returns-in-Ok-Dead-clause-spent g c =
+    let ok = c.in-Ok-Dead.ensures.ok in
+    dead_ended _ _ _ c.args.seat.now.me c.serve_turn.new.seat.me ok.1.0 ok.1.1 ok.0 ok.1.2 c.requires.ready _ _ _ ok.1.3 c.in-Ok-Dead.field-0-is

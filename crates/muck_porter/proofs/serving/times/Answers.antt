@@ -1,5 +1,5 @@
 use Rattle.muck_porter.proofs.Stages.{formed_free}
-use Rattle.muck_porter.proofs.Doing.{over_waited, ends_waited, over_timed, dead_did, died_ends, died_over}
+use Rattle.muck_porter.proofs.Doing.{over_waited, ends_waited, over_timed, dead_did, died_ends, died_over, died_ended}
 use Rattle.muck_porter.proofs.InRounds.{time_never, time_ready, time_carries}
 use Rattle.muck_porter.specs.declared.deeds.Deed.TheVariants.{Time}
 use Rattle.muck_porter.proofs.serving.times.Goals as goal
@@ -40,3 +40,8 @@ returns-in-Err-clause-over g c = over_waited c.args.seat.now.me c.deed_turn.new.
 
 pub returns-in-Err-clause-spent : goal.returns-in-Err-clause-spent
 returns-in-Err-clause-spent g c = c.in-Err.ensures.left.1
+
+pub returns-in-Ok-Dead-clause-spent : goal.returns-in-Ok-Dead-clause-spent
+returns-in-Ok-Dead-clause-spent g c =
+    let ok = c.in-Ok-Dead.ensures.ok in
+    died_ended _ _ _ c.args.seat.now.me c.deed_turn.new.seat.me ok.1.0 ok.1.1 ok.0 ok.1.2 c.requires.ready.resting.known c.requires.ready.free (dead_did _ _ _ c.args.seat.now.me c.deed_turn.new.seat.me ok.1.0 ok.1.1 ok.0 ok.1.2 c.requires.ready.resting.known Time _ _ c.in-Ok-Dead.field-0-is ok.1.3)

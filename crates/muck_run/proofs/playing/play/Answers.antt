@@ -2,7 +2,7 @@ use Rattle.std.proofs.Common.{◌≡◌, refl, sym, ◌∙◌, arith, Err, rules
 use Rattle.muck_script.specs.Story.{lines_story}
 use Rattle.spec_dumps.proofs.Quiet.{quiet_one}
 use Rattle.spec_dumps.proofs.Idle.{idle_quiet}
-use Rattle.muck_dumping.proofs.Marks.{goes_quiet}
+use Rattle.muck_dumping.proofs.Knowing.{knows_quiet}
 use Rattle.muck_run.proofs.Lining.{held_resting, held_quiet}
 use Rattle.muck_run.proofs.Opening.{opens_more}
 use Rattle.muck_run.proofs.Noted.{noted_same, noted_one, noted_then}
@@ -16,8 +16,10 @@ loop-act-init g c = record {
   notes = noted_same _ _ refl;
   fine = refl;
   idle = c.requires.idle;
-  marks = c.requires.marks;
+  knows = c.requires.knows;
   rests = λ mounted tells r. r;
+  first_attached = refl;
+  second_attached = refl;
   first_later = omega arith;
   second_later = omega arith;
 }
@@ -38,8 +40,10 @@ loop-act-preserved g c = record {
   notes = noted_then _ _ _ c.loop-act.invariant.notes c.in_ok-play_line.ensures.notes;
   fine = c.in_ok-play_line.ensures.fine ∙ c.loop-act.invariant.fine;
   idle = c.in_ok-play_line.ensures.idle (λ e. cc);
-  marks = c.in_ok-play_line.ensures.marks (λ e. cc);
+  knows = c.in_ok-play_line.ensures.knows (λ e. cc);
   rests = λ mounted tells r. (c.in_ok-play_line.ensures.kept mounted tells (c.loop-act.invariant.rests mounted tells r)).rests (λ e. cc);
+  first_attached = c.in_ok-play_line.ensures.first_attached ∙ c.loop-act.invariant.first_attached;
+  second_attached = c.in_ok-play_line.ensures.second_attached ∙ c.loop-act.invariant.second_attached;
   first_later = omega (arith, c.loop-act.invariant.first_later, c.in_ok-play_line.ensures.first_later);
   second_later = omega (arith, c.loop-act.invariant.second_later, c.in_ok-play_line.ensures.second_later);
 }
@@ -77,14 +81,14 @@ returns-then-not-is_stopping-clause-kept g c =
 pub returns-then-not-is_stopping-clause-idle : goal.returns-then-not-is_stopping-clause-idle
 returns-then-not-is_stopping-clause-idle g c = λ other. idle_quiet _ _ (quiet_one _ _ _ refl c.halt.ensures) c.loop-act.invariant.idle
 
-pub returns-then-is_stopping-clause-marks : goal.returns-then-is_stopping-clause-marks
-returns-then-is_stopping-clause-marks g c = λ other. c.loop-act.invariant.marks
+pub returns-then-is_stopping-clause-knows : goal.returns-then-is_stopping-clause-knows
+returns-then-is_stopping-clause-knows g c = λ other. c.loop-act.invariant.knows
 
-pub returns-then-not-is_stopping-clause-marks : goal.returns-then-not-is_stopping-clause-marks
-returns-then-not-is_stopping-clause-marks g c = λ other. goes_quiet c.loop-act.store.marks c.loop-act.store.log _ _ (quiet_one _ _ _ refl c.halt.ensures) c.loop-act.invariant.marks
+pub returns-then-not-is_stopping-clause-knows : goal.returns-then-not-is_stopping-clause-knows
+returns-then-not-is_stopping-clause-knows g c = λ other. knows_quiet c.loop-act.store _ _ (quiet_one _ _ _ refl c.halt.ensures) c.loop-act.invariant.knows
 
-pub returns-else-not-is_stopping-clause-marks : goal.returns-else-not-is_stopping-clause-marks
-returns-else-not-is_stopping-clause-marks g c = λ other. c.loop-act.invariant.marks
+pub returns-else-not-is_stopping-clause-knows : goal.returns-else-not-is_stopping-clause-knows
+returns-else-not-is_stopping-clause-knows g c = λ other. c.loop-act.invariant.knows
 
 pub returns-else-not-is_stopping-clause-kept : goal.returns-else-not-is_stopping-clause-kept
 returns-else-not-is_stopping-clause-kept g c = λ mounted tells r. held_resting _ _ _ _ _ _ _ mounted _ _ (c.loop-act.invariant.rests mounted tells r)
@@ -102,3 +106,29 @@ returns-then-not-is_stopping-clause-notes g c = noted_then _ _ _ c.loop-act.inva
 
 pub returns-else-not-is_stopping-clause-notes : goal.returns-else-not-is_stopping-clause-notes
 returns-else-not-is_stopping-clause-notes g c = c.loop-act.invariant.notes
+
+-- the names of the disks
+
+pub returns-in_err-play_line-clause-first_attached : goal.returns-in_err-play_line-clause-first_attached
+returns-in_err-play_line-clause-first_attached g c = c.in_err-play_line.ensures.first_attached ∙ c.loop-act.invariant.first_attached
+
+pub returns-in_err-play_line-clause-second_attached : goal.returns-in_err-play_line-clause-second_attached
+returns-in_err-play_line-clause-second_attached g c = c.in_err-play_line.ensures.second_attached ∙ c.loop-act.invariant.second_attached
+
+pub returns-then-is_stopping-clause-first_attached : goal.returns-then-is_stopping-clause-first_attached
+returns-then-is_stopping-clause-first_attached g c = c.loop-act.invariant.first_attached
+
+pub returns-then-is_stopping-clause-second_attached : goal.returns-then-is_stopping-clause-second_attached
+returns-then-is_stopping-clause-second_attached g c = c.loop-act.invariant.second_attached
+
+pub returns-then-not-is_stopping-clause-first_attached : goal.returns-then-not-is_stopping-clause-first_attached
+returns-then-not-is_stopping-clause-first_attached g c = c.loop-act.invariant.first_attached
+
+pub returns-then-not-is_stopping-clause-second_attached : goal.returns-then-not-is_stopping-clause-second_attached
+returns-then-not-is_stopping-clause-second_attached g c = c.loop-act.invariant.second_attached
+
+pub returns-else-not-is_stopping-clause-first_attached : goal.returns-else-not-is_stopping-clause-first_attached
+returns-else-not-is_stopping-clause-first_attached g c = c.loop-act.invariant.first_attached
+
+pub returns-else-not-is_stopping-clause-second_attached : goal.returns-else-not-is_stopping-clause-second_attached
+returns-else-not-is_stopping-clause-second_attached g c = c.loop-act.invariant.second_attached

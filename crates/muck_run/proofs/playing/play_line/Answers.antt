@@ -3,7 +3,7 @@ use Rattle.spec_live.specs.Connections.{connections_most}
 use Rattle.muck_script.specs.Story.{turns_most}
 use Rattle.spec_dumps.proofs.Quiet.{rests_quiet}
 use Rattle.spec_dumps.proofs.Idle.{idle_quiet}
-use Rattle.muck_dumping.proofs.Marks.{goes_quiet}
+use Rattle.muck_dumping.proofs.Knowing.{knows_quiet}
 use Rattle.muck_run.proofs.Lining.{line_breaks, line_breaks_dumping, line_serves, held_quiet}
 use Rattle.muck_run.proofs.Opening.{opens_plays, opens_if, turned_within, asked_within, served_within}
 use Rattle.muck_run.proofs.Noted.{noted_quiet, noted_then}
@@ -21,8 +21,8 @@ pub make_asked-requires-clause-mounted : goal.make_asked-requires-clause-mounted
 make_asked-requires-clause-mounted g c =
     λ tells. let r = c.requires.mounted tells in (r.0, rests_quiet _ _ _ _ _ _ _ r.0 _ _ c.in_ok-act_and_turn.ensures.quiet r.1)
 
-pub make_asked-requires-clause-marks : goal.make_asked-requires-clause-marks
-make_asked-requires-clause-marks g c = goes_quiet c.args.store.now.marks c.args.store.now.log _ _ c.in_ok-act_and_turn.ensures.quiet c.requires.marks
+pub make_asked-requires-clause-knows : goal.make_asked-requires-clause-knows
+make_asked-requires-clause-knows g c = knows_quiet c.args.store.now _ _ c.in_ok-act_and_turn.ensures.quiet c.requires.knows
 
 pub serve_all-requires-clause-alive : goal.serve_all-requires-clause-alive
 serve_all-requires-clause-alive g c = (c.in_ok-make_asked.ensures.plays None).alive
@@ -42,8 +42,8 @@ returns-in_err-act_and_turn-clause-plays g c =
 pub returns-in_err-act_and_turn-clause-idle : goal.returns-in_err-act_and_turn-clause-idle
 returns-in_err-act_and_turn-clause-idle g c = λ other. idle_quiet _ _ c.in_err-act_and_turn.ensures.quiet c.requires.idle
 
-pub returns-in_err-act_and_turn-clause-marks : goal.returns-in_err-act_and_turn-clause-marks
-returns-in_err-act_and_turn-clause-marks g c = λ other. goes_quiet c.args.store.now.marks c.args.store.now.log _ _ c.in_err-act_and_turn.ensures.quiet c.requires.marks
+pub returns-in_err-act_and_turn-clause-knows : goal.returns-in_err-act_and_turn-clause-knows
+returns-in_err-act_and_turn-clause-knows g c = λ other. knows_quiet c.args.store.now _ _ c.in_err-act_and_turn.ensures.quiet c.requires.knows
 
 pub returns-in_err-act_and_turn-clause-kept : goal.returns-in_err-act_and_turn-clause-kept
 returns-in_err-act_and_turn-clause-kept g c =
@@ -66,8 +66,8 @@ returns-in_err-make_asked-clause-idle g c =
     let err : c.from_residual-in_err-make_asked.result ≡ Err c.in_err-make_asked.field-0.0 = search rules in
     λ other. absurd (other (err ∙ c.in_err-make_asked.ensures.memory))
 
-pub returns-in_err-make_asked-clause-marks : goal.returns-in_err-make_asked-clause-marks
-returns-in_err-make_asked-clause-marks g c =
+pub returns-in_err-make_asked-clause-knows : goal.returns-in_err-make_asked-clause-knows
+returns-in_err-make_asked-clause-knows g c =
     let err : c.from_residual-in_err-make_asked.result ≡ Err c.in_err-make_asked.field-0.0 = search rules in
     λ other. absurd (other (err ∙ c.in_err-make_asked.ensures.memory))
 
@@ -85,8 +85,8 @@ returns-clause-plays g c =
 pub returns-clause-idle : goal.returns-clause-idle
 returns-clause-idle g c = λ other. idle_quiet _ _ c.serve_all.ensures.quiet c.in_ok-make_asked.ensures.idle
 
-pub returns-clause-marks : goal.returns-clause-marks
-returns-clause-marks g c = λ other. goes_quiet c.make_asked.new.store.marks c.make_asked.new.store.log _ _ c.serve_all.ensures.quiet c.in_ok-make_asked.ensures.marks
+pub returns-clause-knows : goal.returns-clause-knows
+returns-clause-knows g c = λ other. knows_quiet c.make_asked.new.store _ _ c.serve_all.ensures.quiet c.in_ok-make_asked.ensures.knows
 
 pub returns-clause-kept : goal.returns-clause-kept
 returns-clause-kept g c =

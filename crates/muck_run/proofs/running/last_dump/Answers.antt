@@ -18,7 +18,7 @@ returns-in-Ok-Some-clause-outcome g c = subst (ComesOutAs _ _) (sym c.why_of.ens
 
 pub returns-in-Ok-Some-clause-kept : goal.returns-in-Ok-Some-clause-kept
 returns-in-Ok-Some-clause-kept g c = λ mounted tells r.
-    subst (LastKept _ _ _ _ _ _) (sym c.why_of.ensures) (kept_failed _ _ _ _ _ _ _ _ _ c.in-Ok-Some.field-0 c.in-Ok-Some.fault c.in-Ok-Some.field-0-is (c.in-Ok-Some.ensures.kept mounted tells r))
+    subst (LastKept _ _ _ _ _ _ _ _) (sym c.why_of.ensures) (kept_failed _ _ _ _ _ _ _ _ _ c.in-Ok-Some.field-0 c.in-Ok-Some.fault c.in-Ok-Some.field-0-is (c.in-Ok-Some.ensures.kept mounted tells r))
 
 pub returns-in-Ok-Some-clause-why : goal.returns-in-Ok-Some-clause-why
 returns-in-Ok-Some-clause-why g c =

@@ -59,7 +59,8 @@ pub returns-in-Ok-read_script-clause-history : goal.returns-in-Ok-read_script-cl
 returns-in-Ok-read_script-clause-history g c = elim c.run_acts.ensures.ends [
   | inl never ↦ wanted_ends _ _ _ never.wanted (never_begun _ _ _ _ _ _ _ _ _ _ _ _ _ _ c.in-Ok.ensures.first_file c.in-Ok.ensures.second_file never)
   | inr played ↦ began_ends g.D.Disk.tells _ _ _ c.run_acts.ensures.why
-      (has_begun _ _ _ _ _ _ _ _ _ _ _ _ _ _ _ _ _ _ _ _ _ _ _ _ _ c.in-Ok.ensures.log c.in-Ok.ensures.fine c.in-Ok.ensures.first_name c.in-Ok.ensures.second_name c.in-Ok.ensures.first_file c.in-Ok.ensures.second_file (subst (HasRead _ _ _ _) (sym c.as_slice.ensures) c.in-Ok-read_script.ensures.read) played)
+      (has_begun _ _ _ _ _ _ _ _ _ _ _ _ _ _ _ _ _ _ _ _ _ _ _ _ _ _ c.in-Ok.ensures.log c.in-Ok.ensures.fine c.in-Ok.ensures.first_name c.in-Ok.ensures.second_name c.run_acts.ensures.first_attached c.run_acts.ensures.second_attached
+      c.in-Ok.ensures.first_file c.in-Ok.ensures.second_file c.in-Ok.ensures.first_later c.in-Ok.ensures.second_later (subst (HasRead _ _ _ _) (sym c.as_slice.ensures) c.in-Ok-read_script.ensures.read) played)
 ]
 
 pub returns-in-Err-clause-loads : goal.returns-in-Err-clause-loads

@@ -1,7 +1,7 @@
 use Rattle.std.proofs.Common.{inr, refl, ap, Err}
 use Rattle.spec_dumps.proofs.Idle.{idle_quiet}
 use Rattle.spec_dumps.proofs.Quiet.{rests_quiet}
-use Rattle.muck_dumping.proofs.Marks.{unmarked_holds, goes_quiet}
+use Rattle.muck_dumping.proofs.Knowing.{knows_new, knows_quiet}
 use Rattle.muck_run.proofs.Called.{dump_may, not_write, either_since}
 use Rattle.muck_run.proofs.Closing.{halted_lives}
 use Rattle.muck_run.proofs.Noted.{noted_then, noted_quiet}
@@ -25,15 +25,15 @@ play-requires-clause-opened g c = begins_opens 0 c.args.log _ _ c.in-Ok.ensures.
 pub play-requires-clause-mounted : goal.play-requires-clause-mounted
 play-requires-clause-mounted g c = λ tells. (c.args.log.chosen.held.number, rests_started 0 _ _ _ _ _ _ _ (bootable _ c.requires.fine) c.in-Ok.ensures.properties (c.requires.mounted tells) _ _ c.new-store.ensures.log c.in-Ok.ensures.world)
 
-pub play-requires-clause-marks : goal.play-requires-clause-marks
-play-requires-clause-marks g c = unmarked_holds c.new-store.result.marks c.new-store.result.log _ c.new-store.ensures.marks
+pub play-requires-clause-knows : goal.play-requires-clause-knows
+play-requires-clause-knows g c = knows_new c.new-store.result c.args.log _ c.new-store.ensures.log c.new-store.ensures.marks
 
-pub last_dump-why-requires-clause-marks : goal.last_dump-why-requires-clause-marks
-last_dump-why-requires-clause-marks g c = c.in-Ok-play.ensures.marks (λ e. cc)
+pub last_dump-why-requires-clause-knows : goal.last_dump-why-requires-clause-knows
+last_dump-why-requires-clause-knows g c = c.in-Ok-play.ensures.knows (λ e. cc)
 
-pub last_dump-requires-clause-marks : goal.last_dump-requires-clause-marks
-last_dump-requires-clause-marks g c =
-    goes_quiet c.play.new.store.marks c.play.new.store.log _ _ c.stop.ensures.quiet (c.in-Err-WriteFault.ensures.marks (λ e. let is = c.in-Err-WriteFault.field-0-is in cc))
+pub last_dump-requires-clause-knows : goal.last_dump-requires-clause-knows
+last_dump-requires-clause-knows g c =
+    knows_quiet c.play.new.store _ _ c.stop.ensures.quiet (c.in-Err-WriteFault.ensures.knows (λ e. let is = c.in-Err-WriteFault.field-0-is in cc))
 
 pub last_dump-why-requires-clause-alive : goal.last_dump-why-requires-clause-alive
 last_dump-why-requires-clause-alive g c = c.in-Ok-play.ensures.plays.alive
@@ -46,7 +46,7 @@ last_dump-why-requires-clause-mounted g c = λ tells.
 pub returns-in-Ok-play-clause-ends : goal.returns-in-Ok-play-clause-ends
 returns-in-Ok-play-clause-ends g c =
     inr (
-    played _ _ _ _ _ _ _ _ _ c.in-Ok.ensures.world _ _ _ _ _ _ (refl, refl) _ _ _ _ _ c.in-Ok-play.ensures.plays c.in-Ok-play.ensures.fine c.last_dump-why.ensures.why c.last_dump-why.ensures.plays c.last_dump-why.ensures.outcome c.last_dump-why.ensures.last
+    played _ _ _ _ _ _ _ _ _ _ _ c.in-Ok.ensures.world _ _ _ _ _ _ (record { first_moment = refl; second_moment = refl; first_faults = refl; second_faults = refl }) _ _ _ _ _ c.in-Ok-play.ensures.plays c.in-Ok-play.ensures.fine c.last_dump-why.ensures.why c.last_dump-why.ensures.plays c.last_dump-why.ensures.outcome c.last_dump-why.ensures.last
     (noted_then _ _ _ c.in-Ok-play.ensures.notes c.last_dump-why.ensures.notes)
     (λ tells.
     let start = rests_started 0 _ _ _ _ _ _ _ (bootable _ c.requires.fine) c.in-Ok.ensures.properties (c.requires.mounted tells) _ _ c.new-store.ensures.log c.in-Ok.ensures.world in
@@ -66,7 +66,7 @@ returns-in-Ok-play-clause-cause g c = λ e. either_since _ _ _ _ _ _ c.in-Ok-pla
 pub returns-in-Err-NoMemory-clause-ends : goal.returns-in-Err-NoMemory-clause-ends
 returns-in-Err-NoMemory-clause-ends g c =
     inr (
-    died _ _ _ _ _ _ _ _ _ c.in-Ok.ensures.world _ _ _ _ _ _ (refl, refl) _ _ _ (broke_by _ _ _ _ _ _ _ c.in-Err-NoMemory.field-0-is c.in-Err-NoMemory.ensures.plays) (c.in-Err-NoMemory.ensures.memory (ap Err c.in-Err-NoMemory.field-0-is))
+    died _ _ _ _ _ _ _ _ _ _ _ c.in-Ok.ensures.world _ _ _ _ _ _ (record { first_moment = refl; second_moment = refl; first_faults = refl; second_faults = refl }) _ _ _ (broke_by _ _ _ _ _ _ _ c.in-Err-NoMemory.field-0-is c.in-Err-NoMemory.ensures.plays) (c.in-Err-NoMemory.ensures.memory (ap Err c.in-Err-NoMemory.field-0-is))
     c.in-Err-NoMemory.ensures.notes
     (λ tells.
     let start = rests_started 0 _ _ _ _ _ _ _ (bootable _ c.requires.fine) c.in-Ok.ensures.properties (c.requires.mounted tells) _ _ c.new-store.ensures.log c.in-Ok.ensures.world in
@@ -92,7 +92,7 @@ last_dump-requires-clause-mounted g c = λ tells.
 pub returns-clause-ends : goal.returns-clause-ends
 returns-clause-ends g c =
     inr (
-    broke _ _ _ _ _ _ _ _ _ c.in-Ok.ensures.world _ _ _ _ _ _ (refl, refl) _ _ _ _ _ (broke_by _ _ _ _ _ _ _ c.in-Err-WriteFault.field-0-is c.in-Err-WriteFault.ensures.plays) (c.in-Err-WriteFault.ensures.write (ap Err c.in-Err-WriteFault.field-0-is))
+    broke _ _ _ _ _ _ _ _ _ _ _ c.in-Ok.ensures.world _ _ _ _ _ _ (record { first_moment = refl; second_moment = refl; first_faults = refl; second_faults = refl }) _ _ _ _ _ (broke_by _ _ _ _ _ _ _ c.in-Err-WriteFault.field-0-is c.in-Err-WriteFault.ensures.plays) (c.in-Err-WriteFault.ensures.write (ap Err c.in-Err-WriteFault.field-0-is))
     c.stop.ensures.halts c.last_dump.ensures.last
     (noted_then _ _ _ c.in-Err-WriteFault.ensures.notes (noted_then _ _ _ (noted_quiet _ _ c.stop.ensures.quiet) c.last_dump.ensures.notes))
     (λ tells.

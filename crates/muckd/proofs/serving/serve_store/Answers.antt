@@ -1,7 +1,8 @@
-use Rattle.std.proofs.Common.{refl, sym, ◌∙◌}
+use Rattle.std.proofs.Common.{inl, inr, refl, sym, ap, ◌∙◌}
 use Rattle.muck_run.specs.inner.Dumps.{note_of}
 use Rattle.muck_run.specs.inner.Ends.{unbegun_at}
 use Rattle.muckd.proofs.Served.{fresh_begun, start_begun, ready_begun, server_ends, disk_failed, not_damaged}
+use Rattle.muck_run.proofs.Called.{holds_still}
 use Rattle.muck_run.proofs.Started.{bootable}
 use Rattle.muckd.proofs.serving.serve_store.Goals as goal
 
@@ -16,14 +17,41 @@ pub serve-why-requires-clause-mounted : goal.serve-why-requires-clause-mounted
 serve-why-requires-clause-mounted g c κs within = λ tells.
     (c.in-Ok.log.chosen.held.number, ready_begun c.now-began.result g.D.Disk.seen g.D.Disk.moment g.D.Disk.images g.D.Disk.faults c.in-Ok.log c.mount.new.first c.mount.new.second (bootable c.in-Ok.log.chosen.held.world c.in-Ok.ensures.fine) c.in-Ok-awake.ensures.properties (c.in-Ok.ensures.log tells) c.in-Ok-awake.world c.in-Ok-awake.ensures.world)
 
+-- memory was wanted for the world, behind the clock's second
+
+pub returns-in_default-clause-served : goal.returns-in_default-clause-served
+returns-in_default-clause-served g c =
+    inl (record {
+      empty = ap (λ t. t.entries) c.none-in_default.ensures;
+      unnoted = ap (λ t. t.counted) c.none-in_default.ensures;
+      nobody = λ shows. refl;
+      ports = λ shows. inl refl;
+      clock = inr (c.now-began.result, c.now-began.ensures, λ tells. (c.in-Ok.log.chosen, holds_still _ _ _ _ _ _ _ (c.in-Ok.ensures.first_file tells) (c.in-Ok.ensures.second_file tells) _ (c.in-Ok.ensures.log tells).mounted.load));
+      first_file = c.in-Ok.ensures.first_file;
+      second_file = c.in-Ok.ensures.second_file;
+    })
+
 pub returns-clause-served : goal.returns-clause-served
 returns-clause-served g c =
     let note = note_of g.D.Disk.moment g.D.Disk.faults c.mount.new.first c.mount.new.second (unbegun_at c.now-began.result c.in-Ok.log) in
     let boots = bootable c.in-Ok.log.chosen.held.world c.in-Ok.ensures.fine in
     server_ends (g.L.Links.tells c.args.links.now) g.L.Links.told g.L.Links.listening g.C.Clock.answers g.D.Disk.tells g.D.Disk.attached g.D.Disk.seen g.D.Disk.moment g.D.Disk.images g.D.Disk.faults c.args.store.now c.args.port c.args.workers
     c.in-Ok.log c.now-began.result note c.serve-why.result.0 c.args.links.now c.serve-why.new.links c.args.clock.now c.now-began.new.self c.serve-why.new.clock c.args.first.now c.args.second.now c.mount.new.first c.mount.new.second c.serve-why.new.first c.serve-why.new.second
-    c.serve-why.result.1.entries c.serve-why.result.1.notes
-    c.in-Ok.ensures.log c.in-Ok.ensures.fine c.in-Ok.ensures.first_name c.in-Ok.ensures.second_name c.in-Ok.ensures.first_file c.in-Ok.ensures.second_file c.now-began.ensures (refl, refl)
+    c.serve-why.result.1.entries c.serve-why.result.1.notes c.serve-why.result.1.counted
+    (record {
+      mounted = c.in-Ok.ensures.log;
+      fine = c.in-Ok.ensures.fine;
+      first_name = c.in-Ok.ensures.first_name;
+      second_name = c.in-Ok.ensures.second_name;
+      first_still = c.serve-why.ensures.first_attached;
+      second_still = c.serve-why.ensures.second_attached;
+      first_file = c.in-Ok.ensures.first_file;
+      second_file = c.in-Ok.ensures.second_file;
+      first_later = c.in-Ok.ensures.first_later;
+      second_later = c.in-Ok.ensures.second_later;
+      clock = c.now-began.ensures;
+      note = record { first_moment = refl; second_moment = refl; first_faults = refl; second_faults = refl };
+    })
     c.in-Ok-awake.world.start (start_begun c.now-began.result c.in-Ok.log note c.in-Ok-awake.world c.in-Ok-awake.ensures.world)
     (c.serve-why.ensures.served c.in-Ok.log.chosen.held.number note (fresh_begun c.now-began.result c.in-Ok.log note c.in-Ok-awake.world c.in-Ok-awake.ensures.world)
     (λ tells. ready_begun c.now-began.result g.D.Disk.seen g.D.Disk.moment g.D.Disk.images g.D.Disk.faults c.in-Ok.log c.mount.new.first c.mount.new.second boots c.in-Ok-awake.ensures.properties (c.in-Ok.ensures.log tells) c.in-Ok-awake.world c.in-Ok-awake.ensures.world))
@@ -33,7 +61,7 @@ pub returns-clause-disk_fault : goal.returns-clause-disk_fault
 returns-clause-disk_fault g c = λ e.
     let note = note_of g.D.Disk.moment g.D.Disk.faults c.mount.new.first c.mount.new.second (unbegun_at c.now-began.result c.in-Ok.log) in
     let boots = bootable c.in-Ok.log.chosen.held.world c.in-Ok.ensures.fine in
-    disk_failed _ _ _ _ _ _ _ _ _ _ _ _ _ _ _ _ _ _ _
+    disk_failed _ _ _ _ _ _ _ _ _ _ _ _ _ _ _ _ _ _ _ _ _
     (c.serve-why.ensures.served c.in-Ok.log.chosen.held.number note (fresh_begun c.now-began.result c.in-Ok.log note c.in-Ok-awake.world c.in-Ok-awake.ensures.world)
     (λ tells. ready_begun c.now-began.result g.D.Disk.seen g.D.Disk.moment g.D.Disk.images g.D.Disk.faults c.in-Ok.log c.mount.new.first c.mount.new.second boots c.in-Ok-awake.ensures.properties (c.in-Ok.ensures.log tells) c.in-Ok-awake.world c.in-Ok-awake.ensures.world))
     _ _ c.in-Ok.ensures.first_later c.in-Ok.ensures.second_later (sym c.why_served.ensures ∙ e)
@@ -43,7 +71,7 @@ returns-clause-damaged g c = λ file at tells e.
     let note = note_of g.D.Disk.moment g.D.Disk.faults c.mount.new.first c.mount.new.second (unbegun_at c.now-began.result c.in-Ok.log) in
     let boots = bootable c.in-Ok.log.chosen.held.world c.in-Ok.ensures.fine in
     absurd
-    (not_damaged _ _ _ _ _ _ _ _ _ _ _ _ _ _ _ _ _ _ _
+    (not_damaged _ _ _ _ _ _ _ _ _ _ _ _ _ _ _ _ _ _ _ _ _
     (c.serve-why.ensures.served c.in-Ok.log.chosen.held.number note (fresh_begun c.now-began.result c.in-Ok.log note c.in-Ok-awake.world c.in-Ok-awake.ensures.world)
     (λ tells. ready_begun c.now-began.result g.D.Disk.seen g.D.Disk.moment g.D.Disk.images g.D.Disk.faults c.in-Ok.log c.mount.new.first c.mount.new.second boots c.in-Ok-awake.ensures.properties (c.in-Ok.ensures.log tells) c.in-Ok-awake.world c.in-Ok-awake.ensures.world))
     file at tells (sym c.why_served.ensures ∙ e))

@@ -1,6 +1,6 @@
 use Rattle.std.proofs.Common.{inl, inr, sym, ap, ◌∙◌}
 use Rattle.muckd.specs.Words.{is_scripted}
-use Rattle.muckd.proofs.Called.{completes}
+use Rattle.muckd.proofs.Called.{completes, ends_full}
 use Rattle.muckd.proofs.top.by_script.Goals as goal
 
 pub returns-clause-drill : goal.returns-clause-drill
@@ -15,4 +15,4 @@ returns-clause-complete g c = λ store s is tells ok grammar source sink first s
       | inl rose ↦ first rose
       | inr rose ↦ second rose
     ])
-    (λ file at e. c.obey-why.ensures.damaged file at tells e) ok grammar
+    (λ file at e. c.obey-why.ensures.damaged file at tells e) ok grammar _ (ends_full _ _ _ _ _ _ _ _ _ _ _ _ _ _ _ _ _ _ _ _ _ _ tells)

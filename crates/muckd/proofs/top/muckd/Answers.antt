@@ -1,7 +1,7 @@
 use Rattle.std.proofs.Common.{inl, inr, sym, subst, map, ◌∙◌}
 use Rattle.std.specs.Prelude.{string_bytes}
 use Rattle.muckd.specs.Words.{command_of}
-use Rattle.muckd.proofs.Served.{listening_failed, serves_all, MayScript, ends_scripted, drilled_scripted, scripted_may}
+use Rattle.muckd.proofs.Served.{listening_failed, served_full, serves_all, MayScript, ends_scripted, drilled_scripted, scripted_may}
 use Rattle.muckd.proofs.top.muckd.Goals as goal
 
 pub returns-in-Some-Serve-clause-complete_serve : goal.returns-in-Some-Serve-clause-complete_serve
@@ -11,10 +11,9 @@ returns-in-Some-Serve-clause-complete_serve g c = λ s served tells ok listen fi
       | inl rose ↦ first rose
       | inr rose ↦ second rose
     ])
-    (λ e. listen (listening_failed (g.L.Links.tells c.args.links.now) g.L.Links.told g.L.Links.listening g.C.Clock.answers g.D.Disk.tells g.D.Disk.attached g.D.Disk.seen g.D.Disk.moment g.D.Disk.images c.in-Some-Serve.store.now c.in-Some-Serve.port c.in-Some-Serve.workers
-    c.serve_store-why.result.0 c.args.links.now c.serve_store-why.new.links c.args.clock.now c.serve_store-why.new.clock c.args.first.now c.args.second.now c.serve_store-why.new.first c.serve_store-why.new.second
-    c.serve_store-why.result.1.entries c.serve_store-why.result.1.notes _ c.serve_store-why.ensures.served e))
+    (λ e. listen (listening_failed _ _ _ _ _ _ _ _ _ _ _ _ _ _ _ _ _ _ _ _ _ _ _ _ _ _ c.serve_store-why.ensures.served e))
     (λ file at e. let both = sym ok ∙ c.serve_store-why.ensures.damaged file at tells e in cc)
+    _ (λ end more e served. served_full _ _ _ _ _ _ _ _ _ _ _ _ _ _ _ _ _ _ _ _ _ _ _ _ _ (Unit {0}) tells end more e served)
 
 pub returns-in-Some-Run-clause-listen_fault : goal.returns-in-Some-Run-clause-listen_fault
 returns-in-Some-Run-clause-listen_fault g c = λ e.

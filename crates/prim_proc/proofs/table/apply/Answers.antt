@@ -7,6 +7,7 @@ use Rattle.muck_perm.specs.inner.Guards.{world_of}
 use Rattle.muck_queue.specs.Queues.{process}
 use Rattle.prim_proc.specs.inner.Plans.{items_of}
 use Rattle.prim_proc.proofs.Begun.{Started, alone, refused_so, untested_so, unplanned_so, unroomed_so, carried_so, all_taken, there_so}
+use Rattle.prim_proc.proofs.Licences.{used_licensed, used_processes}
 use Rattle.prim_proc.proofs.table.apply.Goals as goal
 
 pub returns-in_default-clause-row : goal.returns-in_default-clause-row
@@ -73,3 +74,33 @@ returns-clause-row c =
 
 pub returns-clause-there : goal.returns-clause-there
 returns-clause-there c = there_so c.args.prim c.requires
+
+pub returns-in_default-clause-licensed : goal.returns-in_default-clause-licensed
+returns-in_default-clause-licensed c = used_licensed c.args.frame.now c.args.frame.now c.args.guard.now c.args.guard.now c.args.queue.now c.args.queue.now c.args.prim c.args.place _ (returns-in_default-clause-row c)
+
+pub returns-in_err-taken-clause-licensed : goal.returns-in_err-taken-clause-licensed
+returns-in_err-taken-clause-licensed c = used_licensed c.args.frame.now c.args.frame.now c.args.guard.now c.args.guard.now c.args.queue.now c.args.queue.now c.args.prim c.args.place _ (returns-in_err-taken-clause-row c)
+
+pub returns-in_err-plan-clause-licensed : goal.returns-in_err-plan-clause-licensed
+returns-in_err-plan-clause-licensed c = used_licensed c.args.frame.now c.args.frame.now c.args.guard.now c.args.guard.now c.args.queue.now c.args.queue.now c.args.prim c.args.place _ (returns-in_err-plan-clause-row c)
+
+pub returns-in_err-test_room-clause-licensed : goal.returns-in_err-test_room-clause-licensed
+returns-in_err-test_room-clause-licensed c = used_licensed c.args.frame.now c.args.frame.now c.args.guard.now c.args.guard.now c.args.queue.now c.args.queue.now c.args.prim c.args.place _ (returns-in_err-test_room-clause-row c)
+
+pub returns-clause-licensed : goal.returns-clause-licensed
+returns-clause-licensed c = used_licensed c.args.frame.now c.carry_out.new.frame c.args.guard.now c.carry_out.new.guard c.args.queue.now c.carry_out.new.queue c.args.prim c.args.place _ (returns-clause-row c)
+
+pub returns-in_default-clause-processes : goal.returns-in_default-clause-processes
+returns-in_default-clause-processes c = used_processes c.args.frame.now c.args.frame.now c.args.guard.now c.args.guard.now c.args.queue.now c.args.queue.now c.args.prim c.args.place _ (returns-in_default-clause-row c)
+
+pub returns-in_err-taken-clause-processes : goal.returns-in_err-taken-clause-processes
+returns-in_err-taken-clause-processes c = used_processes c.args.frame.now c.args.frame.now c.args.guard.now c.args.guard.now c.args.queue.now c.args.queue.now c.args.prim c.args.place _ (returns-in_err-taken-clause-row c)
+
+pub returns-in_err-plan-clause-processes : goal.returns-in_err-plan-clause-processes
+returns-in_err-plan-clause-processes c = used_processes c.args.frame.now c.args.frame.now c.args.guard.now c.args.guard.now c.args.queue.now c.args.queue.now c.args.prim c.args.place _ (returns-in_err-plan-clause-row c)
+
+pub returns-in_err-test_room-clause-processes : goal.returns-in_err-test_room-clause-processes
+returns-in_err-test_room-clause-processes c = used_processes c.args.frame.now c.args.frame.now c.args.guard.now c.args.guard.now c.args.queue.now c.args.queue.now c.args.prim c.args.place _ (returns-in_err-test_room-clause-row c)
+
+pub returns-clause-processes : goal.returns-clause-processes
+returns-clause-processes c = used_processes c.args.frame.now c.carry_out.new.frame c.args.guard.now c.carry_out.new.guard c.args.queue.now c.carry_out.new.queue c.args.prim c.args.place _ (returns-clause-row c)

@@ -1,8 +1,10 @@
-use Rattle.std.proofs.Common.{rules, ◌≡◌, Ok, Err}
+use Rattle.std.proofs.Common.{rules, ◌≡◌, None, Ok, Err}
 use Rattle.muf_frame.specs.declared.fault.PrimFault.TheVariants.{Fault}
 use Rattle.muf_frame.specs.inner.Shown.{flat, locked_by}
 use Rattle.muck_perm.specs.inner.Guards.{world_of}
 use Rattle.prim_common.proofs.Applying.{refused_so, made_fault, applied_given, applied_full}
+use Rattle.prim_common.proofs.Licences.{used_licensed}
+use Rattle.prim_prop.proofs.Notes.{formula_notes}
 use Rattle.prim_prop.proofs.Behind.{refused_first, row_first, row_fits}
 use Rattle.prim_prop.proofs.table.apply.Goals as goal
 
@@ -52,3 +54,27 @@ returns-clause-row c = λ descr.
     let was : c.give.result ≡ Ok c.in_ok-give.field-0 = search rules in
     let row = row_first c.args.prim g.actor descr (locked_by f.marks) f.stack (world_of g) c.ready.result c.requires c.ready.ensures.pass n passed c.in_ok-taken.ensures.count in
     applied_given _ _ n c.args.frame.now c.give.new.frame g c.made.new.guard c.in_ok-made.made c.made.result c.give.result c.in_ok-give.field-0 row c.made.ensures made c.give.ensures was
+
+pub returns-in_err-taken-clause-licensed : goal.returns-in_err-taken-clause-licensed
+returns-in_err-taken-clause-licensed c = used_licensed c.args.frame.now c.args.frame.now c.args.guard.now c.args.guard.now c.args.prim None _ (returns-in_err-taken-clause-row c None)
+
+pub returns-in_err-made-clause-licensed : goal.returns-in_err-made-clause-licensed
+returns-in_err-made-clause-licensed c = used_licensed c.args.frame.now c.args.frame.now c.args.guard.now c.made.new.guard c.args.prim None _ (returns-in_err-made-clause-row c None)
+
+pub returns-in_err-give-clause-licensed : goal.returns-in_err-give-clause-licensed
+returns-in_err-give-clause-licensed c = used_licensed c.args.frame.now c.give.new.frame c.args.guard.now c.made.new.guard c.args.prim None _ (returns-in_err-give-clause-row c None)
+
+pub returns-clause-licensed : goal.returns-clause-licensed
+returns-clause-licensed c = used_licensed c.args.frame.now c.give.new.frame c.args.guard.now c.made.new.guard c.args.prim None (Ok tt) (returns-clause-row c None)
+
+pub returns-in_err-taken-clause-notes : goal.returns-in_err-taken-clause-notes
+returns-in_err-taken-clause-notes c = formula_notes c.args.frame.now c.args.frame.now c.args.guard.now c.args.guard.now c.args.prim None _ (returns-in_err-taken-clause-row c None)
+
+pub returns-in_err-made-clause-notes : goal.returns-in_err-made-clause-notes
+returns-in_err-made-clause-notes c = formula_notes c.args.frame.now c.args.frame.now c.args.guard.now c.made.new.guard c.args.prim None _ (returns-in_err-made-clause-row c None)
+
+pub returns-in_err-give-clause-notes : goal.returns-in_err-give-clause-notes
+returns-in_err-give-clause-notes c = formula_notes c.args.frame.now c.give.new.frame c.args.guard.now c.made.new.guard c.args.prim None _ (returns-in_err-give-clause-row c None)
+
+pub returns-clause-notes : goal.returns-clause-notes
+returns-clause-notes c = formula_notes c.args.frame.now c.give.new.frame c.args.guard.now c.made.new.guard c.args.prim None (Ok tt) (returns-clause-row c None)

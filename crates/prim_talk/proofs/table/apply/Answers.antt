@@ -3,7 +3,8 @@ use Rattle.muf_frame.specs.declared.fault.PrimFault.TheVariants.{Fault}
 use Rattle.muf_frame.specs.inner.Shown.{flat, locked_by}
 use Rattle.muck_perm.specs.inner.Guards.{world_of}
 use Rattle.prim_common.proofs.Applying.{refused_so, made_fault, applied_given, applied_full}
-use Rattle.prim_talk.proofs.Talking.{refused_first, row_first, row_fits}
+use Rattle.prim_common.proofs.Licences.{actor_licensed}
+use Rattle.prim_talk.proofs.Talking.{no_formula, refused_first, row_first, row_fits}
 use Rattle.prim_talk.proofs.table.apply.Goals as goal
 
 pub returns-in_err-taken-clause-row : goal.returns-in_err-taken-clause-row
@@ -52,3 +53,15 @@ returns-clause-row c =
     let was : c.give.result ≡ Ok c.in_ok-give.field-0 = search rules in
     let row = row_first c.args.prim g.actor c.args.descr (locked_by f.marks) f.stack (world_of g) c.argued-argued.result c.ready.result c.requires c.argued-argued.ensures c.ready.ensures.pass n passed c.in_ok-taken.ensures.count in
     applied_given _ _ n c.args.frame.now c.give.new.frame g c.made.new.guard c.in_ok-made.made c.made.result c.give.result c.in_ok-give.field-0 row c.made.ensures made c.give.ensures was
+
+pub returns-in_err-taken-clause-licensed : goal.returns-in_err-taken-clause-licensed
+returns-in_err-taken-clause-licensed c = actor_licensed c.args.frame.now c.args.frame.now c.args.guard.now c.args.guard.now c.args.prim c.args.descr _ (returns-in_err-taken-clause-row c) (no_formula c.args.prim c.requires)
+
+pub returns-in_err-made-clause-licensed : goal.returns-in_err-made-clause-licensed
+returns-in_err-made-clause-licensed c = actor_licensed c.args.frame.now c.args.frame.now c.args.guard.now c.made.new.guard c.args.prim c.args.descr _ (returns-in_err-made-clause-row c) (no_formula c.args.prim c.requires)
+
+pub returns-in_err-give-clause-licensed : goal.returns-in_err-give-clause-licensed
+returns-in_err-give-clause-licensed c = actor_licensed c.args.frame.now c.give.new.frame c.args.guard.now c.made.new.guard c.args.prim c.args.descr _ (returns-in_err-give-clause-row c) (no_formula c.args.prim c.requires)
+
+pub returns-clause-licensed : goal.returns-clause-licensed
+returns-clause-licensed c = actor_licensed c.args.frame.now c.give.new.frame c.args.guard.now c.made.new.guard c.args.prim c.args.descr (Ok tt) (returns-clause-row c) (no_formula c.args.prim c.requires)

@@ -1,4 +1,4 @@
-use Rattle.std.proofs.Common.{◌≡◌, ◌<◌, ◌≤◌, ℕ, true, length, Some, Ok, Err, refl, ap, subst, arith}
+use Rattle.std.proofs.Common.{◌≡◌, ◌<◌, ◌≤◌, ℕ, true, length, Some, Ok, Err, refl, sym, ap, ◌∙◌, subst, arith}
 use Rattle.muck_log.specs.World.{World}
 use Rattle.muck_log.specs.Store.{LogState}
 use Rattle.muck_log.specs.Append.{base_of, payload_of}
@@ -10,6 +10,7 @@ use Rattle.muck_dumping.proofs.Appending.{appended_ok, appended_err}
 use Rattle.muck_dumping.proofs.Fitting.{makes_world, has_few, has_lines}
 use Rattle.muck_dumping.proofs.Marks.{unmounted_holds, appended_holds}
 use Rattle.muck_dumping.proofs.Mounting.{one_log}
+use Rattle.muck_dumping.proofs.Knowing.{next_mounted, next_unmounted}
 use Rattle.muck_dumping.proofs.store.Store.append.Goals as goal
 
 too_many : (n size count : ℕ) → size ≡ count → size < n → n ≤ count → ⊥
@@ -41,20 +42,31 @@ returns-then-not-is_of_world-clause-wrote g c = λ log es tune tells is left tun
     let same : n ≡ length log.chosen.held.world.objects = ap (λ (l : LogState). length l.chosen.held.world.objects) (one_log c.args.self.now.log c.in-Some.log log c.in-Some.is is) in
     absurd (too_many n c.args.pending.now.size (length es) count (c.is_of_world.ensures.more c.if-not-is_of_world.true) (omega (arith, same, covers)))
 
+-- the next dump has the number of this one, where it failed
+
+pub returns-in_default-clause-number : goal.returns-in_default-clause-number
+returns-in_default-clause-number g c = sym (next_unmounted c.args.self.now c.in_default.is)
+
+pub returns-then-not-is_of_world-clause-number : goal.returns-then-not-is_of_world-clause-number
+returns-then-not-is_of_world-clause-number g c = c.close.ensures.number ∙ c.next-number.ensures ∙ sym (next_mounted c.args.self.now c.in-Some.log c.in-Some.is)
+
+pub returns-in-Err-clause-number : goal.returns-in-Err-clause-number
+returns-in-Err-clause-number g c = c.close-in-Err.ensures.number ∙ c.next-number.ensures ∙ sym (next_mounted c.args.self.now c.in-Some.log c.in-Some.is)
+
 -- it goes by marks where the batch was written
 
 pub returns-in_default-clause-marks : goal.returns-in_default-clause-marks
 returns-in_default-clause-marks g c = λ es tune b. unmounted_holds c.args.self.now.marks c.args.self.now.log es (c.in_default.is)
 
 pub returns-then-not-is_of_world-clause-marks : goal.returns-then-not-is_of_world-clause-marks
-returns-then-not-is_of_world-clause-marks g c = λ es tune b. unmounted_holds c.close.new.self.marks c.close.new.self.log es c.close.ensures
+returns-then-not-is_of_world-clause-marks g c = λ es tune b. unmounted_holds c.close.new.self.marks c.close.new.self.log es c.close.ensures.none
 
 pub returns-in-Ok-clause-marks : goal.returns-in-Ok-clause-marks
 returns-in-Ok-clause-marks g c = λ es tune b.
     appended_holds true c.args.self.now.log c.in-Some.log c.append.new.self c.args.pending.now es tune c.in-Some.is b (c.is_of_world.ensures.covers c.if-not-is_of_world.false) (c.in-Ok.ensures.whole tt es tune) c.in-Ok.ensures.chosen
 
 pub returns-in-Err-clause-marks : goal.returns-in-Err-clause-marks
-returns-in-Err-clause-marks g c = λ es tune b. unmounted_holds c.close-in-Err.new.self.marks c.close-in-Err.new.self.log es c.close-in-Err.ensures
+returns-in-Err-clause-marks g c = λ es tune b. unmounted_holds c.close-in-Err.new.self.marks c.close-in-Err.new.self.log es c.close-in-Err.ensures.none
 
 -- it was asked
 
@@ -68,7 +80,7 @@ returns-in-Ok-clause-wrote g c = λ log es tune tells is left_out tuned count fi
     (c.in-Ok.ensures.any tells m.fresh) (payload_of c.in-Some.log (world_batch es tune)) (left_payload c.in-Some.log c.args.pending.now.batch es tune c.is_of_world.ensures.kept left tuned)
     (Some c.append.new.self) refl
     (c.in-Ok.ensures.whole tt es tune left tuned fit two fewer)
-    c.in-Ok.ensures.chosen (c.in-Ok.ensures.mounted tells))
+    c.in-Ok.ensures.chosen (c.in-Ok.ensures.mounted tells) c.in-Ok.ensures.answer.1)
     left_out covers
 
 pub returns-in-Err-clause-wrote : goal.returns-in-Err-clause-wrote
@@ -79,6 +91,6 @@ returns-in-Err-clause-wrote g c = λ log es tune tells is left_out tuned count f
     subst P (one_log c.args.self.now.log c.in-Some.log log c.in-Some.is is)
     (λ left fewer. appended_err g.D.Disk.seen g.D.Disk.moment g.D.Disk.images c.in-Some.log c.append.new.self c.args.first.now c.args.second.now c.append.new.first c.append.new.second c.args.pending.now.batch made m
     (c.in-Err.ensures.any tells m.fresh) (payload_of c.in-Some.log (world_batch es tune)) (left_payload c.in-Some.log c.args.pending.now.batch es tune c.is_of_world.ensures.kept left tuned)
-    c.in-Err.fault c.close-in-Err.new.self.log c.close-in-Err.ensures c.in-Err.ensures.answer c.in-Err.ensures.untouched
+    c.in-Err.fault c.close-in-Err.new.self.log c.close-in-Err.ensures.none c.in-Err.ensures.answer c.in-Err.ensures.untouched
     (λ t. c.in-Err.ensures.whole t es tune left tuned fit two fewer))
     left_out covers

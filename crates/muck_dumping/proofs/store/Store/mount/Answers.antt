@@ -3,8 +3,8 @@ use Rattle.spec_dumps.specs.Fronts.{file_most}
 use Rattle.muck_dumping.proofs.Mounting.{no_log, risen, stays_none, stands_again, mounting_fault}
 use Rattle.muck_dumping.proofs.store.Store.mount.Goals as goal
 
-pub returns-in_ok-mount-clause-marks : goal.returns-in_ok-mount-clause-marks
-returns-in_ok-mount-clause-marks g c = λ h goes. λ on x is. cc
+pub returns-in_ok-mount-clause-knows : goal.returns-in_ok-mount-clause-knows
+returns-in_ok-mount-clause-knows g c = λ h known. record { marks = λ on x is. cc; number = λ none. cc }
 
 pub returns-in_err-mount-clause-keeps : goal.returns-in_err-mount-clause-keeps
 returns-in_err-mount-clause-keeps g c = λ mounted h tells r.

@@ -1,0 +1,1 @@
+"""Dumps of Fuzzball MUCK, as objects of a world of muckd."""

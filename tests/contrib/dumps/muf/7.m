@@ -1,0 +1,3 @@
+: greet ( s -- ) "Hello, " swap strcat me @ swap notify ;
+public greet
+$libdef greet
