@@ -1,4 +1,4 @@
-"""docs/KEEPER.md: its examples, in their order, with a server on a free port in place of 4201."""
+"""docs/KEEPER.md and docs/STARTER.md: their examples, in their order, with a server on a free port in place of 4201."""
 import os
 import re
 import signal
@@ -7,9 +7,9 @@ import subprocess
 from common import PATIENCE, PROGRAM, TOP, free_port, same
 
 
-def examples():
-    """The commands of the manual with what they show."""
-    with open(os.path.join(TOP, "docs/KEEPER.md"), encoding="utf-8") as file:
+def examples(page):
+    """The commands of a manual with what they show."""
+    with open(os.path.join(TOP, "docs", page), encoding="utf-8") as file:
         lines = [line for block in re.findall(r"```shell\n(.*?)```", file.read(), re.S) for line in block.splitlines()]
     found = []
     for line in lines:
@@ -23,17 +23,19 @@ def examples():
 def plain(text):
     """What differs from run to run, as the manual writes it."""
     text = re.sub(r"\d{8}-\d{6}", "DATE-TIME", text)
+    text = re.sub(r"(?m)^(Ann +)\ds$", r"\g<1>0s", text)
     return re.sub(r"(answer_ms|dump_age|store_bytes)=[\d.]+", r"\1=N", text)
 
 
-def the_manual(folder):
+def all_examples(folder, page, least):
+    """Each command of a manual, of which there are so many at least, shows what stands behind it."""
     port, servers = str(free_port()), []
     for name in ("contrib", "demos", "tests", "docs"):
         os.symlink(os.path.join(TOP, name), os.path.join(folder, name))
     os.mkdir(os.path.join(folder, "bin"))
     os.symlink(PROGRAM, os.path.join(folder, "bin/muckd"))
-    rows = examples()
-    assert len(rows) > 40, len(rows)
+    rows = examples(page)
+    assert len(rows) >= least, len(rows)
     try:
         for command, want in rows:
             command = command.replace("4201", port)
@@ -50,16 +52,27 @@ def the_manual(folder):
                 it.wait()
 
 
+def the_manual(folder):
+    all_examples(folder, "KEEPER.md", 40)
+
+
+def the_manual_of_the_starter(folder):
+    all_examples(folder, "STARTER.md", 12)
+
+
 def what_it_links_to(folder):
-    """The manual names files that are there."""
-    with open(os.path.join(TOP, "docs/KEEPER.md"), encoding="utf-8") as file:
-        text = file.read()
-    for name in set(re.findall(r"\]\(([\w./]+\.md)", text)):
-        assert os.path.exists(os.path.join(TOP, "docs", name)), name
-    for name in set(re.findall(r"`(contrib/[\w./-]+|demos/[\w./-]+|tests/[\w./-]+)`", text)):
-        assert os.path.exists(os.path.join(TOP, name)), name
+    """The manuals name files, and headings, that are there."""
+    for page in ("STARTER.md", "KEEPER.md"):
+        with open(os.path.join(TOP, "docs", page), encoding="utf-8") as file:
+            text = file.read()
+        for name, heading in set(re.findall(r"\]\(([\w./]+\.md)(?:#([\w-]+))?", text)):
+            with open(os.path.join(TOP, "docs", name), encoding="utf-8") as file:
+                headings = {re.sub(r"[^\w -]", "", line.strip("# \n")).lower().replace(" ", "-") for line in file if line.startswith("#")}
+            assert not heading or heading in headings, (page, name, heading)
+        for name in set(re.findall(r"`(contrib/[\w./-]+|demos/[\w./-]+|tests/[\w./-]+)`", text)):
+            assert os.path.exists(os.path.join(TOP, name.replace("NAME", "help"))), name
     for name in os.listdir(os.path.join(TOP, "contrib/systemd")):
         assert f"`{name}`" in text, name
 
 
-TESTS = [the_manual, what_it_links_to]
+TESTS = [the_manual, the_manual_of_the_starter, what_it_links_to]
