@@ -78,6 +78,20 @@ def out_and_back(folder):
     same("nobody else reads the digests", os.stat(os.path.join(folder, "first.json")).st_mode & 0o77, 0)
 
 
+def where_lines_go(folder):
+    """A file that a link names is written, not the link; what is there and is no file isn't touched."""
+    script(folder, BUILDING)
+    os.mkfifo(os.path.join(folder, "pipe"))
+    os.mkdir(os.path.join(folder, "folder"))
+    os.symlink("target", os.path.join(folder, "link"))
+    for name in ("pipe", "folder"):
+        same(name, refuses("store", "export", "world", name, folder=folder), f"{name} is there, and is no file")
+    same("no folder", refuses("store", "export", "world", "nowhere/it", folder=folder), "nowhere/it: there is no folder nowhere")
+    works("store", "export", "world", "link", folder=folder)
+    same("the link", (os.readlink(os.path.join(folder, "link")), os.stat(os.path.join(folder, "target")).st_mode & 0o777), ("target", 0o600))
+    same("nothing else", sorted(os.listdir(folder)), ["folder", "link", "pipe", "target", "world.a", "world.b"])
+
+
 def the_batch_of_a_whole_world(folder):
     """Bringing in writes the bytes that the program writes where it begins the other file."""
     script(folder, BUILDING + "dump\n" * 64 + "send 1 @create late\n")
@@ -273,7 +287,9 @@ def lines_that_are_wrong(folder):
     works("store", "import", "good", "good.json", folder=folder)
     before = files_in(folder)
     rows = [(first + zero + line + "\n", at, why) for line, at, why in WRONG]
-    rows += [("", 1, "it is empty"), ("{}\n", 1, "it doesn't begin as an exported world does"), (first, 1, "it tells of 2 objects, and 0 follow"), (first.replace("900", "0") + zero + one, 1, "dump_interval is 0"),
+    rows += [(first.replace('"muckd":1', '"muckd":true') + zero + one, 1, "'muckd' isn't a number"), (first.replace("900", "9" * 5000) + zero + one, 1, "it isn't JSON: a number in it is too long"),
+             (first + zero + "{", 3, "it isn't JSON: Expecting property name enclosed in double quotes, at byte 2 of the line"), (first + zero + "[" * 100000, 3, "it is nested too deep"), ("\ufeff" + first + zero + one, 1, "it isn't JSON: "),
+             ("", 1, "it is empty"), ("{}\n", 1, "it doesn't begin as an exported world does"), (first, 1, "it tells of 2 objects, and 0 follow"), (first.replace("900", "0") + zero + one, 1, "dump_interval is 0"),
              (first.replace('"m1_units":20000,', "") + zero + one, 1, "'tuned' isn't"), (first + zero.replace(',"contents":[1]', "") + one, 3, "it stands in no list"),
              (first + zero.replace("[1]", "[1,1]") + one, 2, "'contents' holds #1, which stands in a list already"), (first + zero.replace("contents", "exits") + one, 2, "'exits' holds #1, which is player")]
     for text, at, why in rows:
@@ -299,5 +315,5 @@ def words_that_are_wrong(folder):
         holds("--help", works("store", *command, "--help", folder=folder), "usage: store")
 
 
-TESTS = [what_is_shown, out_and_back, the_batch_of_a_whole_world, ten_thousand_objects, a_changed_world, a_password, damage, damage_at_the_beginning, a_store_that_is_locked, by_root, while_a_server_dumps,
+TESTS = [what_is_shown, out_and_back, where_lines_go, the_batch_of_a_whole_world, ten_thousand_objects, a_changed_world, a_password, damage, damage_at_the_beginning, a_store_that_is_locked, by_root, while_a_server_dumps,
          lines_that_are_wrong, words_that_are_wrong]

@@ -17,7 +17,8 @@ def password_in(path):
     """Name and password of a player, from a file of one line that only its user reads."""
     if not path:
         raise Refused("--password FILE is wanted: a file with one line, NAME PASSWORD")
-    with open(path, "rb") as file:
+    # (a pipe that nobody writes to would never open)
+    with open(os.open(path, os.O_RDONLY | os.O_NONBLOCK), "rb") as file:
         it = os.fstat(file.fileno())
         if not stat.S_ISREG(it.st_mode):
             raise Refused(f"{path} is no file")
