@@ -227,6 +227,8 @@ def it_stops(folder):
         keeper(folder, "Two secret\n")
         same("who may not", refuses("keep", *keep(server, "stop", "--say", ""), folder=folder), "the world goes on: Permission denied (P17).")
         keeper(folder)
+        for text in ("Gute N\u00e4chte", "a\n@shutdown", "x" * 2049):
+            holds(text, refuses("keep", *keep(server, "stop", "--say", text), folder=folder), "can't be typed: a line has up to 2048 letters, all of ASCII")
         with socket.create_connection(("127.0.0.1", server.port)) as one:
             one.sendall(b"connect One potrzebie\r\n")
             time.sleep(0.2)

@@ -74,6 +74,7 @@ def out_and_back(folder):
     same("what is tuned", world_of(folder, "new").tuned, world_of(folder).tuned)
     look = LOGIN + "send 1 look\nsend 1 inventory\nsend 1 @list shout\nsend 1 examine north\nsend 1 @tune\n"
     same("a run", script(folder, look, "new"), script(folder, look))
+    holds("a name of any bytes", works("store", "import", b"n\xff".decode(errors="surrogateescape"), "first.json", folder=folder), "; n\\udcff.a counts, dump 1\n")
     same("standard output and input", tool("store", "import", "third", "-", folder=folder, typed=works("store", "export", "world", folder=folder))[0], 0)
     same("nobody else reads the digests", os.stat(os.path.join(folder, "first.json")).st_mode & 0o77, 0)
 
@@ -153,7 +154,7 @@ def a_password(folder):
     same("one batch more", (after.batches, after.number), (2, 2))
     same("nothing else", [(a.number, a.name) for a, b in zip(after.objects, before.objects) if a != b], [(r.number, r.name) for r in before.objects if r.name == b"Two"])
     holds("it is the password", script(folder, "open 1\nsend 1 connect Two secret\nsend 1 connect Two new word\n"), "1< Either that player", "1< Room Zero")
-    for typed, why in (("", "that is no password"), ("\n", "that is no password"), ("x" * 33 + "\n", "that is no password"), (" a\n", "no spaces at its ends"), ("é\n", "that is no password")):
+    for typed, why in (("", "that is no password"), ("\n", "that is no password"), ("x" * 33 + "\n", "that is no password"), (" a\n", "no spaces at its ends"), ("é\n", "that is no password"), (b"\xff\xfe\n", "holds byte 255"), ("a\rb\n", "that is no password")):
         holds(typed, refuses("store", "password", "world", "two", folder=folder, typed=typed), why)
     holds("nobody", refuses("store", "password", "world", "Nobody", folder=folder, typed="a\n"), "no player of world has the name Nobody")
     # behind 64 batches it begins the other file, as a dump does

@@ -58,6 +58,9 @@ class Link:
         self.socket.close()
 
     def send(self, *lines):
+        for line in lines:
+            if len(line) > MOST_LINE or not re.fullmatch(r"[ -~]*", line):
+                raise Refused(f"{line[:60]!r} can't be typed: a line has up to {MOST_LINE} letters, all of ASCII")
         try:
             self.socket.sendall(b"".join(line.encode("ascii") + b"\r\n" for line in lines))
         except OSError as why:

@@ -20,6 +20,8 @@ class Parser(argparse.ArgumentParser):
 def run(tool, main):
     """The status of `main`, with its refusal told in the name of the tool. A SIGTERM is taken as Ctrl-C is, so that what was begun is cleared away."""
     signal.signal(signal.SIGTERM, signal.default_int_handler)
+    # (the name of a file may hold any byte)
+    sys.stdout.reconfigure(errors="backslashreplace")
     try:
         status = main()
         sys.stdout.flush()
