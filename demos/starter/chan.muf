@@ -35,6 +35,8 @@ $def MOST-LINES 10
   dup array_count if ", " array_join else pop "nobody" then "Listening: " swap strcat tell ;
 : last prog "_last" array_get_proplist dup array_count if foreach swap pop tell repeat else pop "Nothing was said yet." tell then ;
 : main
+  "me" match me ! ( a program that calls this one may have put another there )
+  " " "\r" subst
   trig exit? if trig name "pub" stringpfx if say exit then then
   strip tolower
   dup "on" strcmp not if pop on exit then

@@ -53,6 +53,7 @@ $include $lib/common
   dup ok? if swap pop exit then
   #-2 dbcmp if "I don't know which '" swap strcat "' you mean!" strcat else "I don't understand '" swap strcat "'." strcat then tell #-1 ;
 : main
+  "me" match me ! ( a program that calls this one may have put another there )
   "=" split trimmed swap strip dup not if pop "here" then
   object dup ok? not if pop pop exit then
   swap show

@@ -36,6 +36,7 @@ $include $lib/common
 : none ( topic -- )
   "There is no help on '" swap strcat "'. There is on: " strcat topics ", " array_join strcat ". help numbers lists rules and errors." strcat tell ;
 : main
+  "me" match me ! ( a program that calls this one may have put another there )
   strip tolower 60 strcut pop strip
   dup not if pop "index" then
   dup text-of dup array_count if swap pop tell-all exit then pop

@@ -96,6 +96,8 @@ $def MOST-LETTERS 50
   dup "erase " stringpfx if 6 strcut swap pop erase-mail exit then
   pop "mail, mail NAME=TEXT, mail read N, mail erase N, or mail erase all." tell ;
 : main
+  "me" match me ! ( a program that calls this one may have put another there )
+  " " "\r" subst
   trig exit? if trig name "mail" stringpfx if mail exit then then
   dup "=" instr not if pop "page NAME=TEXT, page NAME NAME=TEXT, or page =TEXT to those of last time." tell exit then
   "=" split page

@@ -41,7 +41,7 @@ $def ROUND 10
 : line ( d -- s )
   dup name 18 pad "  " strcat
   over since-text 5 strright strcat "  " strcat
-  swap "_doing" getpropstr 50 strcut pop strcat striptail ;
+  swap "_doing" getpropstr " " "\r" subst 50 strcut pop strcat striptail ;
 : listed
   start-watch look-round
   "Name                  On  Doing" tell
@@ -52,6 +52,7 @@ $def ROUND 10
   me @ "_doing" 3 pick setprop
   if "Set." else "You are doing nothing that who tells of." then tell ;
 : main
+  "me" match me ! ( a program that calls this one may have put another there )
   command @ "Queued Event." strcmp not if pop watch exit then
   trig exit? if trig name "doing" stringpfx if strip does exit then then
   pop listed

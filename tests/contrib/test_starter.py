@@ -115,6 +115,20 @@ def nothing_is_lent(folder):
     same("no fault", [line for line in said.splitlines() if "Program error" in line], [])
 
 
+def nobody_speaks_for_another(folder):
+    """A program that puts another player into `me`, and a line end into a text, and calls these, acts and speaks for who runs it all the same."""
+    made(folder)
+    forged = "".join(f"send 3 {line}\n" for line in ("@program forge", "i", ": main pop", '  #1 me ! "*Ann=.mail" #8 call', '  #1 me ! "Ann=line\\r[chan] One says, hm" #13 call',
+                                                    '  #1 me ! "on" #16 call', '  #1 me ! "" #10 call', '  #1 me ! "p4" #6 call', ";", ".", "c", "q", "@run forge="))
+    said = script(folder, FIRST + "send 1 @pcreate Ann=ann\nsend 1 @pcreate Bob=bob\nsend 1 @set *Bob=M1\nopen 2\nsend 2 connect Ann ann\nsend 2 chan on\nopen 3\nsend 3 connect Bob bob\nsend 3 start\n" + forged + "send 3 @ps\n")
+    one, ann, bob = (shown(said, n) for n in (1, 2, 3))
+    holds("it compiles", bob, "Compiler done.")
+    same("One sees nothing of it", one[-3:], ["Created Ann(#19P).", "Created Bob(#20P).", "Flag set."])
+    same("what Ann sees", ann[-2:], ['Bob pages, "line [chan] One says, hm"', "[chan] Bob listens."])
+    same("what Bob sees", bob[bob.index("Editor exited.") + 1:], ["Ann (player) of Ann", 'You page, "line [chan] One says, hm" to Ann.', "[chan] Bob listens.", "Name                  On  Doing", "Ann                    0s", "Bob                    0s",
+                                                                "One                    0s", "3 connected.", "P4 refuses setting a property whose path has a part that begins with ~, for all but wizards.", "What helps: another path.", bob[-2], "1 processes."])
+
+
 def behind_a_restart(folder):
     """The number that the watch keeps is another process's in the next run: that one isn't ended, and there is a watch again."""
     made(folder)
@@ -197,4 +211,4 @@ def where_a_world_is_already(folder):
         holds("they run", server.talk("ex me", "who", "help", "mail", "chan on", "pub hello"), "1 connected.", "There is no help on 'index'. There is on: . help numbers lists rules and errors.", "You have no mail.", '[chan] One says, "hello"')
 
 
-TESTS = [the_script, sessions, every_rule_and_error, numbers_of_the_program, topics, nothing_is_lent, behind_a_restart, pages_of_every_kind, in_a_server, where_a_world_is_already]
+TESTS = [the_script, sessions, every_rule_and_error, numbers_of_the_program, topics, nothing_is_lent, nobody_speaks_for_another, behind_a_restart, pages_of_every_kind, in_a_server, where_a_world_is_already]
