@@ -48,17 +48,18 @@ $def MOST-LETTERS 50
     dup "/" rsplit swap pop atoi found @ []<- found !
     d @ swap nextprop
   repeat pop found @ ;
-: leave[ text d -- i ] ( a letter more, if there is room )
-  d @ letters array_count MOST-LETTERS >= if "The box of " d @ name strcat " is full." strcat tell 0 exit then
-  mode preempt
+: add-letter[ text d -- i ] ( 0 where there is no room )
+  d @ letters array_count MOST-LETTERS >= if 0 exit then
   d @ ".mail/next" getpropval 1 + 1 over over < if swap then pop var! n
   d @ ".mail/next" n @ setprop
   d @ n @ place "from" strcat me @ name setprop
   d @ n @ place "when" strcat systime intostr setprop
   d @ n @ place "text" strcat text @ setprop
-  d @ ".mail/new" over over getpropval 1 + setprop
-  setmode
-  d @ awake? if d @ "You have a new letter from " me @ name strcat ". Type: mail" strcat notify then 1 ;
+  d @ ".mail/new" over over getpropval 1 + setprop 1 ;
+: leave[ text d -- i ] ( a letter more; in preempt, so that none takes the number of another )
+  mode var! before preempt text @ d @ add-letter before @ setmode
+  dup not if "The box of " d @ name strcat " is full." strcat tell exit then
+  d @ awake? if d @ "You have a new letter from " me @ name strcat ". Type: mail" strcat notify then ;
 : send[ whom text -- ]
   text @ strip not if "What do you want to write? mail NAME=TEXT" tell exit then
   0 array_make whom @ players foreach swap pop dup text @ strip swap leave if swap []<- else pop then repeat
