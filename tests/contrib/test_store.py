@@ -6,7 +6,7 @@ import resource
 import subprocess
 
 import files
-from common import LOGIN, PROGRAM, Server, files_in, holds, put, refuses, same, script, tool, works
+from common import LOGIN, PATIENCE, PROGRAM, TOP, Server, files_in, holds, put, refuses, same, script, tool, works
 
 BUILDING = LOGIN + """\
 send 1 @describe here=A wide hall.
@@ -91,6 +91,20 @@ def where_lines_go(folder):
     works("store", "export", "world", "link", folder=folder)
     same("the link", (os.readlink(os.path.join(folder, "link")), os.stat(os.path.join(folder, "target")).st_mode & 0o777), ("target", 0o600))
     same("nothing else", sorted(os.listdir(folder)), ["folder", "link", "pipe", "target", "world.a", "world.b"])
+
+
+def a_file_that_may_not_grow(folder):
+    """Where a file can't be written, as on a disk that is full, it is told which, and the world is the one from before."""
+    script(folder, BUILDING + "send 1 @describe here=" + "long " * 300 + "\n")
+    works("store", "export", "world", "it.json", folder=folder)
+    before = files_in(folder)["world.a"]
+    for command, name, typed in (("import new it.json", "new.a", ""), ("password world One", "world.a", "x\n"), ("import world it.json --replace", "world.b", "")):
+        done = subprocess.run(["bash", "-c", f"ulimit -f 1; exec {TOP}/contrib/store {command}"], cwd=folder, input=typed.encode(), capture_output=True, timeout=PATIENCE)
+        same(command, (done.returncode, done.stdout, done.stderr.decode()), (1, b"", f"store: {name}: File too large\n"))
+    same("the world", files_in(folder)["world.a"], before)
+    holds("nothing is in the other", works("store", "info", "new", folder=folder), "no dump is stored")
+    script(folder, LOGIN)
+    script(folder, LOGIN, "new")
 
 
 def the_batch_of_a_whole_world(folder):
@@ -316,5 +330,5 @@ def words_that_are_wrong(folder):
         holds("--help", works("store", *command, "--help", folder=folder), "usage: store")
 
 
-TESTS = [what_is_shown, out_and_back, where_lines_go, the_batch_of_a_whole_world, ten_thousand_objects, a_changed_world, a_password, damage, damage_at_the_beginning, a_store_that_is_locked, by_root, while_a_server_dumps,
+TESTS = [what_is_shown, out_and_back, where_lines_go, a_file_that_may_not_grow, the_batch_of_a_whole_world, ten_thousand_objects, a_changed_world, a_password, damage, damage_at_the_beginning, a_store_that_is_locked, by_root, while_a_server_dumps,
          lines_that_are_wrong, words_that_are_wrong]
