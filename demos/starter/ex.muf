@@ -19,10 +19,14 @@ $include $lib/common
 : all[ list label -- ]
   list @ array_count not if exit then
   label @ tell list @ foreach swap pop "  " swap long strcat tell repeat ;
+: value-text ( x -- s: as @set writes it, a number behind a ^; empty where there is none )
+  dup string? if dup strlen 3900 > if 3900 strcut pop " .." strcat then exit then
+  dup int? if dup if intostr "^" swap strcat else pop "" then exit then
+  dup dbref? if intostr "#" swap strcat exit then
+  dup lock? if unparselock else pop "?" then ;
 : show-property[ d path -- ]
-  d @ path @ getprop
-  dup string? if dup strlen not if pop exit then else dup not if pop exit then intostr "^" swap strcat then
-  "  " path @ strcat ":" strcat swap strcat tell ;
+  d @ path @ getprop value-text
+  dup if "  " path @ strcat ":" strcat swap strcat tell else pop then ;
 : show-below[ d directory -- ]
   d @ directory @ nextprop begin dup while
     d @ over show-property

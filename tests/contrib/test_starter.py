@@ -115,6 +115,14 @@ def nothing_is_lent(folder):
     same("no fault", [line for line in said.splitlines() if "Program error" in line], [])
 
 
+def long_values(folder):
+    """ex shows the beginning of what is too long to be shown with its path, numbers as they are set, and directories below each other."""
+    made(folder)
+    lines = ("@program fill", "i", ': main pop "x" begin dup strlen 4096 < while dup strcat repeat me @ "long/text" rot setprop me @ "long/number" -7 setprop me @ "a/b/c/d/e/f" "deep" setprop ;', ".", "c", "q", "@run fill=", "ex me=long", "ex me=a/b/", "ex me=A")
+    said = shown(script(folder, FIRST + "".join(f"send 1 {line}\n" for line in lines)))
+    same("long ones", said[said.index("Editor exited.") + 1:], ["One(#1PW) (player) of One", "Properties:", "  long/number:^-7", "  long/text:" + "x" * 3900 + " ..", *["One(#1PW) (player) of One", "Properties:", "  a/b/c/d/e/f:deep"] * 2])
+
+
 def nobody_speaks_for_another(folder):
     """A program that puts another player into `me`, and a line end into a text, and calls these, acts and speaks for who runs it all the same."""
     made(folder)
@@ -211,4 +219,4 @@ def where_a_world_is_already(folder):
         holds("they run", server.talk("ex me", "who", "help", "mail", "chan on", "pub hello"), "1 connected.", "There is no help on 'index'. There is on: . help numbers lists rules and errors.", "You have no mail.", '[chan] One says, "hello"')
 
 
-TESTS = [the_script, sessions, every_rule_and_error, numbers_of_the_program, topics, nothing_is_lent, nobody_speaks_for_another, behind_a_restart, pages_of_every_kind, in_a_server, where_a_world_is_already]
+TESTS = [the_script, sessions, every_rule_and_error, numbers_of_the_program, topics, nothing_is_lent, long_values, nobody_speaks_for_another, behind_a_restart, pages_of_every_kind, in_a_server, where_a_world_is_already]
