@@ -175,20 +175,20 @@ def in_a_server(folder):
 
         def plays(name):
             with socket.create_connection(("127.0.0.1", server.port), PATIENCE) as link, link.makefile("rw", newline="\r\n") as lines:
-                def until(last):
-                    seen = []
-                    while not seen or seen[-1] != last:
-                        seen.append(lines.readline().rstrip("\r\n"))
-                    return seen
+                def seen():
+                    line = lines.readline()
+                    assert line, f"the connection of {name} ended"
+                    return line.rstrip("\r\n")
 
                 link.sendall(f"connect {name} secret\r\nstart\r\nchan on\r\n".encode())
-                until(f"[chan] {name} listens.")
+                while seen() != f"[chan] {name} listens.":
+                    pass
                 ready.wait()
                 link.sendall("".join(f"pub {n}\r\n" for n in range(20)).encode())
-                seen, own = [], 0
-                while sum(" says, " in line for line in seen) < 20 * len(names):
-                    seen.append(lines.readline().rstrip("\r\n"))
-                heard[name] = [line for line in seen if " says, " in line]
+                said = []
+                while len(said) < 20 * len(names):
+                    said += [line for line in [seen()] if " says, " in line]
+                heard[name] = said
                 ready.wait()
                 link.sendall(b"QUIT\r\n")
 
