@@ -192,7 +192,7 @@ def in_a_server(folder):
                 ready.wait()
                 link.sendall(b"QUIT\r\n")
 
-        threads = [threading.Thread(target=plays, args=(name,)) for name in names]
+        threads = [threading.Thread(target=plays, args=(name,), daemon=True) for name in names]
         for it in threads:
             it.start()
         for it in threads:
