@@ -8,10 +8,9 @@ import stat
 import subprocess
 import time
 
-from common import PATIENCE, PROGRAM, TOP, free_port, holds, put, same
+from common import BINARY, PATIENCE, TOP, free_port, holds, put, same
 from throwaway import Root
 
-MUCKD = os.path.join(TOP, "dist/muckd") if os.path.realpath(PROGRAM) == os.path.join(TOP, "bin/muckd") else PROGRAM
 SECOND = {"SOURCE_DATE_EPOCH": "1700000000"}
 # what would say nothing of the package: that man's index is made anew, and that all is on the disk
 DPKG = ("dpkg", "--no-triggers", "--force-unsafe-io", "--force-depends")
@@ -31,8 +30,8 @@ def tree(folder):
         shutil.copytree(os.path.join(TOP, name), os.path.join(top, name), ignore=shutil.ignore_patterns("__pycache__"))
     shutil.copy(os.path.join(TOP, "README.md"), top)
     os.mkdir(os.path.join(top, "dist"))
-    shutil.copy(MUCKD, os.path.join(top, "dist/muckd"))
-    with open(MUCKD, "rb") as file:
+    shutil.copy(BINARY, os.path.join(top, "dist/muckd"))
+    with open(BINARY, "rb") as file:
         put(top, "dist/muckd.sources", f"sources 0123\nkit a-kit 1\nprogram {hashlib.sha256(file.read()).hexdigest()}\n", 0o644)
     return top
 
@@ -59,7 +58,7 @@ def what_is_in_it(folder):
         return
     same("built", build(tree(folder), folder), (0, "./muckd_0.20231114.221320_amd64.deb\n", ""))
     to = unpacked(folder, os.path.join(folder, "muckd_0.20231114.221320_amd64.deb"))
-    same("the program", bytes_of(to, "usr/lib/muckd/dist/muckd"), bytes_of(MUCKD))
+    same("the program", bytes_of(to, "usr/lib/muckd/dist/muckd"), bytes_of(BINARY))
     for ours, theirs in (("README.md", "README.md"), ("docs/PUBLIC.md", "docs/PUBLIC.md"), ("demos/town.muck", "demos/town.muck")):
         same(ours, bytes_of(TOP, ours), bytes_of(to, "usr/share/doc/muckd", theirs))
     for name in ("muckd", "muckd-keep", "muckd-put", "muckd-stop", "muckd-store", "muckd-import-fuzzball"):

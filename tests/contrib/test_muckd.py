@@ -11,15 +11,13 @@ import socket
 import subprocess
 import time
 
-from common import LOGIN, PATIENCE, PROGRAM, TOP, free_port, holds, put, same
+from common import BINARY, LOGIN, PATIENCE, TOP, free_port, holds, put, same
 
-# the program itself, without bin/muckd
-MUCKD = os.path.join(TOP, "dist/muckd") if os.path.realpath(PROGRAM) == os.path.join(TOP, "bin/muckd") else PROGRAM
 SENTENCES = {0: "the world is stored in world.a and world.b", 1: "Usage: these words are no command", 2: "BadScript: ", 3: "NoMemory: ", 4: "ReadFault: ", 5: "WriteFault: ", 6: "DiskFault: ", 7: "Damaged: ",
              8: "ListenFault: is port 4201 in use?", 9: "StoreFull: ", 10: "Spent: "}
 
 
-def tree(folder, program=MUCKD, sources=None):
+def tree(folder, program=BINARY, sources=None):
     """A tree of bin and dist alone, as a package has, with this program; with sources, as the digest of these, it is a tree of sources. Its bin/muckd."""
     for name in ("bin", "dist"):
         os.makedirs(os.path.join(folder, name), exist_ok=True)
@@ -127,7 +125,7 @@ def help_and_version(folder):
     status, out, why = off(muckd, "--help", folder=folder)
     same("--help", (status, why), (0, ""))
     holds("--help", out, "usage: muckd run STORE\n", "muckd serve STORE PORT WORKERS\n", "muckd drill N\n", "--version", "potrzebie")
-    with open(MUCKD, "rb") as file:
+    with open(BINARY, "rb") as file:
         digest = hashlib.sha256(file.read()).hexdigest()
     same("--version", off(muckd, "--version", folder=folder), (0, f"muckd, built with a-kit 1\nsources 0123\nprogram {digest} ({folder}/dist/muckd)\n", ""))
     os.symlink(muckd, os.path.join(folder, "link"))
@@ -183,7 +181,7 @@ def handed_on(folder):
         for status, words, typed in ((0, ("run", "world"), LOGIN.encode() + b"send 1 look\n"), (2, ("run", "world"), b"open 1\nfrob\n"), (1, ("serve",), b""), (0, ("drill", "3"), b""), (7, ("run", "hurt"), b""),
                                      (8, ("serve", "other", port, "1"), b"")):
             got = off(muckd, *words, folder=one, typed=typed)
-            same(words, got, off(MUCKD, *words, folder=two, typed=typed))
+            same(words, got, off(BINARY, *words, folder=two, typed=typed))
             same(words, got[0], status)
     process = subprocess.Popen([muckd, "run", "world"], cwd=one, stdin=subprocess.PIPE, stdout=subprocess.DEVNULL, stderr=subprocess.DEVNULL)
     try:
@@ -214,7 +212,7 @@ def at_a_terminal(folder):
     """The real program says there what it says elsewhere, and a sentence comes behind."""
     muckd = tree(folder)
     for status, words, typed in ((0, ("run", "world"), LOGIN.encode() + b"send 1 look\n"), (2, ("run", "world"), b"open 1\nfrob\n"), (1, ("serve", "world", "0", "1"), b""), (0, ("drill", "3"), b"")):
-        _, out, why = off(MUCKD, *words, folder=folder, typed=typed)
+        _, out, why = off(BINARY, *words, folder=folder, typed=typed)
         got = at_terminal(muckd, *words, folder=folder, typed=typed)
         same(words, got[:2], (status, out))
         holds(words, got[2], why + (f"muckd: {SENTENCES[status]}" if words[0] != "drill" else ""))
