@@ -3,10 +3,8 @@ import hashlib
 import os
 import re
 import shutil
-import socket
 import stat
 import subprocess
-import time
 
 from common import BINARY, PATIENCE, TOP, free_port, holds, put, same
 from throwaway import Root
