@@ -8,7 +8,8 @@ import signal
 import socket
 import subprocess
 
-from common import PATIENCE, PROGRAM, TOP, free_port, holds, put, same, works
+from common import BINARY, PATIENCE, PROGRAM, TOP, free_port, holds, put, same, works
+from throwaway import Root
 
 CONTAINER = os.path.join(TOP, "contrib/container")
 ENTRY = os.path.join(CONTAINER, "entry")
@@ -164,4 +165,36 @@ def no_world_with_the_first_password(folder):
         same("stopped", world.stop()[::2], (0, ""))
 
 
-TESTS = [its_instructions, its_environment, a_world, a_stop_that_fails, by_itself, no_world_with_the_first_password]
+def in_a_root_of_its_own(folder):
+    """What the Containerfile does by this machine's own tools, and its entry as its user; the init is left out."""
+    with Root(folder) as root:
+        if not root:
+            print("skipped in_a_root_of_its_own: it wants root, and an overlay of file systems")
+            return
+
+        def does(*words, typed=""):
+            status, said = root.run(*words, typed=typed)
+            same((words, said), status, 0)
+            return said
+
+        does("sh", "-ec", "useradd" + texts("RUN")[0].split("useradd", 1)[1])
+        for to, source in copied().items():
+            does("mkdir", "-p", os.path.dirname(to))
+            does("cp", "-r", source, to)
+        with open(BINARY, "rb") as file:
+            does("sh", "-c", "cat > /opt/muckd/dist/muckd", typed=file.read())
+        does("sh", "-c", "mkdir /run/secrets && echo a word of mine > /run/secrets/muckd")
+        port = str(free_port())
+        # (its own port, since the network isn't one of its own)
+        user = texts("USER")[0]
+        words = [*shlex.split(texts("ENV")[0]), f"MUCKD_PORT={port}", "setpriv", "--reuid", user, "--regid", user, "--clear-groups", "--"]
+        entry = root.start("sh", "-c", 'cd "$0" && echo $$ > /run/entry && exec env "$@"', texts("WORKDIR")[0], *words, json.loads(texts("ENTRYPOINT")[0])[-1])
+        does("/opt/muckd/contrib/keep", "--port", port, "--wait", "300", "--patience", "300", "probe")
+        holds("the health check", does("env", *words, "sh", "-c", texts("HEALTHCHECK")[0].split(" CMD ")[1].replace("--patience 20", "--patience 300")), "up=1 players=0", " store_bytes=")
+        does("sh", "-c", "kill -TERM $(cat /run/entry)")
+        same("its end", entry.wait(PATIENCE), 0)
+        same("whose the world is", does("stat", "-c", "%U %a %n", "/var/lib/muckd/town.a"), "muckd 600 /var/lib/muckd/town.a\n")
+        holds("the last dump", does("/opt/muckd/contrib/store", "info", "/var/lib/muckd/town"), "town.a counts: ", "dump 3,")
+
+
+TESTS = [its_instructions, its_environment, a_world, a_stop_that_fails, by_itself, no_world_with_the_first_password, in_a_root_of_its_own]

@@ -256,6 +256,17 @@ def signals(folder):
         os.kill(program_of(server.process.pid), signal.SIGKILL)
         same("killed", server.ended(), -signal.SIGKILL)
         holds("killed", server.shown, "muckd: ended by signal 9;")
+    if not shutil.which("setpriv"):
+        print("skipped a part of signals: setpriv isn't installed")
+        return
+    with Terminal(muckd, "serve", "world", port, "1", folder=folder) as server:
+        server.until("is served on port")
+        inner, end = program_of(server.process.pid), time.monotonic() + PATIENCE
+        server.process.kill()
+        same("the wrapper is killed", server.process.wait(PATIENCE), -signal.SIGKILL)
+        while os.path.exists(f"/proc/{inner}"):
+            assert time.monotonic() < end, "the program goes on"
+            time.sleep(0.02)
 
 
 def signals_that_are_ignored(folder):
