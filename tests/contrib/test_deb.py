@@ -34,9 +34,10 @@ def tree(folder):
     return top
 
 
-def build(top, folder, *words, env=None):
+def build(top, folder, *words, env=SECOND):
     """Status, standard output and standard error of the builder of a tree."""
-    done = subprocess.run([os.path.join(top, "contrib/deb/build"), *words], cwd=folder, capture_output=True, text=True, timeout=PATIENCE, env={**os.environ, **SECOND, **(env or {})})
+    others = {name: value for name, value in os.environ.items() if name != "SOURCE_DATE_EPOCH"}
+    done = subprocess.run([os.path.join(top, "contrib/deb/build"), *words], cwd=folder, capture_output=True, text=True, timeout=PATIENCE, env={**others, **env})
     return done.returncode, done.stdout, done.stderr
 
 
@@ -98,7 +99,7 @@ def refusals(folder):
     top = tree(folder)
     os.mkdir(os.path.join(folder, "out"))
 
-    def refused(*words, env=None):
+    def refused(*words, env=SECOND):
         status, out, why = build(top, folder, "--out", "out", *words, env=env)
         same(words, (status, out, os.listdir(os.path.join(folder, "out"))), (1, "", []))
         return why
@@ -112,6 +113,36 @@ def refusals(folder):
     same("another program", refused(), "deb/build: dist/muckd isn't of these sources: bin/build refreshes it\n")
     status, out, _ = build(TOP, folder, "--help")
     same("--help", (status, "usage: deb/build" in out), (0, True))
+
+
+def by_git(folder):
+    """Without SOURCE_DATE_EPOCH the second is that of the newest commit."""
+    if not can_build():
+        return
+    if not shutil.which("git"):
+        print("skipped by_git: git isn't installed")
+        return
+    top = tree(folder)
+    same("no commit", build(top, folder, env={"GIT_CEILING_DIRECTORIES": folder})[2], "deb/build: neither git nor SOURCE_DATE_EPOCH says of which second the sources are\n")
+    who = {"GIT_AUTHOR_NAME": "a", "GIT_AUTHOR_EMAIL": "a@b", "GIT_COMMITTER_NAME": "a", "GIT_COMMITTER_EMAIL": "a@b", "GIT_COMMITTER_DATE": "1600000000 +0200"}
+    for words in (("init", "-q"), ("commit", "-q", "--allow-empty", "-m", "sources")):
+        subprocess.run(["git", "-C", top, *words], check=True, timeout=PATIENCE, env={**os.environ, **who})
+    same("a commit", build(top, folder, env={})[:2], (0, "./muckd_0.20200913.122640_amd64.deb\n"))
+
+
+def of_these_sources(folder):
+    """Beside sources the program has to be of them, as bin/muckd wants."""
+    if not can_build():
+        return
+    current = subprocess.run([os.path.join(TOP, "bin/muckd"), "--version"], capture_output=True, timeout=PATIENCE, text=True).stdout.endswith("/dist/muckd)\n")
+    status, out, why = build(TOP, folder, "--version", "1.0")
+    same("this tree", (status, out, why), (0, "./muckd_1.0_amd64.deb\n", "") if current else (1, "", "deb/build: dist/muckd isn't of these sources: bin/build refreshes it\n"))
+    top = tree(folder)
+    put(top, "crates.txt", "")
+    put(top, "bin/sources", "#!/bin/sh\necho 4567\n", 0o755)
+    same("other sources", build(top, folder), (1, "", "deb/build: dist/muckd isn't of these sources: bin/build refreshes it\n"))
+    put(top, "bin/sources", "#!/bin/sh\necho 0123\n", 0o755)
+    same("its sources", build(top, folder)[0], 0)
 
 
 class Machine:
@@ -214,4 +245,4 @@ def what_systemd_is_told(folder):
         assert status and it.has("test -e /usr/bin/muckd"), status
 
 
-TESTS = [what_is_in_it, the_same_bytes, refusals, installed, what_systemd_is_told]
+TESTS = [what_is_in_it, the_same_bytes, refusals, by_git, of_these_sources, installed, what_systemd_is_told]
