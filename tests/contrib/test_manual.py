@@ -87,15 +87,16 @@ def what_it_links_to(folder):
 def parts_that_are_linked(folder):
     """What docs/PUBLIC.md links to is there: pages, and headings in them; and so are the files of the tree that it names."""
     text = text_of("docs/PUBLIC.md")
+    # the front comes with its page and its unit
+    to_come = set() if os.path.exists(os.path.join(TOP, "contrib/front")) else {"contrib/front", "FRONT.md", "muckd-front.service"}
     for page, part in re.findall(r"\]\(([\w.]*)#?([\w-]*)\)", text):
-        # (the front's page comes with the front)
-        if page == "FRONT.md" and not os.path.exists(os.path.join(TOP, "contrib/front")):
+        if page in to_come:
             continue
         headings = [re.sub(r"[^\w -]", "", line.lstrip("# ").lower()).replace(" ", "-") for line in text_of(os.path.join("docs", page or "PUBLIC.md")).splitlines() if line.startswith("#")]
         assert not part or part in headings, (page, part)
-    for name in set(re.findall(r"(?<![\w/])contrib/[\w./-]*\w(?![\w*-])", text)) - {"contrib/front"}:
+    for name in set(re.findall(r"(?<![\w/])contrib/[\w./-]*\w(?![\w*-])", text)) - to_come:
         assert os.path.exists(os.path.join(TOP, name)), name
-    for name in set(re.findall(r"muckd-\w+\.(?:timer|service)", text)):
+    for name in set(re.findall(r"muckd-\w+\.(?:timer|service)", text)) - to_come:
         assert os.path.exists(os.path.join(TOP, "contrib/systemd", name)), name
 
 
