@@ -26,7 +26,8 @@ def tree(folder):
     top = os.path.join(folder, "tree")
     for name in ("bin", "contrib", "docs", "demos"):
         shutil.copytree(os.path.join(TOP, name), os.path.join(top, name), ignore=shutil.ignore_patterns("__pycache__"))
-    shutil.copy(os.path.join(TOP, "README.md"), top)
+    for name in ("README.md", "LICENSE", "LICENSE-CRATES"):
+        shutil.copy(os.path.join(TOP, name), top)
     os.mkdir(os.path.join(top, "dist"))
     shutil.copy(BINARY, os.path.join(top, "dist/muckd"))
     with open(BINARY, "rb") as file:
@@ -58,7 +59,7 @@ def what_is_in_it(folder):
     same("built", build(tree(folder), folder), (0, "./muckd_0.20231114.221320_amd64.deb\n", ""))
     to = unpacked(folder, os.path.join(folder, "muckd_0.20231114.221320_amd64.deb"))
     same("the program", bytes_of(to, "usr/lib/muckd/dist/muckd"), bytes_of(BINARY))
-    for ours, theirs in (("README.md", "README.md"), ("docs/PUBLIC.md", "docs/PUBLIC.md"), ("demos/town.muck", "demos/town.muck")):
+    for ours, theirs in (("README.md", "README.md"), ("LICENSE", "LICENSE"), ("docs/PUBLIC.md", "docs/PUBLIC.md"), ("demos/town.muck", "demos/town.muck")):
         same(ours, bytes_of(TOP, ours), bytes_of(to, "usr/share/doc/muckd", theirs))
     for name in ("muckd", "muckd-keep", "muckd-put", "muckd-stop", "muckd-store", "muckd-import-fuzzball"):
         assert os.access(os.path.join(to, "usr/bin", name), os.X_OK), name
