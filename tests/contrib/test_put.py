@@ -2,9 +2,10 @@
 import os
 import random
 import re
+import subprocess
 
 import library
-from common import LOGIN, TOP, Server, holds, put as write, refuses, same, script, tool, works
+from common import LOGIN, PATIENCE, TOP, Server, holds, put as write, refuses, same, script, tool, works
 from muckkit import muf
 
 HELLO = ': main "Hello, " swap strcat me @ swap notify ;\n'
@@ -204,6 +205,26 @@ def the_script_of_the_library(folder):
     same("no error", re.findall(r"Error|Huh|Permission|That can't", out), [])
 
 
+def what_a_signal_ends(folder):
+    """Wherever the typing is ended by a signal no program is left over, and the one that was there is as it was."""
+    with Server(folder) as server:
+        write(folder, "long.muf", HELLO)
+        works("put", *puts(server, "long.muf"), folder=folder)
+        write(folder, "long.muf", ("( " + "line " * 390 + ")\n") * 4000 + HELLO.replace("Hello", "Good day"))
+        ended = 0
+        for _ in range(4):
+            one = subprocess.Popen([os.path.join(TOP, "contrib/put"), *map(str, puts(server, "long.muf"))], cwd=folder, stdout=subprocess.PIPE, stderr=subprocess.PIPE)
+            while one.poll() is None and not any(line.startswith("put-") for line in server.talk("@find put-")):
+                pass
+            one.terminate()
+            out, why = one.communicate(timeout=PATIENCE)
+            ended += one.returncode == 1
+            if one.returncode:
+                same("what is said", (one.returncode, out, why), (1, b"", b"put: interrupted\n"))
+            same("nothing is left over", [line for line in server.talk("@find put-") if line.startswith("put-")], [])
+        same("it runs", server.talk("@run long=you")[-2], "Hello, you" if ended == 4 else "Good day, you")
+
+
 PLAIN = (
     (["$note sad :-( and ( this", '$author me "x', ": main ( x ( y ) -- ) pop ;"], ["( $note sad :- and  this )", '( $author me "x )', ": main ( x [ y ] -- ) pop ;"], {}),
     (["( its head:", "$author x", "  $note y (z)", ")", ": f[ str:a", '   int:b? -- str:c ] ": a[str:b]" ;'], ["( its head:", "$author x", "  $note y [z]", ")", ": f[ a", '   b? -- str:c ] ": a[str:b]" ;'], {}),
@@ -284,4 +305,4 @@ def words_that_are_wrong(folder):
     holds("--help", works("put", "--help", folder=folder), "usage: put")
 
 
-TESTS = [a_program, every_length, errors, what_is_written_otherwise, before_it_connects, a_source_of_fuzzball, the_library, no_right_is_lent, the_script_of_the_library, the_words_of_this_server, the_table_of_words, words_that_are_wrong]
+TESTS = [a_program, every_length, errors, what_a_signal_ends, what_is_written_otherwise, before_it_connects, a_source_of_fuzzball, the_library, no_right_is_lent, the_script_of_the_library, the_words_of_this_server, the_table_of_words, words_that_are_wrong]
