@@ -204,7 +204,7 @@ def lines_are_typed(folder):
         holds("a long line", refuses("keep", *keep(server, "type", file), folder=folder), f"{file}:2: the line has 2049 bytes")
         same("nothing was typed", [line for line in server.talk("@find a") if line.startswith("a(")], [])
         put(folder, "start", "@program left\ni\n")
-        holds("an editor left open", refuses("keep", *keep(server, "--patience", "3", "type", file), folder=folder), "3 seconds went by without the end of what the lines do")
+        holds("an editor left open", refuses("keep", *keep(server, "--patience", "20", "type", file), folder=folder), "20 seconds went by without the end of what the lines do")
 
 
 def it_waits_for_a_server(folder):
@@ -248,7 +248,7 @@ def it_waits_for_the_lock(folder):
         with open(os.path.join(folder, "world.a"), "rb") as held:
             next_one = threading.Thread(target=fcntl.flock, args=(held, fcntl.LOCK_EX))
             next_one.start()
-            holds("locked", refuses("keep", *keep(server, "--patience", "5", "stop"), folder=folder), "hadn't ended 5 seconds later")
+            holds("locked", refuses("keep", *keep(server, "--patience", "20", "stop"), folder=folder), "hadn't ended 20 seconds later")
             next_one.join()
 
 
