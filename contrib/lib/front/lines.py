@@ -4,8 +4,8 @@ import re
 from muckkit.plain_text import letters, plain
 
 MOST = 2048
-# a letter has at most four bytes
-MOST_RAW = 4 * MOST
+# a letter has at most four bytes, and one may be cut
+MOST_RAW = 4 * (MOST + 1)
 END = re.compile(rb"\r\n|\r\x00|\r|\n")
 
 
