@@ -15,13 +15,14 @@ import time
 import urllib.error
 import urllib.request
 
-from common import HERE, PATIENCE, TOP, Server, free_port, holds, put, refuses, same, script, works
+from common import HERE, TOP, Server, free_port, holds, put, refuses, same, script, works
 from front.limits import Limits, counted, plain_address
 from front.lines import Splitter, as_the_world_takes_it
 from front.login import Login
 from front.telnet import Commands
 
 PYTHON = "/usr/bin/python3"
+PATIENCE = 40
 GREETING = "Use: connect NAME PASSWORD, WHO or QUIT."
 WRONG = "Either that player does not exist, or has a different password."
 
@@ -314,7 +315,7 @@ def by_telnet_and_by_the_page(folder):
         two.until('You say, "Hello "you""')
         same("what the page shows", three.until("Two waves."), ['Two says, "Hello "you""'])
         three.send("say \u00a1Ol\u00e9!\nsay \U0001f600 \x1b[31mred")
-        two.until('Three says, "?Ole!"')
+        two.until('Three says, "!Ole!"')
         two.until('Three says, "? red"')
         # what is too long is cut, and told
         two.send("say " + "x" * 5000)
@@ -440,8 +441,11 @@ def connections_that_are_no_links(folder):
         same("the last one is closed", silent[-1].recv(100), b"")
         same("the log", front.told(), ["refused how=web why=connections"])
         silent.pop(0).close()
-        with front.telnet() as one:
-            one.enter()
+        end = time.monotonic() + PATIENCE
+        while "how=telnet" not in front.log().split(" comes ")[-1]:
+            assert time.monotonic() < end, front.log()
+            with front.telnet() as one:
+                one.socket.recv(1)
         for it in silent:
             it.close()
 

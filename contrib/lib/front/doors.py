@@ -94,7 +94,7 @@ class Door:
                 one, where = await loop.sock_accept(self.listener)
             except OSError as why:
                 # there is no descriptor left, or one went before it was taken
-                log.write("fault", how=self.how, what=errno.errorcode.get(why.errno, "OSError"))
+                log.write("fault", how=self.how, cause=errno.errorcode.get(why.errno, "OSError"))
                 await asyncio.sleep(0.1)
                 continue
             task = loop.create_task(self.take(one, where[0], there))

@@ -51,7 +51,7 @@ class Front:
             self.certificate.renew()
             log.write("renewed", certificate=self.certificate.files[0])
         except (Refused, OSError) as why:
-            log.write("fault", certificate=self.certificate.files[0], what=repr(str(why)))
+            log.write("fault", certificate=self.certificate.files[0], cause=repr(str(why)))
 
     async def part(self, there):
         """Tells all who are there that the door closes, and waits for them a little."""

@@ -53,7 +53,7 @@ class Visit:
             why = await self.stay()
         except Exception as fault:
             why = "fault"
-            log.write("fault", link=self.number, what=repr(type(fault).__name__))
+            log.write("fault", link=self.number, cause=type(fault).__name__)
         finally:
             self.front.limits.go(self.side.who)
             self.front.visits.discard(self)
