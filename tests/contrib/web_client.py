@@ -18,7 +18,7 @@ def tell(it):
 
 
 async def typed(link):
-    reader = asyncio.StreamReader()
+    reader = asyncio.StreamReader(limit=1 << 24)
     await asyncio.get_running_loop().connect_read_pipe(lambda: asyncio.StreamReaderProtocol(reader), sys.stdin)
     while True:
         line = await reader.readline()
@@ -33,10 +33,11 @@ async def main(given):
     async with aiohttp.ClientSession() as session:
         try:
             async with session.ws_connect(given.url, headers=headers, ssl=False, autoping=not given.deaf, max_msg_size=0) as link:
-                asyncio.ensure_future(typed(link))
+                typing = asyncio.ensure_future(typed(link))
                 async for message in link:
                     if message.type == aiohttp.WSMsgType.TEXT:
                         tell(json.loads(message.data))
+                typing.cancel()
                 tell({"closed": link.close_code})
         except aiohttp.WSServerHandshakeError as why:
             tell({"status": why.status})
