@@ -20,6 +20,7 @@ from front.limits import Limits, counted, plain_address
 from front.lines import Splitter, as_the_world_takes_it
 from front.login import Login
 from front.telnet import Commands
+from front.visit import AGAIN, SAID
 
 PYTHON = "/usr/bin/python3"
 PATIENCE = 200
@@ -665,5 +666,25 @@ def what_is_needed(folder):
     holds("what is said", done.stderr.decode(), "setup: openssl", "apt-get")
 
 
+def what_the_manual_says(folder):
+    """docs/FRONT.md has each word of the command with its number, each sentence, and each reason of the log."""
+    with open(os.path.join(TOP, "docs/FRONT.md"), encoding="utf-8") as file:
+        text = file.read()
+    told = works("front", "--help", folder=folder, env={"COLUMNS": "500"})
+    words = dict(re.findall(r"^  (--[a-z-]+) .*?(?:\((\d+)\).*)?$", told, re.M))
+    assert len(words) == 14, words
+    for word, number in words.items():
+        holds("a word", text, f"`{word}`" if word not in ("--certificate", "--key") else f"`{word} FILE`")
+        if number:
+            holds("its number", text, f"| `{word}` | {number} |")
+    for why, said in SAID.items():
+        if why != "fault":
+            holds("what is told", text, f"`{said}` | comes again" if why in AGAIN else f"`{said}` |")
+        holds("why", text, f"`{why}`")
+    for name in set(re.findall(r"`((?:contrib|tests|docs)/[\w./-]+)`", text)):
+        assert os.path.exists(os.path.join(TOP, name)), name
+    assert os.path.exists(os.path.join(TOP, "docs/front.png"))
+
+
 TESTS = [lines_as_the_world_takes_them, what_telnet_says_of_itself, what_a_login_is, what_is_counted, by_telnet_and_by_the_page, by_tls, the_page, links_of_an_address, connections_that_are_no_links, tries_of_passwords,
-         time_at_the_login_screen, who_has_vanished, a_world_that_is_down, a_world_that_is_full, something_else_than_a_world, hostile_bytes, the_end, words_that_are_wrong, without_aiohttp, a_hundred_in_one_room, what_is_needed]
+         time_at_the_login_screen, who_has_vanished, a_world_that_is_down, a_world_that_is_full, something_else_than_a_world, hostile_bytes, the_end, words_that_are_wrong, what_the_manual_says, without_aiohttp, a_hundred_in_one_room, what_is_needed]
