@@ -486,11 +486,13 @@ def tries_of_passwords(folder):
 
 def time_at_the_login_screen(folder):
     refusal = "You were at the login screen for too long. Please come again."
-    with Server(folder) as server, Front(folder, server.port, "--login", "10") as front, front.page() as one, front.telnet() as two, front.page() as three:
+    with Server(folder) as server, Front(folder, server.port, "--login", "15") as front, front.page() as one, front.page() as three:
         one.enter()
-        three.until(GREETING)
+        two = front.telnet()
         two.send(*["WHO"] * 3, "", "nothing")
-        shown = two.rest()
+        three.until(GREETING)
+        with two:
+            shown = two.rest()
         same("by telnet", (shown[-1], shown.count(GREETING)), (refusal, 3))
         same("by the page", three.end(), ([refusal], 4000))
         one.send("WHO")
@@ -500,7 +502,7 @@ def time_at_the_login_screen(folder):
 
 def who_has_vanished(folder):
     """A page that doesn't answer any more is closed; and the system asks whether those of telnet are there."""
-    with Server(folder) as server, Front(folder, server.port, "--keepalive", "4") as front, front.page("--deaf") as deaf, front.page() as well, front.telnet() as telnet:
+    with Server(folder) as server, Front(folder, server.port, "--keepalive", "8") as front, front.page("--deaf") as deaf, front.page() as well, front.telnet() as telnet:
         well.enter()
         telnet.until(GREETING)
         deaf.until(GREETING)
@@ -577,7 +579,7 @@ def something_else_than_a_world(folder):
 
 
 def hostile_bytes(folder):
-    with Server(folder) as server, Front(folder, server.port) as front, front.telnet() as well:
+    with Server(folder) as server, Front(folder, server.port, "--links", "100") as front, front.telnet() as well:
         well.enter()
         with front.telnet() as one, front.page() as two, front.page() as three, front.page() as four:
             for _ in range(48):
@@ -607,6 +609,29 @@ def hostile_bytes(folder):
         assert all(re.fullmatch(r"[ -~]+", line) for line in front.log().splitlines()), front.log()
 
 
+def who_does_not_read(folder):
+    """One who reads nothing hinders nobody, and loses what the world gave up for it: the front keeps little."""
+    players(folder, "Two")
+    with Server(folder) as server, Front(folder, server.port) as front, front.telnet() as two, socket.socket() as slow:
+        two.enter("Two", "secret")
+        slow.setsockopt(socket.SOL_SOCKET, socket.SO_RCVBUF, 4096)
+        slow.settimeout(PATIENCE)
+        slow.connect(("127.0.0.1", front.ports["telnet"]))
+        slow.sendall(b"connect One potrzebie\r\n")
+        two.until("One has connected.")
+        for n in range(60):
+            two.send(*[f"say {'x' * 2000}"] * 60, f"say part {n}")
+            two.until(f'You say, "part {n}"')
+        with open(f"/proc/{front.process.pid}/status", encoding="ascii") as file:
+            memory = int(re.search(r"VmRSS:\s+(\d+) kB", file.read())[1])
+        assert memory < 100000, memory
+        slow.sendall(b"examine ?mark?\r\n")
+        data = b""
+        while b"I don't understand '?mark?'." not in data:
+            data += slow.recv(1 << 20)
+        assert b"<Output Flushed>" in data and len(data) < 3600 * 2000, len(data)
+
+
 def the_end(folder):
     with Server(folder) as server, Front(folder, server.port) as front, front.telnet() as one, front.page() as two, front.page() as three:
         one.enter()
@@ -631,7 +656,7 @@ def words_that_are_wrong(folder):
                            (("--web-tls", "127.0.0.1:0", *files[:2]), "wants --certificate FILE and --key FILE"), (("--web-tls", "127.0.0.1:0", files[0], "nothing.pem", *files[2:]), "nothing.pem: No such file"),
                            (("--web-tls", "127.0.0.1:0", files[0], files[3], *files[2:]), "aren't a certificate and its key")):
             holds(words, refuses("front", *words, folder=folder), why)
-    for words in (("--telnet", "x"), ("--telnet", "65536"), ("--telnet", "-1"), ("--telnet", "host:"), ("--links", "0", "--telnet", "0"), ("--login", "x"), ("--frob",), ("more",)):
+    for words in (("--telnet", "x"), ("--telnet", "65536"), ("--telnet", "-1"), ("--telnet", "host:"), ("--links", "0", "--telnet", "0"), ("--keepalive", "10001", "--telnet", "0"), ("--tries", "1e3", "--telnet", "0"), ("--login", "x"), ("--frob",), ("more",)):
         done = subprocess.run([os.path.join(TOP, "contrib/front"), *words], capture_output=True, timeout=PATIENCE)
         same(words, (done.returncode, done.stdout, b"usage: front" in done.stderr), (1, b"", True))
     holds("--help", works("front", "--help", folder=folder), "usage: front", "--telnet-tls", "--keepalive")
@@ -687,4 +712,4 @@ def what_the_manual_says(folder):
 
 
 TESTS = [lines_as_the_world_takes_them, what_telnet_says_of_itself, what_a_login_is, what_is_counted, by_telnet_and_by_the_page, by_tls, the_page, links_of_an_address, connections_that_are_no_links, tries_of_passwords,
-         time_at_the_login_screen, who_has_vanished, a_world_that_is_down, a_world_that_is_full, something_else_than_a_world, hostile_bytes, the_end, words_that_are_wrong, what_the_manual_says, without_aiohttp, a_hundred_in_one_room, what_is_needed]
+         time_at_the_login_screen, who_has_vanished, a_world_that_is_down, a_world_that_is_full, something_else_than_a_world, hostile_bytes, who_does_not_read, the_end, words_that_are_wrong, what_the_manual_says, without_aiohttp, a_hundred_in_one_room, what_is_needed]

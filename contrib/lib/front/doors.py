@@ -12,6 +12,7 @@ from .limits import counted, plain_address
 from .telnet import TelnetSide
 from .visit import Visit
 from .web import SECONDS_TO_ASK
+from .world import MOST_UNREAD
 
 SECONDS_TO_SHAKE = 20
 # connections that are no links yet, as those that fetch the page: of an address beyond four for each link, and of all beyond one for each
@@ -63,8 +64,9 @@ def listening(host, port):
         raise Refused(f"port {port}{f' of {host}' if host else ''} can't be listened on: {why.strerror or why}") from None
 
 
-def keep_alive(one, seconds):
-    """An other end that has vanished is found within some three times the seconds, also where something waits to be sent to it."""
+def prepare(one, seconds):
+    """Little waits to be sent to who doesn't read. An other end that has vanished is found within some three times the seconds, also where something waits to be sent to it."""
+    one.setsockopt(socket.SOL_SOCKET, socket.SO_SNDBUF, MOST_UNREAD)
     one.setsockopt(socket.SOL_SOCKET, socket.SO_KEEPALIVE, 1)
     third = max(seconds // 3, 1)
     for name, value in (("TCP_KEEPIDLE", seconds), ("TCP_KEEPINTVL", third), ("TCP_KEEPCNT", 5), ("TCP_USER_TIMEOUT", 3000 * seconds)):
@@ -92,10 +94,13 @@ class Door:
         while True:
             try:
                 one, where = await loop.sock_accept(self.listener)
+            except ConnectionError:
+                # it went before it was taken
+                continue
             except OSError as why:
-                # there is no descriptor left, or one went before it was taken
+                # there is no descriptor left
                 log.write("fault", how=self.how, cause=errno.errorcode.get(why.errno, "OSError"))
-                await asyncio.sleep(0.1)
+                await asyncio.sleep(1)
                 continue
             task = loop.create_task(self.take(one, where[0], there))
             tasks.add(task)
@@ -110,7 +115,7 @@ class Door:
             return
         there[who] += 1
         try:
-            keep_alive(one, self.front.keepalive)
+            prepare(one, self.front.keepalive)
             await (self.telnet if self.kind == "telnet" else self.web)(one, who, address)
         except OSError:
             # it went, or failed to shake hands

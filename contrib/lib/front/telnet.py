@@ -68,7 +68,8 @@ class TelnetSide:
     """Who came by telnet: lines that are typed, and lines that are shown."""
 
     def __init__(self, reader, writer, who, address, how):
-        self.reader, self.writer, self.who, self.address, self.how = reader, writer, who, address, how
+        self.reader, self.writer, self.transport = reader, writer, writer.transport
+        self.who, self.address, self.how = who, address, how
         self.commands, self.splitter, self.waiting = Commands(), Splitter(), collections.deque()
         self.is_first, self.left = True, "left"
 
@@ -118,7 +119,7 @@ class TelnetSide:
         try:
             await asyncio.wait_for(self.writer.wait_closed(), SECONDS_TO_CLOSE)
         except (OSError, asyncio.TimeoutError):
-            self.writer.transport.abort()
+            self.transport.abort()
 
     async def drop_what_comes(self):
         while await self.reader.read(65536):

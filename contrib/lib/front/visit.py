@@ -148,6 +148,6 @@ class Visit:
         try:
             if why in SAID:
                 await asyncio.wait_for(self.side.say(SAID[why]), 5)
+            await self.side.close(why in AGAIN)
         except (OSError, asyncio.TimeoutError):
-            pass
-        await self.side.close(why in AGAIN)
+            self.side.transport.abort()

@@ -6,7 +6,6 @@ import json
 import logging
 import os
 import re
-from urllib.parse import urlsplit
 
 from aiohttp import WSMsgType, web
 
@@ -23,6 +22,7 @@ STAY_AWAY = 4000
 COME_AGAIN = 4001
 # a connection that becomes no link in so many seconds is closed
 SECONDS_TO_ASK = 60
+SECONDS_TO_CLOSE = 5
 
 # what hostile requests do wrong is no news; faults of the front itself have a line of the log
 logging.getLogger("aiohttp").addHandler(logging.NullHandler())
@@ -49,7 +49,8 @@ class WebSide:
     """Who came by the page. A message to it is an object of JSON with `lines` of the world, a sentence of the `door`, or the name of who is `in`; one from it is lines of text."""
 
     def __init__(self, socket, connection):
-        self.socket, self.who, self.address, self.how = socket, connection.who, connection.address, connection.how
+        self.socket, self.transport = socket, connection.transport
+        self.who, self.address, self.how = connection.who, connection.address, connection.how
         self.waiting, self.left = collections.deque(), "left"
 
     async def line(self):
@@ -76,7 +77,10 @@ class WebSide:
         await self.tell(**{"in": name})
 
     async def close(self, again):
-        await self.socket.close(code=COME_AGAIN if again else STAY_AWAY)
+        try:
+            await asyncio.wait_for(self.socket.close(code=COME_AGAIN if again else STAY_AWAY), SECONDS_TO_CLOSE)
+        except asyncio.TimeoutError:
+            self.transport.abort()
 
 
 class Page:
@@ -102,19 +106,21 @@ class Page:
 
     async def head(self, request, response):
         """The page takes nothing from elsewhere, and stands in no other page."""
-        host = request.host if HOST.fullmatch(request.host) else "'none'"
+        host = request.headers.get("Host", "")
+        # (some browsers don't take 'self' for the address of a WebSocket)
+        link = f" ws://{host} wss://{host}" if HOST.fullmatch(host) else ""
         response.headers.update({
             "Server": "muckd-front", "X-Content-Type-Options": "nosniff", "Referrer-Policy": "no-referrer", "Cache-Control": "no-cache",
-            # (some browsers don't take 'self' for the address of a WebSocket)
-            "Content-Security-Policy": f"default-src 'none'; script-src 'self'; style-src 'self'; connect-src 'self' ws://{host} wss://{host}; base-uri 'none'; form-action 'none'; frame-ancestors 'none'"})
+            "Content-Security-Policy": f"default-src 'none'; script-src 'self'; style-src 'self'; connect-src 'self'{link}; base-uri 'none'; form-action 'none'; frame-ancestors 'none'"})
 
     async def file(self, request):
         name = request.match_info.get("name", "index.html")
         return web.Response(text=self.files[name], content_type=TYPES[name], charset="utf-8")
 
     async def link(self, request):
-        origin = request.headers.get("Origin")
-        if origin is not None and urlsplit(origin).netloc != request.host:
+        # (aiohttp's own `host` looks up a name where none is said, and all would wait for that)
+        host, origin = request.headers.get("Host", ""), request.headers.get("Origin")
+        if origin is not None and origin not in (f"http://{host}", f"https://{host}"):
             raise web.HTTPForbidden(text="A page from elsewhere has no link here.\n")
         socket = web.WebSocketResponse(heartbeat=self.front.keepalive, max_msg_size=MOST_MESSAGE, compress=False, timeout=2)
         if not socket.can_prepare(request):

@@ -1,10 +1,13 @@
 """The link to the world behind the door."""
 import asyncio
+import socket
 
 from .login import GREETING
 
 # what is kept of a line that doesn't end; the world's own are shorter
 MOST_LINE = 65536
+# what the system keeps of what the world says, until the front reads it
+MOST_UNREAD = 65536
 
 
 class Away(Exception):
@@ -46,6 +49,7 @@ async def reach(where, patience):
     """A link to the world, and the lines of its greeting. A world that is full lets a link wait, and doesn't greet it."""
     try:
         it = World(*await asyncio.wait_for(asyncio.open_connection(*where), patience))
+        it.writer.get_extra_info("socket").setsockopt(socket.SOL_SOCKET, socket.SO_RCVBUF, MOST_UNREAD)
     except (OSError, asyncio.TimeoutError):
         raise Away("down") from None
     try:
