@@ -42,10 +42,10 @@ class Front:
         self.ports = {how: int(port) for how, port in re.findall(r" opens how=(\S+) at=127\.0\.0\.1 port=(\d+)", self.log())}
         return self
 
-    def __exit__(self, *_):
+    def __exit__(self, fault, *_):
         self.process.terminate()
         status = self.process.wait(PATIENCE)
-        if _[0] is None:
+        if fault is None:
             same("the front's end", (status, self.log().splitlines()[-1][20:]), (0, "closes"))
 
     def log(self):
@@ -688,7 +688,17 @@ def what_is_needed(folder):
     same("all is there", (done.returncode, done.stdout, done.stderr), (0, b"", b""))
     done = subprocess.run([shutil.which("bash"), os.path.join(TOP, "contrib/setup")], cwd=folder, capture_output=True, timeout=PATIENCE, env={"PATH": folder})
     same("something is missing", (done.returncode, done.stdout), (1, b""))
-    holds("what is said", done.stderr.decode(), "setup: openssl", "apt-get")
+    holds("what is said", done.stderr.decode(), "setup: openssl missing, and there is no apt-get")
+    if os.geteuid():
+        return
+    os.symlink(shutil.which("tail"), os.path.join(folder, "tail"))
+    for name, then, status in (("refuses", "echo no such package; exit 100", 1), ("installs", "case $1 in install) echo $* >>$PATH/asked; printf '#!/bin/sh\n' >$PATH/openssl; /bin/chmod 755 $PATH/openssl;; esac", 0)):
+        put(folder, "apt-get", f"#!/bin/sh\n{then}\n", 0o755)
+        done = subprocess.run([shutil.which("bash"), os.path.join(TOP, "contrib/setup")], cwd=folder, capture_output=True, timeout=PATIENCE, env={"PATH": folder})
+        said = ("setup: installed openssl\n", "") if status == 0 else ("", "no such package\nsetup: openssl missing, and apt-get couldn't install it\n")
+        same(name, (done.returncode, done.stdout.decode(), done.stderr.decode()[-len(said[1]):] if said[1] else done.stderr.decode()), (status, *said))
+    with open(os.path.join(folder, "asked"), encoding="ascii") as file:
+        same("what is asked for", file.read(), "install -y --no-install-recommends openssl\n")
 
 
 def what_the_manual_says(folder):
