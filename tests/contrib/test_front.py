@@ -340,6 +340,16 @@ def by_telnet_and_by_the_page(folder):
             assert secret not in front.log(), front.log()
 
 
+def lines_that_come_at_once(folder):
+    """Each answer of the login screen is that of its own line, however many wait."""
+    players(folder, "Two")
+    with Server(folder) as server, Front(folder, server.port) as front, front.telnet() as one:
+        one.socket.sendall(b"connect Ann first\r\nWHO\r\nconnect Bob second\r\nnothing\r\nconnect Two secret\r\nsay one\r\nsay two\r\nQUIT\r\n")
+        same("what is shown", one.rest(), [GREETING, WRONG, "0 connected.", WRONG, GREETING, "Room Zero", "Contents:", "One", 'You say, "one"', 'You say, "two"', "Come back later!"])
+        front.until_logged(" goes ")
+        same("the log", [line.replace(" how=telnet link=1", "") for line in front.told()], ["comes", "fails name=Ann", "fails name=Bob", "in name=Two", "goes name=Two why=quit"])
+
+
 def by_tls(folder):
     words = certificate(folder, "first")
     players(folder, "Two")
@@ -368,9 +378,10 @@ def by_tls(folder):
             front.process.send_signal(signal.SIGHUP)
             front.until(lambda log: log.count(" fault ") > count)
             same("as it was", shown(), after)
-        # another's key
-        put(folder, "fullchain.pem", good)
-        subprocess.run(["openssl", "genpkey", "-algorithm", "EC", "-pkeyopt", "ec_paramgen_curve:prime256v1", "-out", "privkey.pem"], cwd=folder, check=True, capture_output=True)
+        # one whose key is another
+        os.mkdir(os.path.join(folder, "third"))
+        certificate(os.path.join(folder, "third"), "third")
+        shutil.copy(os.path.join(folder, "third/fullchain.pem"), folder)
         count = front.log().count(" fault ")
         front.process.send_signal(signal.SIGHUP)
         front.until(lambda log: log.count(" fault ") > count)
@@ -721,5 +732,5 @@ def what_the_manual_says(folder):
     assert os.path.exists(os.path.join(TOP, "docs/front.png"))
 
 
-TESTS = [lines_as_the_world_takes_them, what_telnet_says_of_itself, what_a_login_is, what_is_counted, by_telnet_and_by_the_page, by_tls, the_page, links_of_an_address, connections_that_are_no_links, tries_of_passwords,
+TESTS = [lines_as_the_world_takes_them, what_telnet_says_of_itself, what_a_login_is, what_is_counted, by_telnet_and_by_the_page, lines_that_come_at_once, by_tls, the_page, links_of_an_address, connections_that_are_no_links, tries_of_passwords,
          time_at_the_login_screen, who_has_vanished, a_world_that_is_down, a_world_that_is_full, something_else_than_a_world, hostile_bytes, who_does_not_read, the_end, words_that_are_wrong, what_the_manual_says, without_aiohttp, a_hundred_in_one_room, what_is_needed]
