@@ -8,6 +8,8 @@ import time
 HERE = os.path.dirname(os.path.realpath(__file__))
 TOP = os.path.realpath(os.path.join(HERE, "../.."))
 PROGRAM = os.path.abspath(os.environ.get("MUCKD", os.path.join(TOP, "bin/muckd")))
+# the program itself, where that is bin/muckd
+BINARY = os.path.join(TOP, "dist/muckd") if os.path.realpath(PROGRAM) == os.path.join(TOP, "bin/muckd") else PROGRAM
 # (on a machine that is busy with proofs an answer may take its time)
 PATIENCE = 600
 LOGIN = "open 1\nsend 1 connect One potrzebie\n"

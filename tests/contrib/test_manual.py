@@ -1,16 +1,21 @@
-"""docs/KEEPER.md: its examples, in their order, with a server on a free port in place of 4201."""
+"""docs/KEEPER.md and docs/PUBLIC.md: their examples, in their order, with a server on a free port in place of 4201."""
 import os
 import re
+import shutil
 import signal
 import subprocess
 
-from common import PATIENCE, PROGRAM, TOP, free_port, same
+from common import BINARY, PATIENCE, PROGRAM, TOP, free_port, same
 
 
-def examples():
-    """The commands of the manual with what they show."""
-    with open(os.path.join(TOP, "docs/KEEPER.md"), encoding="utf-8") as file:
-        lines = [line for block in re.findall(r"```shell\n(.*?)```", file.read(), re.S) for line in block.splitlines()]
+def text_of(page):
+    with open(os.path.join(TOP, page), encoding="utf-8") as file:
+        return file.read()
+
+
+def examples(page):
+    """The commands of a page with what they show."""
+    lines = [line for block in re.findall(r"```shell\n(.*?)```", text_of(page), re.S) for line in block.splitlines()]
     found = []
     for line in lines:
         if line.startswith("$ "):
@@ -26,14 +31,20 @@ def plain(text):
     return re.sub(r"(answer_ms|dump_age|store_bytes)=[\d.]+", r"\1=N", text)
 
 
-def the_manual(folder):
+def of_any_number(text):
+    """The same without the numbers of dumps: where the machine is slow, a server makes some by itself."""
+    return re.sub(r"dump \d+", "dump N", plain(text))
+
+
+def run_page(folder, page, plain):
+    """Runs the examples of a page; each server that they start ends with 0."""
     port, servers = str(free_port()), []
     for name in ("contrib", "demos", "tests", "docs"):
         os.symlink(os.path.join(TOP, name), os.path.join(folder, name))
     os.mkdir(os.path.join(folder, "bin"))
     os.symlink(PROGRAM, os.path.join(folder, "bin/muckd"))
-    rows = examples()
-    assert len(rows) > 40, len(rows)
+    rows = examples(page)
+    assert len(rows) > 30, len(rows)
     try:
         for command, want in rows:
             command = command.replace("4201", port)
@@ -41,8 +52,9 @@ def the_manual(folder):
                 servers.append(subprocess.Popen(command[:-2].split(), cwd=folder, stdin=subprocess.DEVNULL, stdout=subprocess.DEVNULL, stderr=subprocess.DEVNULL))
                 continue
             done = subprocess.run(["bash", "-c", "umask 022; " + command], cwd=folder, stdin=subprocess.DEVNULL, stdout=subprocess.PIPE, stderr=subprocess.STDOUT, timeout=PATIENCE, env={**os.environ, "MUCKD": PROGRAM})
-            same(command, plain(done.stdout.decode()).splitlines(), want)
-        same("the server's end", [it.wait(PATIENCE) for it in servers], [0])
+            same(command, plain(done.stdout.decode()).splitlines(), [plain(line) for line in want])
+        assert servers
+        same("the servers' ends", [it.wait(PATIENCE) for it in servers], [0] * len(servers))
     finally:
         for it in servers:
             if it.poll() is None:
@@ -50,10 +62,20 @@ def the_manual(folder):
                 it.wait()
 
 
+def the_manual(folder):
+    run_page(folder, "docs/KEEPER.md", plain)
+
+
+def going_public(folder):
+    # the program that an upgrade brings
+    os.makedirs(os.path.join(folder, "new/bin"))
+    shutil.copy(BINARY, os.path.join(folder, "new/bin/muckd"))
+    run_page(folder, "docs/PUBLIC.md", of_any_number)
+
+
 def what_it_links_to(folder):
     """The manual names files that are there."""
-    with open(os.path.join(TOP, "docs/KEEPER.md"), encoding="utf-8") as file:
-        text = file.read()
+    text = text_of("docs/KEEPER.md")
     for name in set(re.findall(r"\]\(([\w./]+\.md)", text)):
         assert os.path.exists(os.path.join(TOP, "docs", name)), name
     for name in set(re.findall(r"`(contrib/[\w./-]+|demos/[\w./-]+|tests/[\w./-]+)`", text)):
@@ -62,4 +84,20 @@ def what_it_links_to(folder):
         assert f"`{name}`" in text, name
 
 
-TESTS = [the_manual, what_it_links_to]
+def parts_that_are_linked(folder):
+    """What docs/PUBLIC.md links to is there: pages, and headings in them; and so are the files of the tree that it names."""
+    text = text_of("docs/PUBLIC.md")
+    # the front comes with its page and its unit
+    to_come = set() if os.path.exists(os.path.join(TOP, "contrib/front")) else {"contrib/front", "FRONT.md", "muckd-front.service"}
+    for page, part in re.findall(r"\]\(([\w.]*)#?([\w-]*)\)", text):
+        if page in to_come:
+            continue
+        headings = [re.sub(r"[^\w -]", "", line.lstrip("# ").lower()).replace(" ", "-") for line in text_of(os.path.join("docs", page or "PUBLIC.md")).splitlines() if line.startswith("#")]
+        assert not part or part in headings, (page, part)
+    for name in set(re.findall(r"(?<![\w/])contrib/[\w./-]*\w(?![\w*-])", text)) - to_come:
+        assert os.path.exists(os.path.join(TOP, name)), name
+    for name in set(re.findall(r"muckd-\w+\.(?:timer|service)", text)) - to_come:
+        assert os.path.exists(os.path.join(TOP, "contrib/systemd", name)), name
+
+
+TESTS = [the_manual, what_it_links_to, going_public, parts_that_are_linked]
