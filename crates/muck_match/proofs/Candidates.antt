@@ -67,7 +67,7 @@ near_of_both w fit text player place e =
 abbrev pub numbers_from : ℕ → ℕ → List Dbref
 numbers_from n c = map (λ k. numbered (pos k)) (range_with_len n (c - n))
 
-numbers_step : (n c : ℕ) → n < c → numbers_from n c ≡ numbered (pos n) ∷ numbers_from (n + 1) c
+pub numbers_step : (n c : ℕ) → n < c → numbers_from n c ≡ numbered (pos n) ∷ numbers_from (n + 1) c
 numbers_step n c lt =
     let e : c - n ≡ suc (c - (n + 1)) = omega arith in
     ap (λ m. map (λ k. numbered (pos k)) (range_with_len n m)) e

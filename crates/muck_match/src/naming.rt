@@ -1,8 +1,10 @@
 // What a text names.
 ghost use Rattle.std.specs.Prelude.{◌≡◌, ◌<◌, ◌^◌, pos};
 ghost use Rattle.std.specs.List.{filter};
+ghost use Rattle.std.specs.Option.{option_copied};
 ghost use Rattle.muck_model.specs.Numbers.{numbered};
-ghost use Rattle.muck_match.specs.Naming.{chosen, joined, one_of, is_nobody, answers, near, named, fits, is_player_named, player_named, if_there, found_by_sign, found};
+ghost use Rattle.muck_match.specs.inner.Listed.{AreListed};
+ghost use Rattle.muck_match.specs.Naming.{chosen, joined, one_of, is_nobody, answers, near, named, fits, is_player_named, player_named, if_there, starred, found_by_sign, found};
 
 use crate::exits::first_hit;
 use crate::sights::{is_nothing, is_player, is_there, place_in};
@@ -152,8 +154,27 @@ pub fn player_named<S: Scene>(scene: &S, name: &[u8]) -> Option<Dbref>
     None
 }
 
+/// The player of that name, as `player_named` finds it, where each player is among these numbers. It looks at no others, and takes no memory.
+pub fn player_among<S: Scene>(scene: &S, numbers: &[u32], name: &[u8]) -> Option<Dbref>
+    requires { AreListed (S.shown scene.now) numbers.now }
+    ensures { result ≡ player_named (S.shown scene.now) name.now }
+{
+    let count = scene.objects();
+    let mut least = count;
+    for n in numbers {
+        if *n < least && is_player_named(scene, name, numbered(*n)) {
+            least = *n;
+        }
+    }
+    if least < count {
+        Some(numbered(least))
+    } else {
+        None
+    }
+}
+
 /// The player of that name, compared without regard to case; of several, the one with the lowest number. A scene shows
-/// no list of its players, so this goes over all numbers of objects. It takes no memory.
+/// no list of its players, so this goes over all numbers of objects; `player_among` doesn't. It takes no memory.
 pub fn player<S: Scene>(scene: &S, name: &Line) -> Option<Dbref>
     ensures { result ≡ player_named (S.shown scene.now) name.now }
 {
@@ -205,4 +226,23 @@ pub fn find<S: Scene>(scene: &S, player: Dbref, text: &Line) -> Found
         return Found::One(HOME);
     }
     found_by_sign(scene, player, bytes)
+}
+
+// What stands behind a `*`.
+fn behind_star(text: &[u8]) -> Option<&[u8]>
+    ensures { option_copied result ≡ starred text.now }
+{
+    let (first, name) = text.split_first()?;
+    if *first == b'*' { Some(name) } else { None }
+}
+
+/// What the text names for the player, as `find` finds it, where each player is among these numbers: for `*player` it looks at them alone.
+pub fn find_among<S: Scene>(scene: &S, numbers: &[u32], player: Dbref, text: &Line) -> Found
+    requires { AreListed (S.shown scene.now) numbers.now }
+    ensures { result ≡ found (S.shown scene.now) player text.now }
+{
+    match behind_star(text.as_slice()) {
+        Some(name) => one_of(player_among(scene, numbers, name)),
+        None => find(scene, player, text),
+    }
 }

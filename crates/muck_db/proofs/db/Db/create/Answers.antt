@@ -29,9 +29,9 @@ pub dbref_of-requires : goal.dbref_of-requires
 dbref_of-requires c = omega (arith, put_few _ _ _ _ _ _ (sym c.check_create.ensures ∙ c.in_ok-n.was))
 
 pub invariant_of-self-2 : goal.invariant_of-self-2
-invariant_of-self-2 c = kept_created c.self.inside.slots.items _ _ c.in_ok-n.n c.in_ok-n.to _ _ c.args.kind c.args.name c.args.owner c.args.place (sym c.check_create.ensures ∙ c.in_ok-n.was)
+invariant_of-self-2 c = kept_created c.self.inside.slots.items _ _ c.in_ok-n.n c.in_ok-n.to _ _ _ c.args.kind c.args.name c.args.owner c.args.place (sym c.check_create.ensures ∙ c.in_ok-n.was)
     (put_begins c.self.inside.slots.items _ c.in_ok-n.n c.in_ok-n.to c.args.kind c.args.name c.args.owner c.args.place _ (sound_order _ c.self.invariant.sound) (sym c.check_create.ensures ∙ c.in_ok-n.was) c.in_ok-object.ensures.object c.in_ok-put_object.ensures.put)
-    c.requires.some c.requires.short c.relocate.ensures.moved c.relocate.ensures.order c.self.invariant
+    c.requires.some c.requires.short c.relocate.ensures.moved c.relocate.ensures.order c.list_player.ensures c.self.invariant
 
 pub returns : goal.returns
 returns c =

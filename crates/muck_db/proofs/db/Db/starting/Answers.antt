@@ -5,7 +5,7 @@ use Rattle.muck_db.proofs.Starting.{first_kept, entries_first}
 use Rattle.muck_db.proofs.db.Db.starting.Goals as goal
 
 pub invariant_of-result : goal.invariant_of-result
-invariant_of-result c = first_kept _ c.in_ok-slots.ensures
+invariant_of-result c = first_kept _ _ c.in_ok-slots.ensures c.in_ok-players.ensures
 
 pub returns : goal.returns
 returns c = ap (λ (z : List Slot). entries_of z) c.in_ok-slots.ensures ∙ entries_first
