@@ -11,6 +11,7 @@ ghost use Rattle.mpi.specs.Thoughts.{Thinks};
 ghost use Rattle.mpi.specs.Values.{nth, items, alike, is_true, number_of};
 
 use crate::acting::{Place, act, own, value_of};
+use crate::alike::answer_alike;
 use crate::brackets::{Piece, arguments, balances, piece_ahead};
 use crate::fault::MpiFault;
 use crate::functions::{Function, How, Keep, Scope, Way};
@@ -360,18 +361,14 @@ fn in_scope<H: Host>(
     ensures same { H.same host.old host.new }
 {
     let at = before_body(scope);
+    let body = text_at(texts, at);
     let values = values_of(place, host, mind, deeper, texts_before(texts, at))?;
+    if let Some(answer) = answer_alike(place.alloc, scope, &values, body)? {
+        return Ok(answer);
+    }
     let name = own(place.alloc, &values, 0)?;
     let old = mind.own_value(place.alloc, &name)?;
-    let answer = bodies(
-        place,
-        host,
-        mind,
-        deeper,
-        scope,
-        &values,
-        text_at(texts, at),
-    );
+    let answer = bodies(place, host, mind, deeper, scope, &values, body);
     mind.give_back(name, old)?;
     answer
 }

@@ -2,6 +2,7 @@
 #![tactic(auto)]
 
 mod acting;
+mod alike;
 mod brackets;
 mod evaluator;
 mod fault;

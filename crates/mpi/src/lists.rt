@@ -159,9 +159,9 @@ pub(crate) fn items<'a>(alloc: Global, list: &'a [u8]) -> Result<Vec<&'a [u8]>, 
     Ok(parts)
 }
 
-// A list with an item more; `TooLong` exactly where that is too long. There may be no list yet.
+/// A list with an item more; `TooLong` exactly where that is too long. There may be no list yet.
 #[tactic(auto, using(crate::proofs::Lengths::length_steps))]
-fn longer(alloc: Global, list: Option<Vec<u8>>, item: &[u8]) -> Result<Vec<u8>, MpiFault>
+pub(crate) fn longer(alloc: Global, list: Option<Vec<u8>>, item: &[u8]) -> Result<Vec<u8>, MpiFault>
     requires list { IfSome list (λ bytes. text_fault bytes.items ≡ None) }
     requires item { text_fault item.now ≡ None }
     ensures value { Means (text_or_long (longer (option_map (λ bytes. bytes.items) list) item.now)) (seen_as (λ bytes. bytes.items) result) }

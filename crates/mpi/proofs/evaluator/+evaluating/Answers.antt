@@ -17,6 +17,8 @@ use Rattle.mpi.proofs.Calls.{too_deep, none_left, entered_is, variable_comes, pr
 use Rattle.mpi.specs.Gathering.{as_text, kept_of, list_or_long}
 use Rattle.mpi.specs.Values.{nth, is_true, items}
 use Rattle.mpi.proofs.Mapped.{next_mapped, none_mapped, mapped_text}
+use Rattle.mpi.specs.inner.Alike.{answer_alike, transposed}
+use Rattle.mpi.proofs.AlikeItems.{alike_answers, alike_fails}
 use Rattle.mpi.proofs.Turns.{value_end, value_more, value_fails, until_end, until_more, until_known, until_fails, while_stops, while_turns, while_test_fails, while_count_fails, while_body_fails, while_ends, scope_fails, scope_comes, with_is, for_stops, for_turns, for_count_fails, for_body_fails, for_ends, item_end, item_more, item_long, item_fails}
 use Rattle.std.specs.FinMap.{get}
 use Rattle.std.specs.Fmt.{signed_decimal}
@@ -209,14 +211,31 @@ in_scope-returns-in_err-values-clause-thinks g t c =
     let back : c.from_residual.result ≡ Err c.in_err-values.field-0.0 = search rules in
     rw back (scope_fails (meaning (scene_of g.H.Host.powers c.args.place.this) c.args.deeper) c.args.scope (map (λ x. x.now) c.args.texts.now) (map (λ x. x.now) c.texts_before.result.now) (c.args.mind.now, g.H.Host.seen c.args.host.now) (c.values_of.new.mind, g.H.Host.seen c.values_of.new.host) c.in_err-values.field-0.0 (c.texts_before.ensures.value ∙ ap (λ n. take n (map (λ x. x.now) c.args.texts.now)) c.before_body-at.ensures) c.in_err-values.ensures.thinks)
 
+pub in_scope-returns-in_err-answer-clause-thinks : goal.in_scope-returns-in_err-answer-clause-thinks
+in_scope-returns-in_err-answer-clause-thinks g t c =
+    let fault = c.in_err-answer.field-0.0 in
+    let back : c.from_residual-in_err-answer.result ≡ Err fault = search rules in
+    rw back (alike_fails (scene_of g.H.Host.powers c.args.place.this) c.args.deeper c.args.scope (map (λ x. x.now) c.args.texts.now) (map (λ x. x.now) c.texts_before.result.now) c.in_ok-values.values.items c.text_at-body.result.now fault (c.args.mind.now, g.H.Host.seen c.args.host.now) (c.values_of.new.mind, g.H.Host.seen c.values_of.new.host)
+    (c.texts_before.ensures.value ∙ ap (λ n. take n (map (λ x. x.now) c.args.texts.now)) c.before_body-at.ensures) c.in_ok-values.ensures.thinks
+    (c.text_at-body.ensures.value ∙ ap (λ n. nth n (map (λ x. x.now) c.args.texts.now)) c.before_body-at.ensures) c.text_at-body.ensures.text
+    (subst (λ xs. Means (transposed (answer_alike c.args.scope xs c.text_at-body.result.now)) (Err fault)) c.deref.ensures.value c.in_err-answer.ensures))
+
+pub in_scope-returns-in-Some-clause-thinks : goal.in_scope-returns-in-Some-clause-thinks
+in_scope-returns-in-Some-clause-thinks g t c =
+    let known : transposed (answer_alike c.args.scope c.deref.result.now c.text_at-body.result.now) ≡ Ok (Some c.in-Some.answer) = search rules in
+    alike_answers (scene_of g.H.Host.powers c.args.place.this) c.args.deeper c.args.scope (map (λ x. x.now) c.args.texts.now) (map (λ x. x.now) c.texts_before.result.now) c.in_ok-values.values.items c.text_at-body.result.now c.in-Some.answer (c.args.mind.now, g.H.Host.seen c.args.host.now) (c.values_of.new.mind, g.H.Host.seen c.values_of.new.host)
+    (c.texts_before.ensures.value ∙ ap (λ n. take n (map (λ x. x.now) c.args.texts.now)) c.before_body-at.ensures) c.in_ok-values.ensures.thinks
+    (c.text_at-body.ensures.value ∙ ap (λ n. nth n (map (λ x. x.now) c.args.texts.now)) c.before_body-at.ensures) c.text_at-body.ensures.text
+    (subst (λ xs. transposed (answer_alike c.args.scope xs c.text_at-body.result.now) ≡ Ok (Some c.in-Some.answer)) c.deref.ensures.value known)
+
 pub in_scope-returns-clause-thinks : goal.in_scope-returns-clause-thinks
 in_scope-returns-clause-thinks g t c =
     let values = c.in_ok-values.values.items in
-    let name_is : c.in_ok-name.name ≡ nth 0 values = c.in_ok-name.ensures ∙ ap (λ xs. nth 0 xs) c.deref.ensures.value in
-    let body_is : c.text_at.result.now ≡ nth (before_body c.args.scope) (map (λ x. x.now) c.args.texts.now) = c.text_at.ensures.value ∙ ap (λ n. nth n (map (λ x. x.now) c.args.texts.now)) c.before_body-at.ensures in
+    let name_is : c.in_ok-name.name ≡ nth 0 values = c.in_ok-name.ensures ∙ ap (λ xs. nth 0 xs) c.deref-2.ensures.value in
+    let body_is : c.text_at-body.result.now ≡ nth (before_body c.args.scope) (map (λ x. x.now) c.args.texts.now) = c.text_at-body.ensures.value ∙ ap (λ n. nth n (map (λ x. x.now) c.args.texts.now)) c.before_body-at.ensures in
     let done : Thinks (bodies c.args.scope (meaning (scene_of g.H.Host.powers c.args.place.this) c.args.deeper) values (nth (before_body c.args.scope) (map (λ x. x.now) c.args.texts.now))) (c.values_of.new.mind, g.H.Host.seen c.values_of.new.host) (c.bodies-answer.new.mind, g.H.Host.seen c.bodies-answer.new.host) c.bodies-answer.result =
     subst (λ b. Thinks (bodies c.args.scope (meaning (scene_of g.H.Host.powers c.args.place.this) c.args.deeper) values b) (c.values_of.new.mind, g.H.Host.seen c.values_of.new.host) (c.bodies-answer.new.mind, g.H.Host.seen c.bodies-answer.new.host) c.bodies-answer.result) body_is
-    (subst (λ xs. Thinks (bodies c.args.scope (meaning (scene_of g.H.Host.powers c.args.place.this) c.args.deeper) xs c.text_at.result.now) (c.values_of.new.mind, g.H.Host.seen c.values_of.new.host) (c.bodies-answer.new.mind, g.H.Host.seen c.bodies-answer.new.host) c.bodies-answer.result) c.deref-2.ensures.value c.bodies-answer.ensures.thinks) in
+    (subst (λ xs. Thinks (bodies c.args.scope (meaning (scene_of g.H.Host.powers c.args.place.this) c.args.deeper) xs c.text_at-body.result.now) (c.values_of.new.mind, g.H.Host.seen c.values_of.new.host) (c.bodies-answer.new.mind, g.H.Host.seen c.bodies-answer.new.host) c.bodies-answer.result) c.deref-3.ensures.value c.bodies-answer.ensures.thinks) in
     let back : c.give_back.new.self ≡ given_back_in (nth 0 values) (get c.values_of.new.mind.variables (nth 0 values)) c.bodies-answer.new.mind =
     c.in_ok-give_back.ensures ∙ (λ i. given_back_in (name_is i) ((c.in_ok-old.ensures ∙ ap (λ n. get c.values_of.new.mind.variables n) name_is) i) c.bodies-answer.new.mind) in
     scope_comes (meaning (scene_of g.H.Host.powers c.args.place.this) c.args.deeper) c.args.scope (map (λ x. x.now) c.args.texts.now) (map (λ x. x.now) c.texts_before.result.now) values (c.args.mind.now, g.H.Host.seen c.args.host.now) (c.values_of.new.mind, g.H.Host.seen c.values_of.new.host) (c.bodies-answer.new.mind, g.H.Host.seen c.bodies-answer.new.host) (c.give_back.new.self, g.H.Host.seen c.bodies-answer.new.host) c.bodies-answer.result (c.texts_before.ensures.value ∙ ap (λ n. take n (map (λ x. x.now) c.args.texts.now)) c.before_body-at.ensures) c.in_ok-values.ensures.thinks done (ap (λ m. (m, g.H.Host.seen c.bodies-answer.new.host)) back)
