@@ -1,4 +1,5 @@
-pub mod Splits
 pub mod Outputs
+pub mod Ended
+pub mod Sending
 pub mod Numbered
 pub mod Quiet

@@ -1,7 +1,6 @@
 pub mod Sent
-pub mod Begun
+pub mod Waiting
 pub mod Bounded
-pub mod Pieces
 pub mod Lines
 pub mod Silent
 pub mod Lent
