@@ -75,6 +75,10 @@ grown_mark n k es = elim (cases_eq n (length es)) [
   | inr e ↦ ap (λ (z : List Entry). mark_in z k) (grown_same n es e)
 ]
 
+-- more numbers may stand among those of the players
+pub kept_listed : (slots : List Slot) (lowest told : ℕ) (players more : List ℕ) → ((k : ℕ) → IsAmong players k → IsAmong more k) → IsKept slots lowest told players → IsKept slots lowest told more
+kept_listed slots lowest told players more longer kept = record { sound = kept.sound; full = kept.full; unmarked = kept.unmarked; listed = λ k h. longer k (kept.listed k h) }
+
 -- the rule of the type behind a creation
 pub kept_created : (old mid new : List Slot) (n to lowest told : ℕ) (players : List ℕ) (kind : Kind) (name : List ℕ) (owner place : Dbref) → create_check kind owner place (entries_of old) ≡ Ok (n, to) → Put old mid n to kind name owner
     → 1 ≤ length name → length name ≤ 80 → entries_of new ≡ moved n to (entries_of mid) → HasOrder new → (is_player kind ≡ true → IsAmong players n) → IsKept old lowest told players → IsKept new (n + 1) told players

@@ -213,6 +213,9 @@ limits-loaded os h k o e = by_record (slice_get os k) refl (sym (object-loaded o
 
 -- The rule of the type.
 
+pub slots_few : (os : List Stored) (slots : List Slot) → slots ≡ slots_of os → length os ≤ 100000 → length slots ≤ 100000
+slots_few os slots is few = omega (arith, few, length-slots_of os, ap (λ (z : List Slot). length z) is)
+
 pub slots_kept : (os : List Stored) (slots : List Slot) (players : List ℕ) → slots ≡ slots_of os → HasPlayers slots players → IsHung os → list_all fits os ≡ true → IsKept slots 0 0 players
 slots_kept os slots players is listed hung fine =
     let K : List Slot → Type 0 = λ z. IsKept z 0 0 players in

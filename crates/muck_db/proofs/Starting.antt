@@ -1,5 +1,5 @@
 -- The first table.
-use Rattle.std.proofs.Common.{◌≡◌, ℕ, zero, suc, List, [], ◌∷◌, Option, Some, None, refl, sym, subst, length, arith, Bool, true, false}
+use Rattle.std.proofs.Common.{◌≡◌, ℕ, ◌≤◌, zero, suc, List, [], ◌∷◌, Option, Some, None, refl, sym, ap, subst, length, arith, Bool, true, false}
 use Rattle.spec_live.specs.Chain.{walk, IsChain, Ends}
 use Rattle.spec_live.specs.Objects.{Entry}
 use Rattle.spec_live.specs.Start.{first_objects}
@@ -47,6 +47,9 @@ first_ends : (v : Bool) (p : ℕ) → Ends (length first_slots) (next_at first_s
 first_ends true p = let P : Option ℕ → Type 0 = λ o. Ends (length first_slots) (next_at first_slots) o in subst P (sym (first_exits p)) (ends_none (length first_slots) (next_at first_slots))
 first_ends false zero = let P : Option ℕ → Type 0 = λ o. Ends (length first_slots) (next_at first_slots) o in subst P (sym first_content) (ends_from (length first_slots) (next_at first_slots) (Some 1) (1 ∷ []) one_chain)
 first_ends false (suc p) = let P : Option ℕ → Type 0 = λ o. Ends (length first_slots) (next_at first_slots) o in subst P (sym (first_contents p)) (ends_none (length first_slots) (next_at first_slots))
+
+pub first_few : (slots : List Slot) → slots ≡ first_slots → length slots ≤ 100000
+first_few slots is = omega (arith, first_length, ap (λ (z : List Slot). length z) is)
 
 pub first_kept : (slots : List Slot) (players : List ℕ) → slots ≡ first_slots → HasPlayers slots players → IsKept slots 0 0 players
 first_kept slots players is listed =
