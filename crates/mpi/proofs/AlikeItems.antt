@@ -2,10 +2,9 @@
 use Rattle.std.proofs.Common.{◌≡◌, ℕ, ◌+◌, ◌<◌, ◌≤◌, zero, suc, Bool, true, false, cond, List, [], ◌∷◌, ◌++◌, length, take, drop, refl, sym, subst, ap, ◌∙◌, arith, append_assoc, length-append}
 use Rattle.std.specs.Prelude.{Result, Ok, Err, Option, Some, None, option_map, if◌then◌else◌, ◌==◌}
 use Rattle.std.specs.Cmp.Lexicographic.{nat_list_cmp_total}
-use Rattle.std.specs.FinMap.{get, insert, remove, get-insert, get-remove, get_tied, same_map}
+use Rattle.std.specs.FinMap.{get, insert, get-insert, get-remove, get_tied, same_map}
 use Rattle.std.specs.List.{slice_split, onto_first, join_with_byte}
 use Rattle.std.specs.Ordering.{eq_by_cmp, is_eq}
-use Rattle.std.specs.declared.cmp.Ordering.{Ordering}
 use Rattle.std.specs.declared.cmp.Ordering.TheVariants.{Less, Equal, Greater}
 use Rattle.std.proofs.lemmas.Bool.{false≢true}
 use Rattle.std.proofs.lemmas.List.{append-nil}
@@ -16,7 +15,6 @@ use Rattle.mpi.specs.declared.functions.Keep.{Keep}
 use Rattle.mpi.specs.declared.functions.Keep.TheVariants as keep
 use Rattle.mpi.specs.declared.functions.Scope.{Scope}
 use Rattle.mpi.specs.declared.functions.Scope.TheVariants.{Once, Numbers, Items}
-use Rattle.mpi.specs.declared.mind.Mind.{Mind}
 use Rattle.mpi.specs.Brackets.{Piece, byte, call, first_piece, pieces, pieces_up_to}
 use Rattle.mpi.specs.Gathering.{as_text, kept_of, longer}
 use Rattle.mpi.specs.Hosting.{Means}
@@ -29,11 +27,11 @@ use Rattle.mpi.specs.inner.Alike.{said, alike_items, answer_alike, transposed}
 use Rattle.muck_model.specs.Bytes.{text_fault}
 use Rattle.mpi.proofs.Inside.{text_short}
 use Rattle.mpi.proofs.Items.{items_some}
-use Rattle.mpi.proofs.Lengths.{is_short, front_long}
+use Rattle.mpi.proofs.Lengths.{is_short}
 use Rattle.mpi.proofs.Maps.{name_cmp_same}
 use Rattle.mpi.proofs.Pieces.{pieces_ahead}
 use Rattle.mpi.proofs.Thinking.{known}
-use Rattle.mpi.proofs.Turns.{known_first, kept_is, item_first, behind_item, scope_comes}
+use Rattle.mpi.proofs.Turns.{known_first, kept_is, item_first, scope_comes}
 
 ------------------------------------------------------------------------------------------------------------------------------
 -- A text without functions.

@@ -11,7 +11,7 @@ use crate::fault::MpiFault;
 use crate::functions::Keep;
 use crate::texts::grow;
 use crate::values::{is_true, nth, number_of};
-use memchr::memmem;
+use memchr::memmem::Finder;
 use muck_model::{Line, NoMemory};
 use std::alloc::Global;
 
@@ -53,13 +53,13 @@ pub(crate) fn stripped(text: &[u8]) -> &[u8]
     before_spaces(past_spaces(text))
 }
 
-// How many bytes stand before the first place where a text stands in another.
+// How many bytes stand before the first place where a text stands that is sought in another.
 #[tactic(auto, using(crate::proofs::Places::place_steps))]
-fn place_in(text: &[u8], part: &[u8]) -> Option<usize>
-    ensures value { result ≡ place_in text.now part.now }
+fn place_in(text: &[u8], sought: &Finder<'_>) -> Option<usize>
+    ensures value { result ≡ place_in text.now sought.now }
     ensures within { IfSome result (λ n. n ≤ length text.now) }
 {
-    memmem::find(text, part)
+    sought.find(text)
 }
 
 /// The first place of a part in a text, from 1, or 0; `None` exactly where the part is empty.
@@ -69,7 +69,7 @@ pub(crate) fn found_in(text: &[u8], part: &[u8]) -> Option<usize>
     if part.is_empty() {
         return None;
     }
-    match place_in(text, part) {
+    match place_in(text, &Finder::new(part)) {
         Some(at) => Some(at + 1),
         None => Some(0),
     }
@@ -100,9 +100,10 @@ pub(crate) fn substituted(
     if old.is_empty() {
         return Ok(Line::of_text(alloc, text)?);
     }
+    let sought = Finder::new(old);
     let mut out = Vec::new(alloc);
     let mut rest = text;
-    while let Some(at) = place_in(rest, old) {
+    while let Some(at) = place_in(rest, &sought) {
         let (front, behind) = around(rest, at, old.len());
         grow(&mut out, front)?;
         grow(&mut out, new)?;
