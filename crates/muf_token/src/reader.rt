@@ -341,6 +341,7 @@ impl Reader {
     }
 
     /// The words, where no conditional is open.
+    #[tactic(auto, using(crate::proofs::Alike::words_alike))]
     pub fn finish(self) -> Result<TokenList, TokenFault>
         ensures { IsAnswer (λ (words : List Token). words) (words_unless self.out.words (outermost self.branches)) result }
     {
