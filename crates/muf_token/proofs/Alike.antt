@@ -95,11 +95,14 @@ abbrev opened : ℕ → Bool → Bool → Branch
 opened line wanted defined = record { line = line; taken = cond wanted defined (not defined); other = Some (not (cond wanted defined (not defined))) }
 
 conditional_alike : (wanted : Bool) (line : ℕ) (s t : State) (spot : Spot) → AreAlike s t → AreBoth AreSteps (conditional_at wanted line s spot) (conditional_at wanted line t spot)
-conditional_alike wanted line s t spot h = then_both AreSteps (name_at line spot) _ _ (λ n. (record {
-  same = h.same;
-  branches = ap (λ o. opened line wanted (is_some o) ∷ s.branches) (h.same.mean n.name) ∙ ap (λ rest. opened line wanted (is_defined n.name t) ∷ rest) h.branches;
-  out = h.out;
-}, refl))
+conditional_alike wanted line s t spot h = then_both AreSteps (name_at line spot) _ _ (λ n. (
+  record {
+    same = h.same;
+    branches = ap (λ o. opened line wanted (is_some o) ∷ s.branches) (h.same.mean n.name) ∙ ap (λ rest. opened line wanted (is_defined n.name t) ∷ rest) h.branches;
+    out = h.out;
+  },
+  refl,
+))
 
 else_alike : (line : ℕ) (s t : State) → AreAlike s t → AreBoth AreAlike (else_at line s) (else_at line t)
 else_alike line s t h =
@@ -148,7 +151,7 @@ module _ (lent : Dbref → Option (List Definition)) where
   put_alike : (line : ℕ) (piece : Piece) (s t : State) → AreAlike s t → AreBoth AreAlike (put_out line piece s) (put_out line piece t)
   put_alike line piece s t h =
       let put : expanded depth_most s.definitions line piece s.out ≡ expanded depth_most t.definitions line piece t.out =
-          expanded_alike depth_most s.definitions t.definitions h.same.mean line piece s.out ∙ ap (expanded depth_most t.definitions line piece) h.out in
+      expanded_alike depth_most s.definitions t.definitions h.same.mean line piece s.out ∙ ap (expanded depth_most t.definitions line piece) h.out in
       subst (λ r. AreBoth AreAlike (put_out line piece s) (and_then r (λ out. Ok (record t { out = out })))) put
       (then_both AreAlike (expanded depth_most s.definitions line piece s.out) _ _ (λ out. record { same = h.same; branches = h.branches; out = refl }))
 

@@ -10,3 +10,4 @@ pub mod Sources
 pub mod Exits
 pub mod Meanings
 pub mod Alike
+pub mod Takings

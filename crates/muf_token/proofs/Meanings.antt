@@ -25,12 +25,15 @@ module _ {X : Type 0} where
       here : bytes_eq name e.0 ≡ true → (b : Bool) → bytes_eq name q ≡ b → cond b (Some body) (lookup (bytes_eq q) es) ≡ cond b (Some body) (cond b (Some e.1) (lookup (bytes_eq q) es))
       here same true h = refl
       here same false h = refl
+
       later : (b c : Bool) → (b ≡ true → c ≡ true → ⊥) → cond c (Some e.1) (cond b (Some body) (lookup (bytes_eq q) es)) ≡ cond b (Some body) (cond c (Some e.1) (lookup (bytes_eq q) es))
       later true true h = absurd (h refl refl)
       later true false h = refl
       later false c h = refl
+
       apart : bytes_eq name e.0 ≡ false → bytes_eq name q ≡ true → bytes_eq q e.0 ≡ true → ⊥
       apart other h k = let both : true ≡ false = sym k ∙ sym (laws.congr name q e.0 h) ∙ other in cc
+
       by : (b : Bool) → bytes_eq name e.0 ≡ b → lookup (bytes_eq q) (insert_entry bytes_eq es name body) ≡ cond (bytes_eq name q) (Some body) (lookup (bytes_eq q) es)
           → lookup (bytes_eq q) (cond b ((e.0, body) ∷ es) (e ∷ insert_entry bytes_eq es name body)) ≡ cond (bytes_eq name q) (Some body) (cond (bytes_eq q e.0) (Some e.1) (lookup (bytes_eq q) es))
       by true same rest =
