@@ -1,5 +1,5 @@
 -- The words of a source depend on what names mean, and not on the order in which they were defined.
-use Rattle.std.proofs.Common.{◌≡◌, ℕ, zero, suc, Bool, true, false, not, cond, is_some, List, [], ◌∷◌, length, Option, Some, None, Result, Ok, Err, refl, ap, sym, subst, ◌∙◌}
+use Rattle.std.proofs.Common.{◌≡◌, ℕ, zero, suc, Bool, true, false, not, cond, is_some, List, [], ◌∷◌, length, Option, Some, None, Result, Ok, Err, refl, ap, subst, ◌∙◌}
 use Rattle.std.specs.Str.{bytes_eq}
 use Rattle.std.specs.Map.{lookup}
 use Rattle.muck_model.specs.declared.dbref.Dbref.{Dbref}
@@ -18,8 +18,8 @@ use Rattle.muf_token.specs.Output.{refuse, and_then, used}
 use Rattle.muf_token.specs.Pieces.{Front, ended, broken, found, front, pieces}
 use Rattle.muf_token.specs.Expansion.{Definitions, is_directive, each, named, expanded}
 use Rattle.muf_token.specs.Branches.{is_taking, outermost, other_part, without_innermost}
-use Rattle.muf_token.specs.Directives.{directive_of, Spot, Name, name_at, rest_of_line, end_of_line, body_at}
-use Rattle.muf_token.specs.Source.{State, Step, depth_most, with_definition, def_at, define_at, undef_at, is_defined, with_branch, conditional_at, else_at, endif_at, object_of, with_all, included, include_at, directed, passed, put_out, taken, skipped, stepped, words_unless, at_front, words_within, words_from}
+use Rattle.muf_token.specs.Directives.{directive_of, Spot, name_at, rest_of_line, body_at}
+use Rattle.muf_token.specs.Source.{State, Step, depth_most, with_definition, def_at, define_at, undef_at, is_defined, conditional_at, else_at, endif_at, object_of, included, include_at, directed, passed, put_out, taken, skipped, stepped, words_unless, at_front, words_within, words_from}
 use Rattle.muf_token.proofs.Meanings.{MeanSame, AreSame, same_defined, same_removed, same_with_all}
 
 -- ---- steps

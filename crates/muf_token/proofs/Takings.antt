@@ -19,9 +19,9 @@ use Rattle.muf_token.specs.Directives.{Spot, Name, name_at}
 use Rattle.muf_token.specs.Branches.{is_taking}
 use Rattle.muf_token.specs.Source.{State, Step, undef_at, object_of, with_all, included, include_at, taken, skipped, stepped}
 use Rattle.muf_token.specs.inner.Spots.{spot_of}
-use Rattle.muf_token.specs.inner.Readers.{LeadsTo, LeadsOn, SayTheSame, AreLentBy, AreTaken}
-use Rattle.muf_token.proofs.Meanings.{MeanSame, AreSame, lookup_inserted, distinct_inserted, distinct_removed, lookup_removed}
-use Rattle.muf_token.proofs.Alike.{AreAlike, words_alike}
+use Rattle.muf_token.specs.inner.Readers.{LeadsTo, LeadsOn, AreLentBy, AreTaken}
+use Rattle.muf_token.proofs.Meanings.{lookup_inserted, distinct_inserted, distinct_removed, lookup_removed}
+use Rattle.muf_token.proofs.Alike.{words_alike}
 
 -- what the list gives a name, where it gives it one, and else this
 abbrev given : List Definition → List ℕ → Option (List Piece) → Option (List Piece)
