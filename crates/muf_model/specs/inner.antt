@@ -8,3 +8,4 @@ pub mod Flat
 pub mod Fits
 pub mod Codes
 pub mod Worked
+pub mod TableRows

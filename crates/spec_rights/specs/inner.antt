@@ -1,1 +1,4 @@
 pub mod Numbers
+pub mod Town
+pub mod LevelRows
+pub mod RuleRows

@@ -4,7 +4,9 @@
 #![tactic(auto)]
 
 mod act;
+mod rows;
 mod rule;
 
 pub use act::{Act, Actor};
+pub use rows::rows_hold;
 pub use rule::Rule;
