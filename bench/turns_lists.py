@@ -10,11 +10,12 @@ import tempfile
 import textwrap
 
 ITEMS = 60000
-# How each long list or dictionary comes about, in the variable v.
+# How each long list or dictionary, and a text of 4,096 bytes, come about in the variable v.
 MADE = {
     "numbers": f"0 array_make 1 {ITEMS} 1 for swap array_appenditem repeat v !",
     "texts": f'0 array_make 1 {ITEMS} 1 for pop "abc" swap array_appenditem repeat v !',
     "empty texts": f'0 array_make 1 {ITEMS} 1 for pop "" swap array_appenditem repeat v !',
+    "letters": '"a" 1 12 1 for pop dup strcat repeat v !',
     "names": f"0 array_make_dict v ! 1 {ITEMS} 1 for dup v @ rot intostr array_setitem v ! repeat",
 }
 
@@ -39,6 +40,7 @@ ROWS = {
     "array_explode of 60,000, refused": (section("numbers", 1500, "0 try v @ array_explode catch pop endcatch"), 0.1, 2.5),
     "array_keys of 60,000, refused": (section("numbers", 1500, "0 try v @ array_keys catch pop endcatch"), 0.1, 0.93),
     "array_vals of 60,000, refused": (section("numbers", 1500, "0 try v @ array_vals catch pop endcatch"), 0.1, 1.3),
+    "explode into 4,097, refused": (section("letters", 1900, '0 try v @ "a" explode catch pop endcatch'), 0.1, 0.57),
     "array_setitem, stored back": (section("numbers", 1700, "7 v @ 0 array_setitem v !"), 0.1, 0.01),
     "array_appenditem, stored back": (section("numbers", 1700, "7 v @ array_appenditem v !"), 0.1, 0.01),
     "array_delitem at the front, stored back": (section("numbers", 1700, "v @ 0 array_delitem v !"), 1.0, 0.19),
