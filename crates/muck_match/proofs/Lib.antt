@@ -4,3 +4,4 @@ pub mod Aliases
 pub mod Order
 pub mod Candidates
 pub mod Walks
+pub mod Looks
