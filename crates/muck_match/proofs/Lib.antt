@@ -5,3 +5,4 @@ pub mod Order
 pub mod Candidates
 pub mod Walks
 pub mod Listed
+pub mod Looks

@@ -3,6 +3,7 @@
 #![tactic(auto)]
 
 mod exits;
+mod glances;
 mod memory;
 mod naming;
 mod scene;

@@ -1,13 +1,12 @@
 // What a text names.
 ghost use Rattle.std.specs.Prelude.{◌≡◌, ◌<◌, ◌^◌, pos};
-ghost use Rattle.std.specs.List.{filter};
 ghost use Rattle.std.specs.Option.{option_copied};
 ghost use Rattle.muck_model.specs.Numbers.{numbered};
 ghost use Rattle.muck_match.specs.inner.Listed.{AreListed};
-ghost use Rattle.muck_match.specs.Naming.{chosen, joined, one_of, is_nobody, answers, near, named, fits, is_player_named, player_named, if_there, starred, found_by_sign, found};
+ghost use Rattle.muck_match.specs.Naming.{joined, one_of, is_nobody, answers, fits, is_player_named, player_named, if_there, starred, found_by_sign, found};
 
-use crate::exits::first_hit;
-use crate::sights::{is_nothing, is_player, is_there, place_in};
+use crate::glances::named;
+use crate::sights::{is_player, is_there, place_in};
 use crate::words::{has_word, is_same};
 use crate::{HOME, Scene};
 use muck_model::{Dbref, Line};
@@ -43,7 +42,7 @@ fn fits(fit: Fit, text: &[u8], name: &[u8]) -> bool
 
 // Whether the object answers to the text.
 #[tactic(auto, unfolding(crate::specs::Naming::answers))]
-fn answers<S: Scene>(scene: &S, fit: Fit, text: &[u8], d: Dbref) -> bool
+pub fn answers<S: Scene>(scene: &S, fit: Fit, text: &[u8], d: Dbref) -> bool
     ensures { result ≡ answers fit text.now (S.shown scene.now) d }
 {
     match scene.name(d) {
@@ -63,7 +62,7 @@ fn one_of(d: Option<Dbref>) -> Found
 }
 
 // What two lists of candidates make together.
-fn joined(before: Found, behind: Found) -> Found
+pub fn joined(before: Found, behind: Found) -> Found
     ensures { result ≡ joined before behind }
 {
     match (before, behind) {
@@ -73,53 +72,11 @@ fn joined(before: Found, behind: Found) -> Found
     }
 }
 
-// Those in an object that answer to the text.
-fn among<S: Scene>(scene: &S, fit: Fit, text: &[u8], owner: Dbref) -> Found
-    ensures { result ≡ chosen (filter (answers fit text.now (S.shown scene.now)) ((S.shown scene.now).contents owner)) }
-{
-    let mut found = None;
-    let mut at = scene.first_content(owner);
-    while !is_nothing(at) {
-        if answers(scene, fit, text, at) {
-            if found.is_some() {
-                return Found::Many;
-            }
-            found = Some(at);
-        }
-        at = scene.next(at);
-    }
-    one_of(found)
-}
-
-// Those that the player carries or that are in its place, and that answer to the text.
-fn near<S: Scene>(scene: &S, fit: Fit, text: &[u8], player: Dbref) -> Found
-    ensures { result ≡ near (S.shown scene.now) fit text.now player }
-{
-    let carried = among(scene, fit, text, player);
-    let beside = among(scene, fit, text, place_in(scene, player));
-    joined(carried, beside)
-}
-
 // Whether nothing was found.
-fn is_nobody(found: Found) -> bool
+pub fn is_nobody(found: Found) -> bool
     ensures { result ≡ is_nobody found }
 {
     matches!(found, Found::None)
-}
-
-// What the text names by a name: equal names of objects come first, then exits, then parts of names of objects.
-#[tactic(auto, unfolding(crate::specs::Naming::named))]
-fn named<S: Scene>(scene: &S, text: &[u8], player: Dbref) -> Found
-    ensures { result ≡ named (S.shown scene.now) player text.now }
-{
-    let whole = near(scene, Fit::Whole, text, player);
-    if !is_nobody(whole) {
-        return whole;
-    }
-    if let Some(hit) = first_hit(scene, false, text, player) {
-        return Found::One(hit.exit);
-    }
-    near(scene, Fit::Part, text, player)
 }
 
 // Whether it is a player of that name.
