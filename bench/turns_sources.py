@@ -1,8 +1,6 @@
-"""Rows of turns.py: one compilation (`c` of the editor), by a player without any bit but level 1.
-
-ROWS has (name, script without the compilation, the lines that ask for it, bound in seconds of the processor, seconds before). The cost of the turn is the
-time of the whole script less that of the first part alone.
-"""
+"""Rows for bench/turns.py: one compilation (`c` of the editor). ROWS has of each its name, the lines that set the world up, the lines that are measured, how many
+turns these are, the most processor seconds that a turn may take, and what it took before the work was bounded (at a load of ten, where everything takes up to
+three times as long as on a machine of its own)."""
 import itertools
 
 LINE = 2000  # bytes of a line of a source that is packed full
@@ -39,11 +37,8 @@ def world(objects, definitions):
 
 def row(name, objects, definitions, source, bound, before):
     """A source in the editor, and the line that compiles it."""
-    script = list(world(objects, definitions))
-    script += ["send 1 @program p", "send 1 i"]
-    script += [f"send 1 {line}" for line in source]
-    script += ["send 1 : main 1 ;", "send 1 ."]
-    return name, "\n".join(script) + "\n", "send 1 c\n", bound, before
+    setup = [*world(objects, definitions), "send 1 @program p", "send 1 i", *[f"send 1 {line}" for line in source], "send 1 : main 1 ;", "send 1 ."]
+    return name, setup, ["send 1 c"], 1, bound, before
 
 
 def named(pattern):
@@ -51,9 +46,9 @@ def named(pattern):
 
 
 def rows():
-    yield row("include of one object, 4,000 times", 1, 6800, ["$include #2"] * LINES, 0.1, 10)
-    yield row("include of one object, as often as a source has room", 1, 6800, packed(itertools.repeat("$include #2")), 0.5, 1500)
-    yield row("names taken away, the first one first", 0, 0, [*packed(named("$define x%d $enddef"), LINES // 2), *packed(named("$undef x%d"), LINES // 2)], 0.5, 100)
+    yield row("include of one object, 4,000 times", 1, 6800, ["$include #2"] * LINES, 0.1, 33)
+    yield row("include of one object, as often as a source has room", 1, 6800, packed(itertools.repeat("$include #2")), 0.5, 5400)
+    yield row("names taken away, the first one first", 0, 0, [*packed(named("$define x%d $enddef"), LINES // 2), *packed(named("$undef x%d"), LINES // 2)], 0.5, 38)
     # Still over the bound: each include takes all definitions of its object.
     yield row("include of two objects in turn, 2,000 times each", 2, 6800, ["$include #2", "$include #3"] * (LINES // 2), 30, 28)
     yield row("include and a definition in turn, 2,000 times each", 1, 6800, ["$include #2", "$def n1 5"] * (LINES // 2), 15, 13)
@@ -63,4 +58,4 @@ def rows():
     yield row("16,384 uses of a text of 1,990 bytes", 0, 0, ["$def t " + '"' + "a" * 1990 + '"', "$define d0 t t $enddef", *[f"$define d{n} d{n - 1} d{n - 1} $enddef" for n in range(1, 14)], ": far d13 ;"], 0.5, 0.15)
 
 
-ROWS = rows()
+ROWS = list(rows())
