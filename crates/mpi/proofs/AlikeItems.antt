@@ -1,6 +1,6 @@
 -- Loops over items whose text is the same for each: what they give, and that nothing else is changed by them.
 use Rattle.std.proofs.Common.{◌≡◌, ℕ, ◌+◌, ◌<◌, ◌≤◌, zero, suc, Bool, true, false, cond, List, [], ◌∷◌, ◌++◌, length, take, drop, refl, sym, subst, ap, ◌∙◌, arith, append_assoc, length-append}
-use Rattle.std.specs.Prelude.{Result, Ok, Err, Option, Some, None, option_map, if◌then◌else◌, ◌==◌}
+use Rattle.std.specs.Prelude.{Result, Ok, Err, Option, Some, None, option_map, not, ◌&&◌, if◌then◌else◌, ◌==◌}
 use Rattle.std.specs.Cmp.Lexicographic.{nat_list_cmp_total}
 use Rattle.std.specs.FinMap.{get, insert, get-insert, get-remove, get_tied, same_map}
 use Rattle.std.specs.List.{slice_split, onto_first, join_with_byte}
@@ -25,7 +25,8 @@ use Rattle.mpi.specs.Values.{nth, is_true, items}
 use Rattle.mpi.specs.Variables.{Variables, name_cmp, given_back}
 use Rattle.mpi.specs.inner.Alike.{said, alike_items, answer_alike, transposed}
 use Rattle.muck_model.specs.Bytes.{text_fault}
-use Rattle.mpi.proofs.Inside.{text_short}
+use Rattle.mpi.specs.inner.Written.{is_plain_byte, is_plain}
+use Rattle.mpi.proofs.Inside.{text_short, all_head, all_tail}
 use Rattle.mpi.proofs.Items.{items_some}
 use Rattle.mpi.proofs.Lengths.{is_short}
 use Rattle.mpi.proofs.Maps.{name_cmp_same}
@@ -406,3 +407,23 @@ next_fits true whole new k h = absurd (let e : Err TooLong ≡ Ok new = h in cc)
 next_fits false whole new k h = let e : Ok whole ≡ Ok new = h in let is : whole ≡ new = cc in ap k is
 
 pub ruleset alike_steps = (no_items, last_is, none_is, all_is)
+
+------------------------------------------------------------------------------------------------------------------------------
+-- A text that stands for itself.
+
+plain_first : (b : ℕ) (more : List ℕ) (x y : Bool) → b == 92 ≡ x → b == 123 ≡ y → not x && not y ≡ true → first_piece b more ≡ (byte b, more)
+plain_first b more true y e f h = absurd (false≢true h)
+plain_first b more false true e f h = absurd (false≢true h)
+plain_first b more false false e f h = rw (e, f) refl
+
+pub plain_said : (text : List ℕ) → is_plain text ≡ true → said (pieces text) ≡ Some text
+unfolding said pieces_up_to
+plain_said [] h = refl
+plain_said (b ∷ more) h =
+    let first : first_piece b more ≡ (byte b, more) = plain_first b more (b == 92) (b == 123) refl refl (all_head is_plain_byte b more h) in
+    ap said (pieces_ahead b more ∙ (λ i. (first i).0 ∷ pieces (first i).1)) ∙ ap (option_map (λ xs. b ∷ xs)) (plain_said more (all_tail is_plain_byte b more h))
+
+-- its meaning
+pub plain_means : {S : Type 0} (scene : Scene S) (n : ℕ) (text value : List ℕ) (s : State S) → text_fault text ≡ None → said (pieces text) ≡ Some text → value ≡ text → meaning scene n text s ≡ (Ok value, s)
+plain_means scene n text value s short e is =
+    said_spells (entered scene n) (pieces text) [] text s e (text_short text short) ∙ (λ i. (Ok (sym is i), s))

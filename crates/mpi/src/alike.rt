@@ -7,6 +7,7 @@ ghost use Rattle.mpi.specs.Values.{items};
 ghost use Rattle.mpi.specs.declared.functions.Keep.TheVariants as keep;
 ghost use Rattle.mpi.specs.inner.Alike.{said, alike_items, answer_alike, transposed};
 
+use crate::argument::Argument;
 use crate::brackets::{Piece, piece_ahead};
 use crate::fault::MpiFault;
 use crate::functions::{Keep, Scope};
@@ -69,7 +70,7 @@ fn alike_items(alloc: Global, keep: Keep, list: &[u8], text: &Line) -> Result<Li
 pub(crate) fn answer_alike(
     alloc: Global,
     scope: Scope,
-    values: &[Line],
+    values: &[Argument<'_>],
     body: &[u8],
 ) -> Result<Option<Line>, MpiFault>
     requires { text_fault body.now ≡ None }

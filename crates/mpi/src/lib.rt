@@ -3,6 +3,7 @@
 
 mod acting;
 mod alike;
+mod argument;
 mod brackets;
 mod evaluator;
 mod fault;

@@ -7,6 +7,7 @@ ghost use Rattle.mpi.specs.Hosting.{seen_as, Means};
 ghost use Rattle.mpi.specs.Gathering.{longer, kept_of, list_or_long};
 ghost use Rattle.mpi.specs.Values.{past_spaces, before_spaces, stripped, place_in, found_in, substituted, above, cut, items, listed, place_of_item, middle};
 
+use crate::argument::Argument;
 use crate::fault::MpiFault;
 use crate::functions::Keep;
 use crate::texts::grow;
@@ -130,7 +131,7 @@ pub(crate) fn cut<T>(p: i32, q: i32, xs: &[T]) -> &[T]
 }
 
 /// The bytes that the second and the third argument ask for; `None` exactly unless 1 <= p <= q.
-pub(crate) fn middle(values: &[Line]) -> Option<&[u8]>
+pub(crate) fn middle<'a>(values: &'a [Argument<'_>]) -> Option<&'a [u8]>
     ensures { option_copied result ≡ middle values.now }
 {
     let p = number_of(nth(values, 1));
