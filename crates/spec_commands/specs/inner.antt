@@ -2,3 +2,5 @@ pub mod Rising
 pub mod Company
 pub mod EditRows
 pub mod ProgramRows
+pub mod TalkRows
+pub mod GoingRows

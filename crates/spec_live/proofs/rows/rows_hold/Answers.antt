@@ -1,5 +1,6 @@
 use Rattle.spec_live.specs.inner.Rows.{rows}
+use Rattle.spec_live.specs.inner.LockRows.{lock_rows}
 use Rattle.spec_live.proofs.rows.rows_hold.Goals as goal
 
 pub returns : goal.returns
-returns c = record { rows = rows }
+returns c = record { rows = rows; locks = lock_rows }
