@@ -34,6 +34,9 @@ fn town(alloc: Global) -> Result<World, Fail> {
     }
     db.set_flags(Dbref(2), Flags(BUILDER))?;
     db.set_level(Dbref(4), 2)?;
+    if db.next_changed().is_some() {
+        return Err(Fail::new("there is a change to tell of before the world begins"));
+    }
     let from = Persisted { db, tune: TUNE };
     Ok(World::boot(alloc, from, 1_000_000, 5)?)
 }
