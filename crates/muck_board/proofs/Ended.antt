@@ -1,5 +1,5 @@
 -- Lines with their ends, one behind the other.
-use Rattle.std.proofs.Common.{◌≡◌, ℕ, ◌+◌, ◌-◌, ◌<◌, ◌≤◌, Bool, true, false, cond, leb, not, zero, suc, List, [], ◌∷◌, ◌++◌, length, take, drop, refl, sym, subst, ◌∙◌, ap, arith, length-append, length-drop}
+use Rattle.std.proofs.Common.{◌≡◌, ℕ, ◌+◌, ◌-◌, ◌<◌, ◌≤◌, Bool, true, false, cond, leb, not, zero, suc, List, [], ◌∷◌, ◌++◌, length, take, drop, refl, sym, subst, ◌∙◌, ap, arith, append-nil, length-append, length-drop}
 use Rattle.std.proofs.lemmas.Bool.{cond_both, eqb-true, leb-true, leb-false}
 use Rattle.std.proofs.lemmas.List.{drop-append-le, take-append-le, drop-drop, drop-take}
 use Rattle.std.proofs.lemmas.Grind.{flat_map-append}
@@ -8,7 +8,7 @@ use Rattle.std.specs.Prelude.{◌||◌}
 use Rattle.std.specs.List.{AllByRecursion, list_any, onto_first, position_or_len, slice_split}
 use Rattle.muck_model.specs.Bytes.{text_most}
 use Rattle.spec_live.specs.Output.{is_return, sent_form, lines_bytes, newest}
-use Rattle.muck_board.specs.inner.Sent.{lines_from, lines_in, sent_most, with_end, IsLine, IsLines}
+use Rattle.muck_board.specs.inner.Sent.{lines_from, lines_in, sent_most, IsLine, IsLines}
 use Rattle.muck_board.specs.inner.Waiting.{end_behind}
 use Rattle.muck_board.proofs.Outputs.{lines_length, none_length, newest_fits, newest_next, sent_length}
 
@@ -65,20 +65,31 @@ onto_bytes b (c ∷ text) =
     onto_twice [] = refl
     onto_twice (piece ∷ pieces) = refl
 
+-- a byte of a text as it is sent
+with_end : ℕ → List ℕ
+with_end b = cond (is_return b) (b ∷ 10 ∷ []) (b ∷ [])
+
 ends_begin : (b : ℕ) (text : List ℕ) → ends (b ∷ text) ≡ with_end b ++ ends text
-unfolding ends lines_bytes
+unfolding ends lines_bytes with_end
 ends_begin b text =
     elim (is_return b) as (λ r. is_return b ≡ r → lines_bytes (cond r ([] ∷ slice_split is_return text) (onto_first b (slice_split is_return text))) ≡ cond r (b ∷ 10 ∷ []) (b ∷ []) ++ lines_bytes (slice_split is_return text)) [
       | true ↦ λ h. ap (λ c. c ∷ 10 ∷ lines_bytes (slice_split is_return text)) (sym (eqb-true b 13 h))
       | false ↦ λ h. onto_bytes b text
     ] refl
 
--- a byte more was sent
-pub sends_on : (sent new all text : List ℕ) (b : ℕ) → new ≡ sent ++ with_end b → sent ++ ends (b ∷ text) ≡ all → new ++ ends text ≡ all
-sends_on sent new all text b e before =
-    ap (λ l. l ++ ends text) e ∙ joined sent (with_end b) (ends text) ∙ ap (λ l. sent ++ l) (sym (ends_begin b text)) ∙ before
+-- a line more was sent
+pub line_sent_on : (sent new all line : List ℕ) (before more : List (List ℕ)) → new ≡ sent ++ sent_form line → before ≡ line ∷ more → sent ++ lines_bytes before ≡ all → new ++ lines_bytes more ≡ all
+unfolding lines_bytes
+line_sent_on sent new all line before more e is h =
+    ap (λ l. l ++ lines_bytes more) e ∙ joined sent (sent_form line) (lines_bytes more) ∙ ap (λ ls. sent ++ lines_bytes ls) (sym is) ∙ h
+
+-- no line is left
+pub all_lines_sent : (sent all : List ℕ) (left : List (List ℕ)) → left ≡ [] → sent ++ lines_bytes left ≡ all → sent ≡ all
+unfolding lines_bytes
+all_lines_sent sent all left none h = sym (append-nil sent) ∙ ap (λ ls. sent ++ lines_bytes ls) (sym none) ∙ h
 
 with_end_most : (b : ℕ) → length (with_end b) ≤ 2
+unfolding with_end
 with_end_most b = elim (is_return b) as (λ r. length (cond r (b ∷ 10 ∷ []) (b ∷ [])) ≤ 2) [ true ↦ omega arith | false ↦ omega arith ]
 
 pub ends_length : (text : List ℕ) → length (ends text) ≤ length text + length text + 2
@@ -108,7 +119,7 @@ ends_some [] = omega (arith, ap length no_ends)
 ends_some (b ∷ text) = omega (arith, ap length (ends_begin b text), length-append (with_end b) (ends text), ends_some text)
 
 -- what is sent of a text
-pub text_is : (text bytes : List ℕ) → length text ≤ text_most → bytes ≡ ends text → (lines_in bytes ≡ slice_split is_return text) × (IsLines bytes × (0 < length bytes) × (length bytes ≤ sent_most))
+pub text_is : (text bytes : List ℕ) → length text ≤ text_most → bytes ≡ lines_bytes (slice_split is_return text) → (lines_in bytes ≡ slice_split is_return text) × (IsLines bytes × (0 < length bytes) × (length bytes ≤ sent_most))
 unfolding ends
 text_is text bytes h e =
     let most = ends_length text in

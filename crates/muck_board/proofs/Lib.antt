@@ -3,3 +3,4 @@ pub mod Ended
 pub mod Sending
 pub mod Numbered
 pub mod Quiet
+pub mod Splits

@@ -4,3 +4,4 @@ pub mod Bounded
 pub mod Lines
 pub mod Silent
 pub mod Lent
+pub mod Pieces

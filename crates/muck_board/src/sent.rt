@@ -1,10 +1,10 @@
 // A text as it is sent.
 ghost use Rattle.std.specs.Prelude.{◌≡◌, ◌<◌, ◌≤◌, ◌++◌, IfOk, OnOk, length};
 ghost use Rattle.std.specs.List.{AllByRecursion};
-ghost use Rattle.spec_live.specs.Output.{lines_bytes, sent_lines};
-ghost use Rattle.muck_board.specs.inner.Sent.{IsLine, sent_most, with_end};
+ghost use Rattle.spec_live.specs.Output.{sent_form, lines_bytes, sent_lines};
+ghost use Rattle.muck_board.specs.inner.Sent.{IsLine, sent_most};
 
-use crate::split::cut;
+use crate::split::{cut, cut_piece};
 use muck_model::NoMemory;
 use std::alloc::Global;
 use std::marker::Model;
@@ -26,14 +26,13 @@ impl Model for Sent {
     ghost invariant = { λ s. IsLines s.bytes.items × (0 < length s.bytes.items) × (length s.bytes.items ≤ sent_most) };
 }
 
-// Puts a byte at the end, with what stands behind it where it ends a line.
-fn push_byte(bytes: &mut Vec<u8>, byte: u8) -> Result<(), NoMemory>
-    ensures { OnOk result (bytes.new.items ≡ bytes.old.items ++ with_end byte) }
+// Puts a line at the end, with its own end.
+fn add_line(bytes: &mut Vec<u8>, line: &[u8]) -> Result<(), NoMemory>
+    ensures { OnOk result (bytes.new.items ≡ bytes.old.items ++ sent_form line.now) }
 {
-    bytes.push(byte)?;
-    if byte == b'\r' {
-        bytes.push(b'\n')?;
-    }
+    bytes.extend_from_slice(line)?;
+    bytes.push(b'\r')?;
+    bytes.push(b'\n')?;
     Ok(())
 }
 
@@ -42,13 +41,14 @@ impl Sent {
     pub fn of_text(alloc: Global, text: &[u8]) -> Result<Sent, NoMemory>
         ensures { IfOk result (λ sent. sent ≡ sent_lines text.now) }
     {
-        let mut rest = cut(text);
-        let mut bytes = Vec::with_capacity(alloc, 2 * rest.len() + 2)?;
-        while let Some((byte, others)) = rest.split_first() {
-            push_byte(&mut bytes, *byte)?;
+        let front = cut(text);
+        let mut bytes = Vec::with_capacity(alloc, 2 * front.len() + 2)?;
+        let mut rest = Some(front);
+        while let Some(pieces) = rest {
+            let (piece, others) = cut_piece(pieces);
+            add_line(&mut bytes, piece)?;
             rest = others;
         }
-        bytes.extend_from_slice(b"\r\n")?;
         Ok(Sent { bytes })
     }
 

@@ -26,7 +26,3 @@ pub record IsLine (line : List ℕ) : Type 0 where
 pub record IsLines (bytes : List ℕ) : Type 0 where
   pub ended : bytes ≡ lines_bytes (lines_in bytes)
   pub each : AllByRecursion IsLine (lines_in bytes)
-
--- a byte of a text as it is sent
-abbrev pub with_end : ℕ → List ℕ
-with_end b = if is_return b then b ∷ 10 ∷ [] else b ∷ []

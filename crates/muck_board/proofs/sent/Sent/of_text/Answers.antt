@@ -1,26 +1,25 @@
-use Rattle.std.proofs.Common.{ap, sym, ◌∙◌, ◌≡◌, ◌≤◌, ◌++◌, ◌∷◌, [], take, length, arith, rules}
-use Rattle.std.proofs.lemmas.List.{nil_from_length}
+use Rattle.std.proofs.Common.{List, ℕ, Some, ap, sym, ◌∙◌, ◌≤◌, ◌++◌, take, length, arith}
+use Rattle.std.specs.List.{slice_split}
 use Rattle.muck_model.specs.Bytes.{text_most}
-use Rattle.spec_live.specs.Output.{sent_lines}
-use Rattle.muck_board.proofs.Ended.{ends, no_ends, sends_on, text_is}
+use Rattle.spec_live.specs.Output.{is_return, lines_bytes, sent_lines}
+use Rattle.muck_board.specs.inner.Pieces.{pieces_after}
+use Rattle.muck_board.proofs.Ended.{line_sent_on, all_lines_sent, text_is}
 use Rattle.muck_board.proofs.sent.Sent.of_text.Goals as goal
 
-pub loop-byte-preserved : goal.loop-byte-preserved
-loop-byte-preserved c =
-    let is : c.loop-byte.rest.now ≡ c.in-Some.byte.now ∷ c.in-Some.others.now = search rules in
-    sends_on c.loop-byte.bytes.items _ _ c.in-Some.others.now c.in-Some.byte.now c.in_ok-push_byte.ensures (ap (λ l. c.loop-byte.bytes.items ++ ends l) (sym is) ∙ c.loop-byte.invariant)
+pub loop-rest-init : goal.loop-rest-init
+loop-rest-init c = ap (λ (l : List ℕ). l ++ lines_bytes (pieces_after (Some c.cut-front.result))) c.in_ok-bytes.ensures.items ∙ ap (λ t. lines_bytes (slice_split is_return t)) c.cut-front.ensures.front
+
+pub loop-rest-preserved : goal.loop-rest-preserved
+loop-rest-preserved c =
+    line_sent_on c.loop-rest.bytes.items _ _ _ _ _ c.in_ok-add_line.ensures c.cut_piece.ensures.pieces (ap (λ r. c.loop-rest.bytes.items ++ lines_bytes (pieces_after r)) (sym c.in-Some.is) ∙ c.loop-rest.invariant)
 
 pub invariant_of-result : goal.invariant_of-result
 invariant_of-result c =
-    let none : c.loop-byte.rest.now ≡ [] = nil_from_length c.loop-byte.rest.now (omega (arith, c.in_default.ensures.cases)) in
-    let all = c.in_ok-extend_from_slice.ensures.items ∙ ap (λ l. c.loop-byte.bytes.items ++ l) (sym no_ends) ∙ ap (λ l. c.loop-byte.bytes.items ++ ends l) (sym none) ∙ c.loop-byte.invariant in
-    let whole : length (take text_most c.args.text.now) ≤ text_most = omega (arith, ap length c.cut-rest.ensures.front, c.cut-rest.ensures.most) in
-    (text_is (take text_most c.args.text.now) c.extend_from_slice.new.self.items whole all).1
+    let whole : length (take text_most c.args.text.now) ≤ text_most = omega (arith, ap length c.cut-front.ensures.front, c.cut-front.ensures.most) in
+    (text_is (take text_most c.args.text.now) c.loop-rest.bytes.items whole (all_lines_sent _ _ _ (ap pieces_after c.in_default.is) c.loop-rest.invariant)).1
 
 pub returns : goal.returns
 unfolding sent_lines
 returns c =
-    let none : c.loop-byte.rest.now ≡ [] = nil_from_length c.loop-byte.rest.now (omega (arith, c.in_default.ensures.cases)) in
-    let all = c.in_ok-extend_from_slice.ensures.items ∙ ap (λ l. c.loop-byte.bytes.items ++ l) (sym no_ends) ∙ ap (λ l. c.loop-byte.bytes.items ++ ends l) (sym none) ∙ c.loop-byte.invariant in
-    let whole : length (take text_most c.args.text.now) ≤ text_most = omega (arith, ap length c.cut-rest.ensures.front, c.cut-rest.ensures.most) in
-    (text_is (take text_most c.args.text.now) c.extend_from_slice.new.self.items whole all).0
+    let whole : length (take text_most c.args.text.now) ≤ text_most = omega (arith, ap length c.cut-front.ensures.front, c.cut-front.ensures.most) in
+    (text_is (take text_most c.args.text.now) c.loop-rest.bytes.items whole (all_lines_sent _ _ _ (ap pieces_after c.in_default.is) c.loop-rest.invariant)).0
