@@ -47,14 +47,17 @@ def places_of(left, objects, kinds, flags):
                 continue
             places[n] = it.owner if kinds[n] in (THING, PROGRAM) and kinds.get(it.owner) == PLAYER else 0
             left.add(n, f"its place, #{it.place}, where a {KINDS[kinds[n]]} can't be: it is in #{places[n]}")
+    rooted = {0}
     for n in sorted(places):
         seen, at = set(), n
-        while at not in seen and at > 0:
+        while at not in seen and at not in rooted:
             seen.add(at)
             at = places[at]
-        if at > 0 and at == n:
+        if at == n and at not in rooted:
             left.add(n, f"its place, #{places[n]}, which is in it: it is in #0")
-            places[n] = 0
+            places[n] = at = 0
+        if at in rooted:
+            rooted |= seen
     return places
 
 

@@ -29,7 +29,7 @@ def holds(what, got, *parts):
 
 def tool(name, *words, folder, typed="", env=None):
     """Status, standard output and standard error of a tool."""
-    done = subprocess.run([os.path.join(TOP, "contrib", name), *map(str, words)], cwd=folder, input=typed.encode(), capture_output=True, timeout=PATIENCE,
+    done = subprocess.run([os.path.join(TOP, "contrib", name), *map(str, words)], cwd=folder, input=typed if isinstance(typed, bytes) else typed.encode(), capture_output=True, timeout=PATIENCE,
                           env={**os.environ, "MUCKD": PROGRAM, **(env or {})})
     return done.returncode, done.stdout.decode(), done.stderr.decode()
 

@@ -35,13 +35,16 @@ q
 """
 
 
-def script():
+def typed():
+    """The lines that make the library, which is to be #2."""
     with open(os.path.join(DEMOS, "library.muf"), encoding="ascii") as file:
         lines, lent = muf.plain(file.read().split("\n")[:-1])
-    typed = ["@program lib-common", "i", *lines, ".", "c", "q", "@set lib-common=L"]
-    typed += [f"@set lib-common=_defs/{name}:" + (f'#2 "{name}" call' if text is None else text) for name, text in lent.items()]
-    typed += USE.splitlines()
-    return FRONT + "".join(line + "\n" if line.startswith("# ") else f"send 1 {line}\n" for line in typed)
+    found = ["@program lib-common", "i", *lines, ".", "c", "q", "@set lib-common=L"]
+    return found + [f"@set lib-common=_defs/{name}:" + (f'#2 "{name}" call' if text is None else text) for name, text in lent.items()]
+
+
+def script():
+    return FRONT + "".join(line + "\n" if line.startswith("# ") else f"send 1 {line}\n" for line in [*typed(), *USE.splitlines()])
 
 
 if __name__ == "__main__":

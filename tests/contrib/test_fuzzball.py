@@ -99,6 +99,14 @@ def dumps_that_are_wrong(folder):
     same("nothing is written", os.listdir(folder), ["bad.db"])
 
 
+def what_cannot_be_written(folder):
+    """Where one of the files can't be written none is."""
+    for words, why in ((("w", "--left", "w"), "w is named twice, for two files"), (("w", "--left", "./w"), "w is named twice"), (("nowhere/w", "--passwords", "words", "--left", "left"), "nowhere/w: there is no folder nowhere"),
+                       (("w", "--passwords", "nowhere/words"), "nowhere/words: there is no folder nowhere"), (("/dev/null",), "/dev/null is there already")):
+        holds(words, refuses("import-fuzzball", OLD, *words, folder=folder), why)
+        same("nothing is written", os.listdir(folder), [])
+
+
 def cut_anywhere(folder):
     """Wherever a dump is cut it is refused, by a sentence with a line."""
     data = dump(NEW)
@@ -168,4 +176,4 @@ def words_that_are_wrong(folder):
     holds("--help", works("import-fuzzball", "--help", folder=folder), "usage: import-fuzzball")
 
 
-TESTS = [a_dump_of_today, an_old_dump, all_formats, dumps_that_are_wrong, cut_anywhere, with_a_library, dumps_at_random, words_that_are_wrong]
+TESTS = [a_dump_of_today, an_old_dump, all_formats, dumps_that_are_wrong, what_cannot_be_written, cut_anywhere, with_a_library, dumps_at_random, words_that_are_wrong]

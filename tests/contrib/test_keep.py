@@ -9,7 +9,7 @@ import sys
 import threading
 import time
 
-from common import PROGRAM, TOP, Server, files_in, holds, put, refuses, same, script, tool, works
+from common import PATIENCE, PROGRAM, TOP, Server, files_in, holds, put, refuses, same, script, tool, works
 
 
 def keeper(folder, line="One potrzebie\n"):
@@ -90,6 +90,10 @@ def backups(folder):
         said = script(os.path.join(to, newest), "open 1\nsend 1 connect One potrzebie\nsend 1 inventory\n")
         holds("the world of the dump", said, "thing 3(#5)", "thing 0(#2)")
         holds("no folder", refuses("keep", *keep(server, "backup", os.path.join(folder, "nowhere")), folder=folder), "nowhere isn't a folder")
+        dumps = int(works("keep", *keep(server, "dump"), folder=folder).split()[1])
+        words = [*keep(server), "--store", os.path.join(folder, "nothing"), "backup", to]
+        holds("no store", refuses("keep", *words, folder=folder), "there is no store ", "neither ")
+        same("no dump was asked for", works("keep", *keep(server, "dump"), folder=folder), f"dump {dumps + 1} is stored\n")
         holds("no program", refuses("keep", *keep(server, "backup", to, "--muckd", "/nowhere/muckd"), folder=folder, env={"PATH": os.path.dirname(sys.executable) + ":/usr/bin"}), "which isn't found")
     before = sorted(os.listdir(to))
     holds("down", refuses("keep", *keep(server, "backup", to), folder=folder), "nothing answers")
@@ -109,6 +113,51 @@ def a_copy_that_is_not_whole(folder):
         same("refused", refuses("keep", *words, folder=folder), "3 copies weren't whole: a dump came into each")
         put(os.path.join(folder, "other"), "world.a", b"")
         holds("another store", refuses("keep", *words, folder=folder), "isn't the store that is served at port", "its last dump is none, and that one has stored dump 5")
+        same("nothing is left", os.listdir(to), [])
+
+
+def which_backups_stay(folder):
+    """The newest ones, and the one that was just made also where the clock was ahead before; what else lies beside or in them."""
+    to = os.path.join(folder, "backups")
+    for name in ("world-20200101-000000", "world-20200102-000000", "world-20991231-000000", "world-notes", "other-20200101-000000", "world-20200103-000000"):
+        os.makedirs(os.path.join(to, name))
+        if name != "world-20200103-000000":
+            put(os.path.join(to, name), "world.a", b"")
+    put(os.path.join(to, "world-20200101-000000"), "note", "why it was made")
+
+    def there():
+        return {name for name in os.listdir(to) for file in os.listdir(os.path.join(to, name)) if file == "world.a"}
+
+    with Server(folder) as server:
+        keeper(folder)
+        first = there()
+        same("enough room", works("keep", *keep(server, "backup", to, "--keep", "5"), folder=folder).count("taken away"), 0)
+        made = there() - first
+        same("one more", (len(made), there() >= first), (1, True))
+        time.sleep(1.05)
+        out = works("keep", *keep(server, "backup", to, "--keep", "2"), folder=folder)
+        same("taken away", re.findall(r"(world-20\d{6}-\d{6}) was taken away", out), ["world-20200101-000000", "world-20200102-000000", *made])
+        newest = there() - first - made
+        same("what stays", (there(), len(newest)), ({"world-20991231-000000", "world-notes", "other-20200101-000000"} | newest, 1))
+        same("a note stays", os.listdir(os.path.join(to, "world-20200101-000000")), ["note"])
+
+
+def a_backup_that_is_ended(folder):
+    """What a signal ends leaves nothing behind, and says so."""
+    to = os.path.join(folder, "backups")
+    os.mkdir(to)
+    put(folder, "slow", "#!/bin/sh\necho > tried\nexec sleep 600\n", 0o700)
+    with Server(folder) as server:
+        keeper(folder)
+        tool_path = os.path.join(TOP, "contrib/keep")
+        one = subprocess.Popen([tool_path, *map(str, keep(server, "backup", to, "--muckd", os.path.join(folder, "slow")))], cwd=folder, stdout=subprocess.PIPE, stderr=subprocess.PIPE)
+        until = time.monotonic() + PATIENCE
+        while not any("tried" in files for _, _, files in os.walk(to)):
+            assert one.poll() is None and time.monotonic() < until, one.communicate()
+            time.sleep(0.05)
+        one.terminate()
+        out, why = one.communicate(timeout=PATIENCE)
+        same("ended", (one.returncode, out, why), (1, b"", b"keep: interrupted\n"))
         same("nothing is left", os.listdir(to), [])
 
 
@@ -155,7 +204,7 @@ def lines_are_typed(folder):
         holds("a long line", refuses("keep", *keep(server, "type", file), folder=folder), f"{file}:2: the line has 2049 bytes")
         same("nothing was typed", [line for line in server.talk("@find a") if line.startswith("a(")], [])
         put(folder, "start", "@program left\ni\n")
-        holds("an editor left open", refuses("keep", *keep(server, "--patience", "3", "type", file), folder=folder), "3 seconds went by without the end of what the lines do")
+        holds("an editor left open", refuses("keep", *keep(server, "--patience", "20", "type", file), folder=folder), "20 seconds went by without the end of what the lines do")
 
 
 def it_waits_for_a_server(folder):
@@ -174,7 +223,12 @@ def it_waits_for_a_server(folder):
 def it_stops(folder):
     with Server(folder) as server:
         keeper(folder)
-        server.talk("@create ball")
+        server.talk("@create ball", "@pcreate Two=secret")
+        keeper(folder, "Two secret\n")
+        same("who may not", refuses("keep", *keep(server, "stop", "--say", ""), folder=folder), "the world goes on: Permission denied (P17).")
+        keeper(folder)
+        for text in ("Gute N\u00e4chte", "a\n@shutdown", "x" * 2049):
+            holds(text, refuses("keep", *keep(server, "stop", "--say", text), folder=folder), "can't be typed: a line has up to 2048 letters, all of ASCII")
         with socket.create_connection(("127.0.0.1", server.port)) as one:
             one.sendall(b"connect One potrzebie\r\n")
             time.sleep(0.2)
@@ -194,7 +248,7 @@ def it_waits_for_the_lock(folder):
         with open(os.path.join(folder, "world.a"), "rb") as held:
             next_one = threading.Thread(target=fcntl.flock, args=(held, fcntl.LOCK_EX))
             next_one.start()
-            holds("locked", refuses("keep", *keep(server, "--patience", "5", "stop"), folder=folder), "hadn't ended 5 seconds later")
+            holds("locked", refuses("keep", *keep(server, "--patience", "20", "stop"), folder=folder), "hadn't ended 20 seconds later")
             next_one.join()
 
 
@@ -221,6 +275,9 @@ def password_files(folder):
         same("lent by systemd", works("keep", *keep(server, "dump"), folder=folder, env={"CREDENTIALS_DIRECTORY": folder}), "dump 1 is stored\n")
         holds("not lent", refuses("keep", *keep(server, "dump"), folder=folder), "can be read by others")
         os.remove(os.path.join(folder, "keeper"))
+        os.mkfifo(os.path.join(folder, "keeper"), 0o600)
+        holds("a pipe", refuses("keep", *keep(server, "dump"), folder=folder), "keeper is no file")
+        os.remove(os.path.join(folder, "keeper"))
         holds("no file", refuses("keep", *keep(server, "dump"), folder=folder), "keeper: No such file")
         holds("none is said", refuses("keep", "--port", server.port, "dump", folder=folder), "--password FILE is wanted")
         keeper(folder)
@@ -228,7 +285,7 @@ def password_files(folder):
 
 
 def words_that_are_wrong(folder):
-    for words in ((), ("frob",), ("type",), ("backup",), ("--port", "x", "probe"), ("--port", "0", "probe"), ("backup", "d", "--keep", "0")):
+    for words in ((), ("frob",), ("type",), ("backup",), ("--port", "x", "probe"), ("--port", "0", "probe"), ("--port", "65536", "probe"), ("backup", "d", "--keep", "0")):
         status, out, why = tool("keep", *words, folder=folder)
         same(words, (status, out, "usage: keep" in why), (1, "", True))
     for command in ((), ("probe",), ("dump",), ("backup",), ("type",), ("stop",)):
@@ -250,5 +307,5 @@ def units(folder):
     same("what systemd says", ours, [])
 
 
-TESTS = [a_probe, a_dump, nobody_hears_it, backups, a_copy_that_is_not_whole, while_much_is_made, lines_are_typed, it_waits_for_a_server, it_stops, it_waits_for_the_lock, a_world_that_is_full, password_files,
+TESTS = [a_probe, a_dump, nobody_hears_it, backups, which_backups_stay, a_backup_that_is_ended, a_copy_that_is_not_whole, while_much_is_made, lines_are_typed, it_waits_for_a_server, it_stops, it_waits_for_the_lock, a_world_that_is_full, password_files,
          words_that_are_wrong, units]

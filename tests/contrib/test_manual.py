@@ -1,4 +1,4 @@
-"""docs/KEEPER.md and docs/PUBLIC.md: their examples, in their order, with a server on a free port in place of 4201."""
+"""docs/KEEPER.md, docs/STARTER.md and docs/PUBLIC.md: their examples, in their order, with a server on a free port in place of 4201."""
 import os
 import re
 import shutil
@@ -28,6 +28,7 @@ def examples(page):
 def plain(text):
     """What differs from run to run, as the manual writes it."""
     text = re.sub(r"\d{8}-\d{6}", "DATE-TIME", text)
+    text = re.sub(r"(?m)^(Ann +)\ds$", r"\g<1>0s", text)
     return re.sub(r"(answer_ms|dump_age|store_bytes)=[\d.]+", r"\1=N", text)
 
 
@@ -36,15 +37,15 @@ def of_any_number(text):
     return re.sub(r"dump \d+", "dump N", plain(text))
 
 
-def run_page(folder, page, plain):
-    """Runs the examples of a page; each server that they start ends with 0."""
+def run_page(folder, page, plain, least=30):
+    """Runs the examples of a page, which has so many at least; each server that they start ends with 0."""
     port, servers = str(free_port()), []
     for name in ("contrib", "demos", "tests", "docs"):
         os.symlink(os.path.join(TOP, name), os.path.join(folder, name))
     os.mkdir(os.path.join(folder, "bin"))
     os.symlink(PROGRAM, os.path.join(folder, "bin/muckd"))
     rows = examples(page)
-    assert len(rows) > 30, len(rows)
+    assert len(rows) >= least, len(rows)
     try:
         for command, want in rows:
             command = command.replace("4201", port)
@@ -66,6 +67,10 @@ def the_manual(folder):
     run_page(folder, "docs/KEEPER.md", plain)
 
 
+def the_manual_of_the_starter(folder):
+    run_page(folder, "docs/STARTER.md", plain, 12)
+
+
 def going_public(folder):
     # the program that an upgrade brings
     os.makedirs(os.path.join(folder, "new/bin"))
@@ -73,15 +78,21 @@ def going_public(folder):
     run_page(folder, "docs/PUBLIC.md", of_any_number)
 
 
-def what_it_links_to(folder):
-    """The manual names files that are there."""
-    text = text_of("docs/KEEPER.md")
-    for name in set(re.findall(r"\]\(([\w./]+\.md)", text)):
-        assert os.path.exists(os.path.join(TOP, "docs", name)), name
-    for name in set(re.findall(r"`(contrib/[\w./-]+|demos/[\w./-]+|tests/[\w./-]+)`", text)):
-        assert os.path.exists(os.path.join(TOP, name)), name
+def headings(page):
+    """The parts of a page of docs/, as links name them."""
+    return [re.sub(r"[^\w -]", "", line.lstrip("# ").lower()).replace(" ", "-") for line in text_of(os.path.join("docs", page)).splitlines() if line.startswith("#")]
+
+
+def what_they_link_to(folder):
+    """The manuals name files and headings that are there."""
+    for page in ("KEEPER.md", "STARTER.md"):
+        text = text_of(os.path.join("docs", page))
+        for name, part in set(re.findall(r"\]\(([\w./]+\.md)#?([\w-]*)\)", text)):
+            assert not part or part in headings(name), (page, name, part)
+        for name in set(re.findall(r"`(contrib/[\w./-]+|demos/[\w./-]+|tests/[\w./-]+)`", text)):
+            assert os.path.exists(os.path.join(TOP, name.replace("NAME", "help"))), name
     for name in os.listdir(os.path.join(TOP, "contrib/systemd")):
-        assert f"`{name}`" in text, name
+        assert f"`{name}`" in text_of("docs/KEEPER.md"), name
 
 
 def parts_that_are_linked(folder):
@@ -92,12 +103,11 @@ def parts_that_are_linked(folder):
     for page, part in re.findall(r"\]\(([\w.]*)#?([\w-]*)\)", text):
         if page in to_come:
             continue
-        headings = [re.sub(r"[^\w -]", "", line.lstrip("# ").lower()).replace(" ", "-") for line in text_of(os.path.join("docs", page or "PUBLIC.md")).splitlines() if line.startswith("#")]
-        assert not part or part in headings, (page, part)
+        assert not part or part in headings(page or "PUBLIC.md"), (page, part)
     for name in set(re.findall(r"(?<![\w/])contrib/[\w./-]*\w(?![\w*-])", text)) - to_come:
         assert os.path.exists(os.path.join(TOP, name)), name
     for name in set(re.findall(r"muckd-\w+\.(?:timer|service)", text)) - to_come:
         assert os.path.exists(os.path.join(TOP, "contrib/systemd", name)), name
 
 
-TESTS = [the_manual, what_it_links_to, going_public, parts_that_are_linked]
+TESTS = [the_manual, the_manual_of_the_starter, what_they_link_to, going_public, parts_that_are_linked]

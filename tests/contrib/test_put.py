@@ -1,9 +1,11 @@
 """contrib/put, the words of muckkit.muf, and demos/library.muf, beside the real program."""
 import os
+import random
 import re
+import subprocess
 
 import library
-from common import LOGIN, TOP, Server, holds, put as write, refuses, same, script, tool, works
+from common import LOGIN, PATIENCE, TOP, Server, holds, put as write, refuses, same, script, tool, works
 from muckkit import muf
 
 HELLO = ': main "Hello, " swap strcat me @ swap notify ;\n'
@@ -203,6 +205,57 @@ def the_script_of_the_library(folder):
     same("no error", re.findall(r"Error|Huh|Permission|That can't", out), [])
 
 
+def what_a_signal_ends(folder):
+    """Wherever the typing is ended by a signal no program is left over, and the one that was there is as it was."""
+    with Server(folder) as server:
+        write(folder, "long.muf", HELLO)
+        works("put", *puts(server, "long.muf"), folder=folder)
+        write(folder, "long.muf", ("( " + "line " * 390 + ")\n") * 4000 + HELLO.replace("Hello", "Good day"))
+        ended = 0
+        for _ in range(4):
+            one = subprocess.Popen([os.path.join(TOP, "contrib/put"), *map(str, puts(server, "long.muf"))], cwd=folder, stdout=subprocess.PIPE, stderr=subprocess.PIPE)
+            while one.poll() is None and not any(line.startswith("put-") for line in server.talk("@find put-")):
+                pass
+            one.terminate()
+            out, why = one.communicate(timeout=PATIENCE)
+            ended += one.returncode == 1
+            if one.returncode:
+                same("what is said", (one.returncode, out, why), (1, b"", b"put: interrupted\n"))
+            same("nothing is left over", [line for line in server.talk("@find put-") if line.startswith("put-")], [])
+        same("it runs", server.talk("@run long=you")[-2], "Hello, you" if ended == 4 else "Good day, you")
+
+
+PLAIN = (
+    (["$note sad :-( and ( this", '$author me "x', ": main ( x ( y ) -- ) pop ;"], ["( $note sad :- and  this )", '( $author me "x )', ": main ( x [ y ] -- ) pop ;"], {}),
+    (["( its head:", "$author x", "  $note y (z)", ")", ": f[ str:a", '   int:b? -- str:c ] ": a[str:b]" ;'], ["( its head:", "$author x", "  $note y [z]", ")", ": f[ a", '   b? -- str:c ] ": a[str:b]" ;'], {}),
+    (["$libdef old", "$pubdef :", "$libdef f $libdef \\g : h ;", '$pubdef k "(" x', "$pubdef empty", "$notes x"], ["( $libdef old )", "( $pubdef : )", "( $libdef f ) ( $libdef \\g ) : h ;", '( $pubdef k "" x )', "( $pubdef empty )", "$notes x"],
+     {"f": None, "g": None, "k": '"(" x', "empty": ""}),
+    ([": a[ str:b] ;", ": c[ ] str:d ;", ": e", "[ str:x ]", ":", "f[", "int:y", "]"], [": a[ b] ;", ": c[ ] str:d ;", ": e", "[ str:x ]", ":", "f[", "y", "]"], {}),
+)
+
+
+def what_is_written_otherwise(folder):
+    """Notes, lending, types and comments, wherever they stand; each line keeps its number."""
+    for lines, want, lent in PLAIN:
+        same(lines, muf.plain(lines), (want, lent))
+    draw = random.Random(5)
+    for _ in range(3000):
+        lines = "".join(draw.choice(("(", ")", '"', "\\", "\n", " ", ":", "[", "]", "$note", "$libdef", "$pubdef ", "str:a", "--", "x", "$author ")) for _ in range(draw.randrange(20))).split("\n")
+        same(lines, len(muf.plain(lines)[0]), len(lines))
+
+
+def before_it_connects(folder):
+    """What is wrong with the words or the file is told with the line, and no server is asked."""
+    where = ("--port", 1, "--password", "nobody")
+    for text, why in ((b": main ;\n$libdef a:b\n", "bad.muf:2: a:b can't be lent: a path holds byte 58"), (b"$pubdef a//b x\n", "bad.muf:1: a//b can't be lent: a path has up to 16 parts"), (b"\n\n$pubdef x " + b"y " * 1020 + b"\n", "bad.muf:3: x can't be lent: its text is too long"),
+                      (b"$pubdef " + b"x" * 123 + b" 1\n", "can't be lent: a path has 129 bytes"), (b"\xef\xbb\xbf: main ;\n", "bad.muf:1: it holds '\\ufeff'"), (b": main\n\x01 ;\n", "bad.muf:2: it holds '\\x01'")):
+        write(folder, "bad.muf", text)
+        holds(text, refuses("put", *where, "bad.muf", folder=folder), why)
+    for word in ("frob", "M4", "Y", "", "LM2"):
+        status, out, why = tool("put", *where, "--set", word, "bad.muf", folder=folder)
+        same(word, (status, out, f"argument --set: invalid flag value: '{word}'" in why), (1, "", True))
+
+
 def the_words_of_this_server(folder):
     """What muckkit.muf takes for a word the compiler takes for one, and the manual has it."""
     words = sorted(muf.PRIMITIVES)
@@ -252,4 +305,4 @@ def words_that_are_wrong(folder):
     holds("--help", works("put", "--help", folder=folder), "usage: put")
 
 
-TESTS = [a_program, every_length, errors, a_source_of_fuzzball, the_library, no_right_is_lent, the_script_of_the_library, the_words_of_this_server, the_table_of_words, words_that_are_wrong]
+TESTS = [a_program, every_length, errors, what_a_signal_ends, what_is_written_otherwise, before_it_connects, a_source_of_fuzzball, the_library, no_right_is_lent, the_script_of_the_library, the_words_of_this_server, the_table_of_words, words_that_are_wrong]

@@ -6,7 +6,7 @@ import resource
 import subprocess
 
 import files
-from common import LOGIN, PROGRAM, Server, files_in, holds, put, refuses, same, script, tool, works
+from common import LOGIN, PATIENCE, PROGRAM, TOP, Server, files_in, holds, put, refuses, same, script, tool, works
 
 BUILDING = LOGIN + """\
 send 1 @describe here=A wide hall.
@@ -74,8 +74,37 @@ def out_and_back(folder):
     same("what is tuned", world_of(folder, "new").tuned, world_of(folder).tuned)
     look = LOGIN + "send 1 look\nsend 1 inventory\nsend 1 @list shout\nsend 1 examine north\nsend 1 @tune\n"
     same("a run", script(folder, look, "new"), script(folder, look))
+    holds("a name of any bytes", works("store", "import", b"n\xff".decode(errors="surrogateescape"), "first.json", folder=folder), "; n\\udcff.a counts, dump 1\n")
     same("standard output and input", tool("store", "import", "third", "-", folder=folder, typed=works("store", "export", "world", folder=folder))[0], 0)
     same("nobody else reads the digests", os.stat(os.path.join(folder, "first.json")).st_mode & 0o77, 0)
+
+
+def where_lines_go(folder):
+    """A file that a link names is written, not the link; what is there and is no file isn't touched."""
+    script(folder, BUILDING)
+    os.mkfifo(os.path.join(folder, "pipe"))
+    os.mkdir(os.path.join(folder, "folder"))
+    os.symlink("target", os.path.join(folder, "link"))
+    for name in ("pipe", "folder"):
+        same(name, refuses("store", "export", "world", name, folder=folder), f"{name} is there, and is no file")
+    same("no folder", refuses("store", "export", "world", "nowhere/it", folder=folder), "nowhere/it: there is no folder nowhere")
+    works("store", "export", "world", "link", folder=folder)
+    same("the link", (os.readlink(os.path.join(folder, "link")), os.stat(os.path.join(folder, "target")).st_mode & 0o777), ("target", 0o600))
+    same("nothing else", sorted(os.listdir(folder)), ["folder", "link", "pipe", "target", "world.a", "world.b"])
+
+
+def a_file_that_may_not_grow(folder):
+    """Where a file can't be written, as on a disk that is full, it is told which, and the world is the one from before."""
+    script(folder, BUILDING + "send 1 @describe here=" + "long " * 300 + "\n")
+    works("store", "export", "world", "it.json", folder=folder)
+    before = files_in(folder)["world.a"]
+    for command, name, typed in (("import new it.json", "new.a", ""), ("password world One", "world.a", "x\n"), ("import world it.json --replace", "world.b", "")):
+        done = subprocess.run(["bash", "-c", f"ulimit -f 1; exec {TOP}/contrib/store {command}"], cwd=folder, input=typed.encode(), capture_output=True, timeout=PATIENCE)
+        same(command, (done.returncode, done.stdout, done.stderr.decode()), (1, b"", f"store: {name}: File too large\n"))
+    same("the world", files_in(folder)["world.a"], before)
+    holds("nothing is in the other", works("store", "info", "new", folder=folder), "no dump is stored")
+    script(folder, LOGIN)
+    script(folder, LOGIN, "new")
 
 
 def the_batch_of_a_whole_world(folder):
@@ -139,7 +168,7 @@ def a_password(folder):
     same("one batch more", (after.batches, after.number), (2, 2))
     same("nothing else", [(a.number, a.name) for a, b in zip(after.objects, before.objects) if a != b], [(r.number, r.name) for r in before.objects if r.name == b"Two"])
     holds("it is the password", script(folder, "open 1\nsend 1 connect Two secret\nsend 1 connect Two new word\n"), "1< Either that player", "1< Room Zero")
-    for typed, why in (("", "that is no password"), ("\n", "that is no password"), ("x" * 33 + "\n", "that is no password"), (" a\n", "no spaces at its ends"), ("é\n", "that is no password")):
+    for typed, why in (("", "that is no password"), ("\n", "that is no password"), ("x" * 33 + "\n", "that is no password"), (" a\n", "no spaces at its ends"), ("é\n", "that is no password"), (b"\xff\xfe\n", "holds byte 255"), ("a\rb\n", "that is no password")):
         holds(typed, refuses("store", "password", "world", "two", folder=folder, typed=typed), why)
     holds("nobody", refuses("store", "password", "world", "Nobody", folder=folder, typed="a\n"), "no player of world has the name Nobody")
     # behind 64 batches it begins the other file, as a dump does
@@ -273,7 +302,9 @@ def lines_that_are_wrong(folder):
     works("store", "import", "good", "good.json", folder=folder)
     before = files_in(folder)
     rows = [(first + zero + line + "\n", at, why) for line, at, why in WRONG]
-    rows += [("", 1, "it is empty"), ("{}\n", 1, "it doesn't begin as an exported world does"), (first, 1, "it tells of 2 objects, and 0 follow"), (first.replace("900", "0") + zero + one, 1, "dump_interval is 0"),
+    rows += [(first.replace('"muckd":1', '"muckd":true') + zero + one, 1, "'muckd' isn't a number"), (first.replace("900", "9" * 5000) + zero + one, 1, "it isn't JSON: a number in it is too long"),
+             (first + zero + "{", 3, "it isn't JSON: Expecting property name enclosed in double quotes, at byte 2 of the line"), (first + zero + "[" * 100000, 3, "it is nested too deep"), ("\ufeff" + first + zero + one, 1, "it isn't JSON: "),
+             ("", 1, "it is empty"), ("{}\n", 1, "it doesn't begin as an exported world does"), (first, 1, "it tells of 2 objects, and 0 follow"), (first.replace("900", "0") + zero + one, 1, "dump_interval is 0"),
              (first.replace('"m1_units":20000,', "") + zero + one, 1, "'tuned' isn't"), (first + zero.replace(',"contents":[1]', "") + one, 3, "it stands in no list"),
              (first + zero.replace("[1]", "[1,1]") + one, 2, "'contents' holds #1, which stands in a list already"), (first + zero.replace("contents", "exits") + one, 2, "'exits' holds #1, which is player")]
     for text, at, why in rows:
@@ -299,5 +330,5 @@ def words_that_are_wrong(folder):
         holds("--help", works("store", *command, "--help", folder=folder), "usage: store")
 
 
-TESTS = [what_is_shown, out_and_back, the_batch_of_a_whole_world, ten_thousand_objects, a_changed_world, a_password, damage, damage_at_the_beginning, a_store_that_is_locked, by_root, while_a_server_dumps,
+TESTS = [what_is_shown, out_and_back, where_lines_go, a_file_that_may_not_grow, the_batch_of_a_whole_world, ten_thousand_objects, a_changed_world, a_password, damage, damage_at_the_beginning, a_store_that_is_locked, by_root, while_a_server_dumps,
          lines_that_are_wrong, words_that_are_wrong]

@@ -64,8 +64,10 @@ def parsed(line):
         it = json.loads(line.decode(), object_pairs_hook=pairs_of)
     except UnicodeDecodeError:
         raise Wrong("it isn't UTF-8") from None
-    except ValueError as why:
-        raise Wrong(f"it isn't JSON: {why}") from None
+    except json.JSONDecodeError as why:
+        raise Wrong(f"it isn't JSON: {why.msg}, at byte {why.pos + 1} of the line") from None
+    except ValueError:
+        raise Wrong("it isn't JSON: a number in it is too long") from None
     except RecursionError:
         raise Wrong("it is nested too deep") from None
     if not isinstance(it, dict):
@@ -157,7 +159,7 @@ def record_in(it, number):
 
 def tuned_in(it):
     """How many objects are to follow, and what is tuned."""
-    if it.get("muckd") != VERSION:
+    if number_in(it, "muckd", 0) != VERSION:
         raise Wrong(f"it doesn't begin as an exported world does, with \"muckd\":{VERSION}")
     unknown = sorted(set(it) - {"muckd", "objects", "tuned"})
     tuned = it.get("tuned")

@@ -17,7 +17,8 @@ def password_in(path):
     """Name and password of a player, from a file of one line that only its user reads."""
     if not path:
         raise Refused("--password FILE is wanted: a file with one line, NAME PASSWORD")
-    with open(path, "rb") as file:
+    # (a pipe that nobody writes to would never open)
+    with open(os.open(path, os.O_RDONLY | os.O_NONBLOCK), "rb") as file:
         it = os.fstat(file.fileno())
         if not stat.S_ISREG(it.st_mode):
             raise Refused(f"{path} is no file")
@@ -57,6 +58,9 @@ class Link:
         self.socket.close()
 
     def send(self, *lines):
+        for line in lines:
+            if len(line) > MOST_LINE or not re.fullmatch(r"[ -~]*", line):
+                raise Refused(f"{line[:60]!r} can't be typed: a line has up to {MOST_LINE} letters, all of ASCII")
         try:
             self.socket.sendall(b"".join(line.encode("ascii") + b"\r\n" for line in lines))
         except OSError as why:

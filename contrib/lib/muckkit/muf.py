@@ -134,32 +134,61 @@ def comment_end(text, at):
     return first + 1 if first >= 0 else len(text)
 
 
+NOTE = re.compile(rf"\$(?:{NOTES})(?!\S)[^\n]*", re.I)
+LIBDEF = re.compile(r"\$libdef[ \t]+\\?(\S+)", re.I)
+PUBDEF = re.compile(r"\$pubdef[ \t]+\\?(\S+)[ \t]*([^\n]*)", re.I)
+TYPE = re.compile(r"[\w?]+:(?=.)")
+
+
+def pieces(text):
+    """A source as what it consists of, in its order: comments, texts, directives for people and for lending with their words, other words, and what stands between."""
+    at = 0
+    while at < len(text):
+        lines = NOTE, LIBDEF, PUBDEF
+        found = next(filter(None, (line.match(text, at) for line in lines)), None) or PIECE.match(text, at)
+        end = comment_end(text, at) if text[at] == "(" else found.end()
+        yield text[at:end]
+        at = end
+
+
+def bracketed(comment):
+    """A comment that holds comments, as one that holds square brackets."""
+    return "(" + comment[1:-1].replace("(", "[").replace(")", "]") + ")" if comment.endswith(")") else comment
+
+
 def without_nesting(text):
     """Comments that hold comments, as comments that hold square brackets."""
-    found, at = [], 0
-    while at < len(text):
-        end = comment_end(text, at) if text[at] == "(" else PIECE.match(text, at).end()
-        piece = text[at:end]
-        if piece[0] == "(" and piece[-1] == ")":
-            piece = "(" + piece[1:-1].replace("(", "[").replace(")", "]") + ")"
-        found.append(piece)
-        at = end
-    return "".join(found)
+    return "".join(bracketed(piece) if piece.startswith("(") else piece for piece in pieces(text))
+
+
+def lends(piece, lent):
+    """Keeps what a directive lends, by name: its text, or None for a word of the program. Whether the piece is one."""
+    word, text = LIBDEF.fullmatch(piece), PUBDEF.fullmatch(piece)
+    if text and text[1] == ":":
+        # (what was lent before is lent no more)
+        lent.clear()
+    elif word or text:
+        lent[(word or text)[1]] = None if word else text[2].strip()
+    return bool(word or text)
 
 
 def plain(lines):
     """A source of Fuzzball as this server reads it, line by line: notes for people as comments, no types in headers, no comments within comments. And what it lends, by name."""
-    lent, found = {}, []
-    for line in without_nesting("\n".join(lines)).split("\n"):
-        note = re.match(rf"\s*\$({NOTES})\b", line, re.I)
-        lends = re.match(r"\s*\$(libdef|pubdef)\s+(\S+)\s*(.*)", line, re.I)
-        if lends:
-            lent[lends[2]] = None if lends[1].lower() == "libdef" else lends[3].strip()
-        if note or lends:
-            line = "( " + re.sub(r"[()]", "", line.strip()) + " )"
-        line = re.sub(r"(:\s*\S+\[)([^\]]*)\]", lambda header: header[1] + re.sub(r"(?<!\S)[\w?]+:(?=\S)", "", header[2]) + "]", line)
-        found.append(line)
-    return found, lent
+    lent, found, before, header = {}, [], "", False
+    for piece in pieces("\n".join(lines)):
+        if piece.startswith("("):
+            piece = bracketed(piece)
+        elif NOTE.fullmatch(piece) or lends(piece, lent):
+            piece = "( " + re.sub(r"[()]", "", piece.strip()) + " )"
+        elif not piece.isspace():
+            if header:
+                header = piece != "--" and not piece.endswith("]")
+                piece = TYPE.sub("", piece, 1) if piece != "--" else piece
+            else:
+                header = before == ":" and len(piece) > 1 and piece.endswith("[")
+            before = piece
+        found.append(piece)
+    return "".join(found).split("\n"), lent
 
 
 INCLUDE = re.compile(r"^(\s*\$include\s+)\$lib/(\S+)", re.I)

@@ -1,6 +1,7 @@
 """How a tool of `contrib` refuses: a sentence on standard error and status 1."""
 import argparse
 import os
+import signal
 import sys
 
 
@@ -17,7 +18,10 @@ class Parser(argparse.ArgumentParser):
 
 
 def run(tool, main):
-    """The status of `main`, with its refusal told in the name of the tool."""
+    """The status of `main`, with its refusal told in the name of the tool. A SIGTERM is taken as Ctrl-C is, so that what was begun is cleared away."""
+    signal.signal(signal.SIGTERM, signal.default_int_handler)
+    # (the name of a file may hold any byte)
+    sys.stdout.reconfigure(errors="backslashreplace")
     try:
         status = main()
         sys.stdout.flush()
@@ -43,7 +47,12 @@ def read_bytes(path):
 
 
 def write_whole(path, data, mode=0o666):
-    """Puts the file there whole, or leaves what was there."""
+    """Puts the file there whole, or leaves what was there. What is there and is no file, as a device, isn't touched."""
+    named, path = path, os.path.realpath(path)
+    if os.path.lexists(path) and not os.path.isfile(path):
+        raise Refused(f"{named} is there, and is no file")
+    if not os.path.isdir(os.path.dirname(path)):
+        raise Refused(f"{named}: there is no folder {os.path.dirname(named) or '.'}")
     part = f"{path}.part.{os.getpid()}"
     handle = os.open(part, os.O_WRONLY | os.O_CREAT | os.O_EXCL, mode)
     try:
@@ -55,3 +64,11 @@ def write_whole(path, data, mode=0o666):
     except BaseException:
         os.unlink(part)
         raise
+
+
+def port(word):
+    """A port, among the words of a command line."""
+    number = int(word)
+    if not 1 <= number <= 65535:
+        raise ValueError
+    return number

@@ -175,10 +175,13 @@ class Files:
         return held_by(self.name, found)
 
     def put(self, second, place, data):
-        while data:
-            count = os.pwrite(self.handles[second], data, place)
-            place, data = place + count, data[count:]
-        os.fsync(self.handles[second])
+        try:
+            while data:
+                count = os.pwrite(self.handles[second], data, place)
+                place, data = place + count, data[count:]
+            os.fsync(self.handles[second])
+        except OSError as why:
+            raise OSError(why.errno, why.strerror, paths(self.name)[second]) from None
 
     def append(self, held, objects, tuned, anew=False):
         """The world of these objects as one batch more; `anew` at the beginning of the other file, as the whole world. What is held then."""
