@@ -20,7 +20,7 @@ def looked_at(name, formula, before, world=worlds.small, over=""):
     return Row(f"look: {name}", typed(f"@describe me={formula}"), typed("look me"), LINE, before, world=world, over=over)
 
 
-def parsed(name, formula, bound=LINE, rounds=1, over="mpi_commands"):
+def parsed(name, formula, rounds=1, bound=LINE, over="mpi_commands"):
     """A program evaluates the formula, a text of two lines, up to the fault in which its commands end."""
     text = formula.replace("\\", "\\\\")
     half = len(text) // 2
@@ -50,5 +50,5 @@ ROWS = [
     parsed("null of 3,901 arguments", over_list("{null:%s}" % ("," * 3900))),
     parsed("mklist of 3,901 arguments", over_list("{mklist:%s}" % ("," * 3900))),
     parsed("subst of 3,900 bytes, each replaced", over_list("{subst:%s,a,b}" % ("a" * 3900))),
-    parsed("a section of subst of 3,900 bytes", over_list("{subst:%s,a,b}" % ("a" * 3900)), SLICE, 1100, "mpi_commands and preempt_units"),
+    parsed("a section of subst of 3,900 bytes", over_list("{subst:%s,a,b}" % ("a" * 3900)), 1100, SLICE, "mpi_commands and preempt_units"),
 ]

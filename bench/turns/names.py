@@ -1,13 +1,13 @@
 """Players by their names, among many objects and among many players."""
 from turns import worlds
-from turns.rows import PLAIN, SLICE, Row, rounds_of
+from turns.rows import PLAIN, SLICE, Row, section
 
 TRIES = 2_000
 TRY = 0.0001  # as many as one likes are done, one behind the other
 
 
 def pmatch(where, world, before, bound):
-    return rounds_of(f"pmatch {where}: a section", bound, before, 2200, '"nobody" pmatch pop', world=world)
+    return section(f"pmatch {where}", bound, before, '"nobody" pmatch pop', world=world)
 
 
 def tries(where, world, before):

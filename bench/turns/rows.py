@@ -54,3 +54,9 @@ def rounds_of(name, bound, before, rounds, body, first="", preempt=True, setup=(
     lines = program("bench", *textwrap.wrap(source, 1500, break_long_words=False, break_on_hyphens=False))
     none = typed("@run bench=0")
     return Row(name, [*setup, *lines, *none], typed(f"@run bench={rounds}"), bound, before, turns, instead=none, **more)
+
+
+def section(name, bound, before, body, first="", **more):
+    """A row of a section in preempt that is full of the body."""
+    words = 20 * len(body.split()) + 5
+    return rounds_of(f"{name}: a section", bound, before, 19_800 // words, " ".join([body] * 20), first, **more)

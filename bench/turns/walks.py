@@ -1,6 +1,6 @@
 """What goes over many objects, properties or connections: locks, names in a large room and along a long environment, texts to many."""
 from turns import worlds
-from turns.rows import LINE, SLICE, Row, rounds_of, typed
+from turns.rows import LINE, SLICE, Row, rounds_of, section, typed
 
 SECTION = "preempt_units: each unit goes over all of them"
 LOCKED = '"a:b" 1 449 1 for pop "|a:b" strcat repeat parselock w !'
@@ -9,10 +9,9 @@ TELL = '"\\r" 1 12 1 for pop dup strcat repeat v !'
 OTHERS = [line for d in range(2, 61) for line in (f"open {d}", f"send {d} connect One potrzebie")]
 
 
-def both(what, body, rounds, before, in_unit=None, over_unit="", over=SECTION, **more):
-    """The one unit, so often that it shows, and a section."""
-    few = max(1, rounds // 100)
-    return [rounds_of(what, LINE, in_unit, few, body, turns=few, over=over_unit, **more), rounds_of(f"{what}: a section", SLICE, before, rounds, body, over=over, **more)]
+def both(what, body, before, in_unit=None, over_unit="", over=SECTION, **more):
+    """The unit, so often that it shows, and a section."""
+    return [rounds_of(what, LINE, in_unit, 20, body, turns=20, over=over_unit, **more), section(what, SLICE, before, body, over=over, **more)]
 
 
 def line(what, *texts, world, **more):
@@ -21,12 +20,12 @@ def line(what, *texts, world, **more):
 
 
 ROWS = [
-    *both("testlock of 450 terms, 30,000 properties", "me @ w @ testlock pop", 1900, 960, 0.29, first=LOCKED, world=worlds.properties),
+    *both("testlock of 450 terms, 30,000 properties", "me @ w @ testlock pop", 960, 0.29, over="", first=LOCKED, world=worlds.properties),
     rounds_of("testlock of 450 terms, carrying 99,000 things", LINE, None, 1, "me @ w @ testlock pop", LOCKED, over=TERMS, world=worlds.full_hands),
-    *both("match in a room of 99,000 things", '"lantern" match pop', 2200, 45, world=worlds.full_room),
-    *both("match 99,000 places deep", '"lantern" match pop', 2200, 23, world=worlds.deep),
-    *both("envprop 99,000 places deep", 'me @ "lantern" envprop pop pop', 1800, 15, world=worlds.deep),
-    rounds_of("notify of 4,096 line ends to 60 connections: a section", SLICE, 26, 2000, "me @ v @ notify", TELL, setup=OTHERS, over="preempt_units"),
+    *both("match in a room of 99,000 things", '"lantern" match pop', 45, world=worlds.full_room),
+    *both("match 99,000 places deep", '"lantern" match pop', 23, world=worlds.deep),
+    *both("envprop 99,000 places deep", 'me @ "lantern" envprop pop pop', 15, world=worlds.deep),
+    section("notify of 4,096 line ends to 60 connections", SLICE, 26, "me @ v @ notify", TELL, setup=OTHERS),
     rounds_of("moveto of the last of 99,000 things: a section", SLICE, None, 1900, f"{worlds.MANY + worlds.FIRST} swap - dbref #2 moveto", index="", world=worlds.full_room, over=SECTION),
     line("say, beside nothing that takes long", *['"a'] * 1000, world=worlds.small),
     line("look in a room of 99,000 things", *["look"] * 10, world=worlds.full_room),
