@@ -22,7 +22,7 @@ def main():
     parser.add_argument("words", nargs="*", metavar="WORD")
     parser.add_argument("--serve", action="store_true", help="measure too how long another player waits")
     parser.add_argument("--runs", type=int, default=3, help="the least of so many runs is taken (3)")
-    parser.add_argument("--limit", type=int, default=60, help="seconds of the processor after which a run is ended, and its row over (60)")
+    parser.add_argument("--limit", type=int, default=20, help="seconds of the processor after which a run is ended, and its row over (20)")
     given = parser.parse_args()
     program = os.path.abspath(os.environ.get("MUCKD", os.path.join(here, "../dist/muckd")))
     chosen = [row for row in ROWS if not given.words or any(word in row.name for word in given.words)]
