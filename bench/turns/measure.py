@@ -1,5 +1,6 @@
 """What a row costs: seconds of the processor, by runs of scripts; how long another player waited, and bytes of memory, by servers on this machine."""
 import contextlib
+import fcntl
 import os
 import re
 import resource
@@ -14,6 +15,7 @@ BEGIN = ["open 1", "send 1 connect One potrzebie"]
 FAULT = re.compile(rb"Program (error|not compiled)|Huh\?|Permission denied|That can't be done|I don't |Error \d+ in|Illegal editor|Too many |Usage: ")
 EACH = 0.02  # seconds between what Ann says
 PATIENCE = 60
+PIPE = 4096
 
 
 class Broken(Exception):
@@ -30,43 +32,57 @@ def fault_in(shown):
     return found and shown[found.start():found.start() + 80].split(b"\n")[0].decode()
 
 
-def run(program, store, lines, limit):
-    """The processor seconds of a script's run on a store of these bytes."""
-    with tempfile.TemporaryDirectory(dir="/dev/shm") as folder, tempfile.TemporaryFile(dir="/dev/shm") as script, tempfile.TemporaryFile(dir="/dev/shm") as shown:
+def marked(on, word):
+    """Lines by which a run tells how far it is, and then waits: what follows the word is more than its pipe holds."""
+    return [f'send {on} "{word}', *[f'send {on} "{"x" * 2000}'] * 8]
+
+
+def run(program, store, setup, turn, limit):
+    """The processor seconds of the turn, in a script's run on a store of these bytes: its processor's clock is read as it waits before the turn and behind it."""
+    on = turn[-1].split(" ", 2)[1]
+    # Each line behind the last one gives 4,096 slices more.
+    lines = [*BEGIN, *setup, *marked(1, "ready."), *turn, *marked(on, "turned."), *[""] * 20]
+    with tempfile.TemporaryDirectory(dir="/dev/shm") as folder, tempfile.TemporaryFile(dir="/dev/shm") as script:
         with open(os.path.join(folder, "w.a"), "wb") as file:
             file.write(store)
         script.write("".join(f"{line}\n" for line in lines).encode())
         script.seek(0)
-        child = subprocess.Popen([program, "run", "w"], cwd=folder, stdin=script, stdout=shown)
+        out, into = os.pipe()
+        fcntl.fcntl(into, fcntl.F_SETPIPE_SZ, PIPE)
+        child = subprocess.Popen([program, "run", "w"], cwd=folder, stdin=script, stdout=into)
+        os.close(into)
         resource.prlimit(child.pid, resource.RLIMIT_CPU, (limit, limit))
-        _, status, used = os.wait4(child.pid, 0)
-        child.returncode = os.waitstatus_to_exitcode(status)
-        if child.returncode in (-signal.SIGXCPU, -signal.SIGKILL):
-            raise TooLong
-        shown.seek(0)
-        text = shown.read()
-    if child.returncode or b'You say, "turned."' not in text[-100:]:
-        raise Broken(f"status {child.returncode}, ends with {text[-100:]!r}")
-    if fault := fault_in(text):
-        raise Broken(fault)
-    return used.ru_utime + used.ru_stime
+        try:
+            clocks, kept = [], b""
+            for word in (b'You say, "ready."', b'You say, "turned."'):
+                while (at := kept.find(word)) < 0:
+                    if fault := fault_in(kept):
+                        raise Broken(fault)
+                    kept = kept[-100:] + (more := os.read(out, PIPE))
+                    if not more:
+                        child.wait()
+                        raise TooLong if child.returncode in (-signal.SIGXCPU, -signal.SIGKILL) else Broken(f"status {child.returncode}, ends with {kept!r}")
+                kept = kept[at + len(word):]
+                # The clock of another process, as clock_getcpuclockid makes its number.
+                clocks.append(time.clock_gettime(~child.pid << 3 | 2))
+        finally:
+            child.kill()
+            child.wait()
+            os.close(out)
+    return clocks[1] - clocks[0]
 
 
 def seconds(program, row, runs, limit):
-    """What a turn takes of the processor: the least of some runs less the least of some without it."""
-    store = row.world()
-    on = row.turn[-1].split(" ", 2)[1]
-    # Each line behind the last one gives 4,096 slices more.
-    end = [f'send {on} "turned.', *[""] * 20]
-    without, whole = [BEGIN + row.setup + lines + end for lines in (row.instead, row.turn)]
-    least = [None, None]
+    """What a turn takes of the processor: the least of some runs, less the least of some with what is there in its place."""
+    store, least = row.world(), {}
     for _ in range(runs):
-        for which, lines in enumerate((without, whole)):
-            took = run(program, store, lines, limit)
-            least[which] = took if least[which] is None else min(took, least[which])
-        if least[1] > 3:
+        for lines in (row.turn, row.instead):
+            if lines:
+                took = run(program, store, row.setup, lines, limit)
+                least[id(lines)] = min(took, least.get(id(lines), took))
+        if least[id(row.turn)] > 3:
             break
-    return max(0.0, least[1] - least[0]) / row.turns
+    return max(0.0, least[id(row.turn)] - least.get(id(row.instead), 0.0)) / row.turns
 
 
 class Client:
