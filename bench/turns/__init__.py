@@ -1,0 +1,1 @@
+"""What bench/turns.py measures: rows by subject, and what makes and measures them."""
