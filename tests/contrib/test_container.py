@@ -9,7 +9,7 @@ import socket
 import subprocess
 
 from common import BINARY, PATIENCE, PROGRAM, TOP, free_port, holds, put, same, works
-from throwaway import Root
+from throwaway import SOURCES, Root
 
 CONTAINER = os.path.join(TOP, "contrib/container")
 ENTRY = os.path.join(CONTAINER, "entry")
@@ -180,7 +180,7 @@ def in_a_root_of_its_own(folder):
         does("sh", "-ec", "useradd" + texts("RUN")[0].split("useradd", 1)[1])
         for to, source in copied().items():
             does("mkdir", "-p", os.path.dirname(to))
-            does("cp", "-r", source, to)
+            does("cp", "-r", SOURCES + source.removeprefix(TOP), to)
         with open(BINARY, "rb") as file:
             does("sh", "-c", "cat > /opt/muckd/dist/muckd", typed=file.read())
         does("sh", "-c", "mkdir /run/secrets && echo a word of mine > /run/secrets/muckd")

@@ -2,7 +2,10 @@
 import os
 import subprocess
 
-from common import PATIENCE
+from common import PATIENCE, TOP
+
+# where the repository stands in such a root, wherever it lies on this machine
+SOURCES = "/mnt/sources"
 
 PLAIN = {"PATH": "/usr/local/sbin:/usr/local/bin:/usr/sbin:/usr/bin:/sbin:/bin", "LC_ALL": "C.UTF-8", "HOME": "/", "DEBIAN_FRONTEND": "noninteractive"}
 MOUNTS = """
@@ -12,6 +15,8 @@ mount -t proc proc "$0/root/proc"
 mount --rbind /dev "$0/root/dev"
 mount -t tmpfs tmpfs "$0/root/run"
 mount -t tmpfs tmpfs "$0/root/tmp"
+mkdir -p "$0/root$2"
+mount --bind "$1" "$0/root$2"
 echo ready
 exec sleep infinity
 """
@@ -27,7 +32,7 @@ class Root:
 
     def __enter__(self):
         """None, where this machine or this user can't have one."""
-        self.holder = subprocess.Popen(["unshare", "--mount", "--pid", "--fork", "--kill-child", "sh", "-c", MOUNTS, self.folder], stdin=subprocess.DEVNULL, stdout=subprocess.PIPE, stderr=subprocess.PIPE)
+        self.holder = subprocess.Popen(["unshare", "--mount", "--pid", "--fork", "--kill-child", "sh", "-c", MOUNTS, self.folder, TOP, SOURCES], stdin=subprocess.DEVNULL, stdout=subprocess.PIPE, stderr=subprocess.PIPE)
         if self.holder.stdout.readline() != b"ready\n":
             return None
         with open(f"/proc/{self.holder.pid}/task/{self.holder.pid}/children", encoding="ascii") as file:
