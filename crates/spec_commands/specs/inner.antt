@@ -2,3 +2,4 @@ pub mod Rising
 pub mod Company
 pub mod EditRows
 pub mod ProgramRows
+pub mod TalkRows
