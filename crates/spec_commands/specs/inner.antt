@@ -3,3 +3,4 @@ pub mod Company
 pub mod EditRows
 pub mod ProgramRows
 pub mod TalkRows
+pub mod GoingRows
