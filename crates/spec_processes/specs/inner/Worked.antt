@@ -1,11 +1,14 @@
 -- Worked rows of the primitives of processes, which the checker computes.
 use Rattle.std.specs.Prelude.{◌≡◌, ℕ, pos, negsuc, List, [], ◌∷◌, codes, Option, Some, None, refl}
+use Rattle.std.specs.Option.{option_map_or}
 use Rattle.spec_live.specs.Objects.{dbref_of, object_at, number_in, kind_in, object_in}
 use Rattle.spec_live.specs.Boards.{first_tune, early_board}
+use Rattle.spec_live.specs.Lives.{Live}
 use Rattle.spec_rights.specs.Levels.{owner_at}
 use Rattle.spec_live.specs.Start.{room_zero, player_one, first_objects}
 use Rattle.muf_model.specs.declared.fault.MufFault.TheVariants.{StackEmpty, BadType, BadArgument, NoSuchObject, Denied, BadSleep, CannotRead}
 use Rattle.muf_model.specs.declared.prims.Primitive.TheVariants.{Call, Sleep, Read, Kill, SetMode, Foreground, EventSend, EventWait, EventCount, Caller}
+use Rattle.muf_model.specs.Prims.{primitives, named_in_any_case}
 use Rattle.muf_model.specs.Datum.{Datum, int, text, object}
 use Rattle.spec_prims.specs.Asking.{level_fault, is_there, near_fault}
 use Rattle.spec_prims.specs.inner.Rows.{at_first, acting_at}
@@ -15,7 +18,7 @@ use Rattle.muck_queue.specs.declared.mode.Wait.TheVariants.{Nothing, ForLine, Fo
 use Rattle.muck_queue.specs.declared.process.Process.{Process}
 use Rattle.muck_queue.specs.Queues.{Queue, on_process, without, resting, sleeping, in_mode, told_event, without_event}
 use Rattle.spec_processes.specs.declared.place.Place.{Place}
-use Rattle.spec_processes.specs.ProcessRows.{gives, waits, refuses, event_data, processed}
+use Rattle.spec_processes.specs.ProcessRows.{Effect, gives, waits, refuses, event_data, processed}
 
 -- a process of #7, which isn't there, in that mode and tied to that connection, with these events
 abbrev pub process_of : ℕ → Mode → Option ℕ → List (List ℕ × Datum) → Process
@@ -58,6 +61,14 @@ number n = int (pos n)
 abbrev pub send_bell : ℕ → List Datum
 send_bell n = number 5 ∷ text (codes "bell") ∷ number n ∷ []
 
+-- the primitive of that name, and then MODE
+abbrev pub using : List ℕ → List Datum → Live → Queue → Effect
+using name stack w q = option_map_or (λ p. processed p (place_of 1) (acting_at 1 1) 0 stack w q) (named_in_any_case name) (refuses BadType)
+
+abbrev pub mode_told : Effect → Effect
+mode_told (gives items w q) = using (codes "MODE") items w q
+mode_told effect = effect
+
 -- the rows
 unfoldable pub WorkedRows : Type 0
 WorkedRows =
@@ -77,6 +88,13 @@ WorkedRows =
     × (processed SetMode (place_of 2) (acting_at 1 1) 0 (number 1 ∷ []) at_first both ≡ refuses BadArgument)
     × (processed Foreground (place_of 2) (acting_at 1 1) 0 [] at_first both ≡ refuses BadArgument)
     × (processed SetMode (place_of 2) (acting_at 1 1) 0 (number 0 ∷ []) at_first both ≡ gives [] at_first (on_process (pos 2) (in_mode mode.Preempt) both))
+    -- the modes by their names and numbers
+    × (mode_told (using (codes "PREEMPT") [] at_first both) ≡ gives (number 0 ∷ []) at_first (on_process (pos 1) (in_mode mode.Preempt) both))
+    × (mode_told (using (codes "FOREGROUND") [] at_first both) ≡ gives (number 1 ∷ []) at_first (on_process (pos 1) (in_mode mode.Foreground) both))
+    × (mode_told (using (codes "BACKGROUND") [] at_first both) ≡ gives (number 2 ∷ []) at_first (on_process (pos 1) (in_mode mode.Background) both))
+    × (using (codes "SETMODE") (number 2 ∷ []) at_first both ≡ using (codes "BACKGROUND") [] at_first both)
+    × (using (codes "SETMODE") (number 1 ∷ []) at_first both ≡ using (codes "FOREGROUND") [] at_first both)
+    × (using (codes "SETMODE") (number 0 ∷ []) at_first both ≡ using (codes "PREEMPT") [] at_first both)
     -- the oldest event, its name on the top; and where there is none it is waited for
     × (processed EventWait (place_of 1) (acting_at 1 1) 0 [] at_first both ≡ gives (text (codes "USER.bell") ∷ number 3 ∷ []) at_first (on_process (pos 1) without_event both))
     × (processed EventWait (place_of 2) (acting_at 1 1) 0 [] at_first both ≡ waits 2 [] (on_process (pos 2) (resting ForEvent) both))
@@ -93,5 +111,5 @@ WorkedRows =
     × (processed Caller (place_of 1) (acting_at 1 1) 0 [] at_first both ≡ gives (object (pos 0) ∷ []) at_first both)
 
 pub worked_rows : WorkedRows
-unfolding WorkedRows owner_at first_tune early_board object_at number_in kind_in object_in room_zero player_one first_objects level_fault is_there near_fault processed
-worked_rows = (refl, refl, refl, refl, refl, refl, refl, refl, refl, refl, refl, refl, refl, refl, refl, refl, refl, refl, refl, refl, refl)
+unfolding WorkedRows owner_at first_tune early_board object_at number_in kind_in object_in room_zero player_one first_objects level_fault is_there near_fault processed primitives named_in_any_case on_process
+worked_rows = (refl, refl, refl, refl, refl, refl, refl, refl, refl, refl, refl, refl, refl, refl, refl, refl, refl, refl, refl, refl, refl, refl, refl, refl, refl, refl, refl)
