@@ -1,4 +1,4 @@
--- Who sees what a player takes, by an example.
+-- Who sees that a player goes, and what one takes, by an example of each.
 use Rattle.std.specs.Prelude.{◌≡◌, ℕ, Bool, true, false, not, List, [], ◌∷◌, codes, Option, None}
 use Rattle.std.specs.Option.{option_map, option_map_or, option_and_then}
 use Rattle.std.specs.FinMap.{get, empty, get-empty}
@@ -13,24 +13,26 @@ use Rattle.spec_live.specs.Chain.{walk, has, without, follower}
 use Rattle.spec_live.specs.Moving.{set_down, moved, judged, move_check}
 use Rattle.spec_live.specs.Saving.{next_in, links_in, due_from, relinked}
 use Rattle.spec_live.specs.Output.{sent_lines, queue_most, lines_bytes, line_sent, lines_sent, sent}
+use Rattle.spec_live.specs.Seen.{listed_in}
 use Rattle.spec_live.specs.Start.{room_zero, player_one}
 use Rattle.spec_live.specs.Worth.{message_of, message_at, kept_opens, opens_at}
-use Rattle.spec_live.specs.Boards.{early_board, told_one}
-use Rattle.spec_live.specs.Lives.{Live, Change, followed, reading, either, where_so, unchanged, tell}
+use Rattle.spec_live.specs.Boards.{early_board, told_one, told_others}
+use Rattle.spec_live.specs.Lives.{Live, Change, followed, reading, either, where_so, unchanged, tell, tell_but, tell_others}
 use Rattle.spec_rights.specs.declared.act.Act.TheVariants.{Take}
+use Rattle.spec_rights.specs.Levels.{level_at, owner_at, flag_at, owns, controls_as, command_level, name_shown}
 use Rattle.spec_rights.specs.Verdict.{when, or_else, verdict}
 use Rattle.spec_rights.specs.Asking.{answered, asked}
 use Rattle.spec_rights.specs.Changing.{moved_to}
 use Rattle.spec_commands.specs.declared.typed.Typed.{Typed}
 use Rattle.spec_commands.specs.declared.word.Message.{Message}
-use Rattle.spec_commands.specs.declared.word.Message.TheVariants.{Success, OthersSuccess}
+use Rattle.spec_commands.specs.declared.word.Message.TheVariants.{Describe, Success, OthersSuccess}
 use Rattle.spec_commands.specs.Messages.{message_name, message_path, spoken_some, with_message}
-use Rattle.spec_commands.specs.Replies.{taken_reply}
-use Rattle.spec_commands.specs.Finding.{is_so, message_shown, message_to_others, shown_others}
-use Rattle.spec_commands.specs.Going.{both_shown, moving, not_taken, taken}
+use Rattle.spec_commands.specs.Replies.{contents_head, has_arrived, has_left, taken_reply}
+use Rattle.spec_commands.specs.Finding.{is_so, message_shown, message_to_others, shown_others, listed, listed_under, seen_in, room_shown, looked}
+use Rattle.spec_commands.specs.Going.{both_shown, gone, moving, not_taken, taken}
 use Rattle.spec_commands.specs.inner.Company.{held, seats, player_two, queues}
-use Rattle.spec_commands.specs.inner.EditRows.{one}
-use Rattle.spec_commands.specs.inner.TalkRows.{holding}
+use Rattle.spec_commands.specs.inner.EditRows.{one, two}
+use Rattle.spec_commands.specs.inner.TalkRows.{holding, town}
 
 -- One and Two stand in Room Zero, where ball `#3` lies
 abbrev hall : Live
@@ -49,12 +51,21 @@ typed = record { word = codes "get"; rest = codes "ball" }
 abbrev after_taking : Live
 after_taking = taken 1 one typed ball hall
 
+-- Two goes from Room Zero to Den
+abbrev den : Dbref
+den = dbref_of 3
+
+abbrev after_going : Live
+after_going = gone 2 two typed den unchanged town
+
 unfoldable pub GoingRows : Type 0
 GoingRows =
     -- who takes is told, and the ball is where it should be
     (queues after_taking.board.connections ≡ (codes "Taken." ∷ []) ∷ [] ∷ [])
     × (list_in false after_taking.objects 1 ≡ 3 ∷ [])
     × (list_in false after_taking.objects 0 ≡ 2 ∷ 1 ∷ [])
+    -- who stands where the player was sees it leave, and who stands where it comes to sees it arrive
+    × (queues after_going.board.connections ≡ (codes "Two has left." ∷ []) ∷ (codes "Den" ∷ codes "Contents:" ∷ codes "Four" ∷ codes "Three" ∷ []) ∷ (codes "Two has arrived." ∷ []) ∷ [])
 
 abbrev no_props : PropMap
 no_props = empty
@@ -97,10 +108,26 @@ taken_so =
     ∙ ap (λ w. into_hand (aloud w)) (unsaid Success (tell 1))
     ∙ ap into_hand (unsaid OthersSuccess (λ text. shown_others (dbref_of 1) (32 ∷ text)))
 
+-- Two has come to Den, and its name was shown
+abbrev there : Live
+there = reading (name_shown (dbref_of 2) den) (tell 2) (shown_others (dbref_of 2) has_arrived (moved_to (dbref_of 2) den (shown_others (dbref_of 2) has_left town)))
+
+abbrev look_on : Option (List ℕ) → Live
+look_on text = reading (seen_in (dbref_of 2) den) (listed_under 2 (dbref_of 2) contents_head unchanged) (spoken_some two typed Describe den unchanged (tell 2) text there)
+
+undescribed : message_at (message_path (message_name Describe)) den there.objects ≡ None
+unfolding message_at reading tell shown_others tell_others tell_but moved_to moved set_down next_in links_in due_from relinked follower walk has without changed_at path_in place_in list_in object_at number_in kind_in object_in room_zero player_one
+undescribed = ap (λ value. option_and_then message_of value) (no_prop (message_path (message_name Describe)))
+
+went_so : after_going ≡ look_on None
+unfolding gone where_so reading either followed unchanged shown_others tell tell_others tell_but moved_to moved set_down judged move_check next_in links_in due_from relinked follower walk has without changed_at path_in fits_in flags_in is_vehicle_in owner_in place_in list_in object_at number_in kind_in object_in room_zero player_one looked room_shown message_shown with_message
+went_so = ap look_on undescribed
+
 pub going_rows : GoingRows
-unfolding GoingRows moving moved_to moved where_so reading either followed tell told_one sent_lines queue_most lines_bytes line_sent lines_sent sent set_down judged move_check next_in links_in due_from relinked follower walk has without changed_at path_in fits_in flags_in is_vehicle_in owner_in place_in list_in object_at number_in kind_in object_in room_zero player_one early_board taken_reply
+unfolding GoingRows moving moved_to moved where_so reading either followed tell told_one sent_lines queue_most lines_bytes line_sent lines_sent sent set_down judged move_check next_in links_in due_from relinked follower walk has without changed_at path_in fits_in flags_in is_vehicle_in owner_in place_in list_in object_at number_in kind_in object_in room_zero player_one early_board taken_reply unchanged shown_others tell_others tell_but told_others has_left has_arrived contents_head name_shown seen_in listed_in listed_under listed level_at owner_at flag_at owns controls_as command_level
 going_rows = (
   ap (λ (w : Live). queues w.board.connections) taken_so,
   ap (λ (w : Live). list_in false w.objects 1) taken_so,
   ap (λ (w : Live). list_in false w.objects 0) taken_so,
+  ap (λ (w : Live). queues w.board.connections) went_so,
 )

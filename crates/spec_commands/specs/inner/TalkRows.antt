@@ -30,7 +30,7 @@ abbrev pub holding : List ℕ → Object → Entry
 holding contents o = record { object = o; contents = contents; exits = []; mark = None; saving = Done }
 
 -- One and Two stand in Room Zero, and Three in Den `#3`; they are connected in this order, and Four, who is with Three, isn't
-abbrev town : Live
+abbrev pub town : Live
 town = held (
     holding (2 ∷ 1 ∷ []) room_zero ∷
     holding [] player_one ∷
