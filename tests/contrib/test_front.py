@@ -443,6 +443,7 @@ def links_of_an_address(folder):
                 same("again", seven.rest(), [refusal])
         one.send("say hello")
         two.until('One says, "hello"')
+        front.until(lambda log: log.count("why=links") == 3)
         same("the log", sorted(line.split(" link=")[0] + line.split(" link=")[1][1:] for line in front.told() if line.startswith("refused")), ["refused how=telnet why=links"] * 2 + ["refused how=web why=links"])
 
 
@@ -451,6 +452,7 @@ def connections_that_are_no_links(folder):
     with Server(folder) as server, Front(folder, server.port, "--links", "1") as front:
         silent = [socket.create_connection(("127.0.0.1", front.ports["web"]), PATIENCE) for _ in range(13)]
         same("the last one is closed", silent[-1].recv(100), b"")
+        front.until_logged("why=connections")
         same("the log", front.told(), ["refused how=web why=connections"])
         silent.pop(0).close()
         end = time.monotonic() + PATIENCE
@@ -549,9 +551,11 @@ def a_world_that_is_down(folder):
             same("the server's end", server.ended(), 0)
         again = Server(folder)
         again.port = server.port
-        with again, front.page() as two:
-            two.enter()
-        front.until_logged("why=left")
+        with again:
+            with front.page() as two:
+                two.enter()
+            # (before the world goes too)
+            front.until_logged("why=left")
         same("why they went", sorted(line.split("why=")[1] for line in front.told() if line.startswith("goes")), ["down", "down", "gone", "gone", "gone", "left"])
 
 
