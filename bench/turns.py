@@ -1,6 +1,6 @@
 #!/usr/bin/env python3
-"""What one turn costs: a line, a compilation, a unit or a slice of one player, for which everybody else waits. A table of seconds of the processor, the bound of each row, and what it took before its
-work was bounded; with --serve also how long another player waited for the echo of a line meanwhile, by the clock, in a server on this machine. Words choose the rows whose names hold one of them. It runs
+"""What one turn costs: a line, a compilation, a unit or a slice of one player, for which everybody else waits. A table of seconds of the processor, the bound of each row, and what it took as the row was
+written; with --serve also how long another player waited for the echo of a line meanwhile, by the clock, in a server on this machine. Words choose the rows whose names hold one of them. It runs
 dist/muckd, or the program that MUCKD names. The exit status is 1 where a row is over its bound, but for those that are known to be: the parameter that bounds these stands behind them, and in docs/WIZARD.md."""
 import argparse
 import os
