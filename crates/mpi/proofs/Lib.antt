@@ -1,4 +1,5 @@
 pub mod Acts
+pub mod AlikeItems
 pub mod Calls
 pub mod Evaluations
 pub mod Growing

@@ -21,3 +21,4 @@ pub mod Keeping
 pub mod Dumping
 pub mod Stocking
 pub mod Loading
+pub mod Listing

@@ -12,6 +12,7 @@ ghost use Rattle.spec_live.specs.Marks.{next_change, change_told};
 ghost use Rattle.spec_live.specs.Consistent.{IsConsistent};
 ghost use Rattle.spec_live.specs.Saving.{all_saving, pending, done, due_again};
 ghost use Rattle.spec_live.specs.Seen.{listed_in, places_of, scenery_of};
+ghost use Rattle.muck_match.specs.Naming.{found, player_named};
 ghost use Rattle.muck_match.specs.Scenery.{chain, upward};
 ghost use Rattle.muck_lock.specs.inner.Chain.{IsChain};
 ghost use Rattle.muck_codec.specs.inner.Stored.{AreProperties, IsStored};
@@ -33,6 +34,7 @@ use crate::marking::{Moment, pass};
 use crate::moves::{check_move, count_there, found, list_of, relocate};
 use crate::password::{digest_word, is_digest_of};
 use crate::paths::KnownPaths;
+use crate::players::{list_player, players_of};
 use crate::recycling::{check_recycle, clear_out, vanish};
 use crate::setting::{
     Setting, check_any, check_flags, check_home, check_level, check_link, check_owner,
@@ -43,6 +45,7 @@ use crate::start::first_slots;
 use crate::telling::{clear_mark, marked, told_of};
 use crate::walks::{first_listed, next_listed};
 use muck_codec::{Batch, Stored};
+use muck_match::{Found, find_among, player_among};
 use muck_model::{Dbref, Flags, Kind, Line, LineList, NoMemory, Tune};
 use muck_prop::{Path, PropValue};
 use spec_live::{Changed, DbFault, Object};
@@ -62,6 +65,8 @@ pub struct Db {
     lowest: u32,
     // nothing below this number is to be told of
     told: u32,
+    // each player is among these numbers
+    players: Vec<u32>,
     paths: KnownPaths,
 }
 
@@ -79,7 +84,7 @@ impl Model for Db {
 
     ghost view = { λ a. entries_of a.slots.items };
 
-    ghost invariant = { λ a. IsKept a.slots.items a.lowest a.told };
+    ghost invariant = { λ a. IsKept a.slots.items a.lowest a.told a.players.items };
 }
 
 impl Db {
@@ -88,11 +93,13 @@ impl Db {
         ensures { IfOk result (λ db. db ≡ first_objects) }
     {
         let slots = first_slots(alloc)?;
+        let players = players_of(alloc, &slots)?;
         let paths = KnownPaths::new(alloc)?;
         Ok(Db {
             slots,
             lowest: 0,
             told: 0,
+            players,
             paths,
         })
     }
@@ -106,11 +113,13 @@ impl Db {
         ensures { IfOk result (λ db. db ≡ loaded records.now) }
     {
         let slots = slots_of(alloc, records)?;
+        let players = players_of(alloc, &slots)?;
         let paths = KnownPaths::new(alloc)?;
         Ok(Db {
             slots,
             lowest: 0,
             told: 0,
+            players,
             paths,
         })
     }
@@ -161,6 +170,21 @@ impl Db {
             Some(object) => is_digest_of(alloc, word, object.digest()),
             None => Err(DbFault::NoSuchObject),
         }
+    }
+
+    /// The player of that name, given by its bytes, as matching finds it: compared without regard to case, and of several the one with the lowest number. It looks at the
+    /// players alone, and takes no memory.
+    pub fn player_named(&self, name: &[u8]) -> Option<Dbref>
+        ensures { result ≡ player_named (scenery_of self.now) name.now }
+    {
+        player_among(self, &self.players, name)
+    }
+
+    /// What a text names for the player, as matching finds it. For `*player` it looks at the players alone.
+    pub fn find(&self, player: Dbref, text: &Line) -> Found
+        ensures { result ≡ found (scenery_of self.now) player text.now }
+    {
+        find_among(self, &self.players, player, text)
     }
 
     /// The contents of an object, the newest first; none of what isn't there.
@@ -248,6 +272,9 @@ impl Db {
     {
         let (n, to) = check_create(&self.slots, self.lowest, kind, owner, place)?;
         let object = new_object(alloc, n, kind, name, owner)?;
+        let Ok(()) = list_player(&mut self.players, kind, n) else {
+            return Err(DbFault::NoMemory);
+        };
         put_object(&mut self.slots, n, object)?;
         relocate(&mut self.slots, n, to);
         self.lowest = n + 1;

@@ -14,6 +14,7 @@ mod moves;
 mod password;
 mod paths;
 mod persisted;
+mod players;
 mod recycling;
 mod seen;
 mod setting;

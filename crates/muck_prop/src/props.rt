@@ -21,6 +21,9 @@ use std::collections::BTreeMap;
 use std::marker::Model;
 use std::ops::Bound;
 
+// So many properties are gone over as quickly as one is searched for.
+const FEW: usize = 8;
+
 /// A property below a directory: the rest of its path behind the directory, and what it holds.
 #[derive(Drop)]
 pub struct Listed {
@@ -34,6 +37,7 @@ pub struct Listed {
 /// or 0.
 #[derive(Drop)]
 pub struct Props {
+    alloc: Global,
     values: BTreeMap<Segments, PropValue>,
 }
 
@@ -92,8 +96,8 @@ fn first_past<'a>(
     }
 }
 
-// The value at the path that a text holds.
-fn found_at<'a>(values: &'a BTreeMap<Segments, PropValue>, text: &[u8]) -> Option<&'a PropValue>
+// The value at the path that a text holds, by going over all properties. It takes no memory.
+fn walked_to<'a>(values: &'a BTreeMap<Segments, PropValue>, text: &[u8]) -> Option<&'a PropValue>
     ensures { option_copied result ≡ lookup (λ path. path_eq path (segments_of text.now)) values.now.entries }
 {
     let mut left = values.iter();
@@ -103,6 +107,23 @@ fn found_at<'a>(values: &'a BTreeMap<Segments, PropValue>, text: &[u8]) -> Optio
         }
     }
     None
+}
+
+// The value at the path that a text holds, by one search.
+fn found_at<'a>(
+    alloc: Global,
+    values: &'a BTreeMap<Segments, PropValue>,
+    text: &[u8],
+) -> Option<&'a PropValue>
+    ensures { option_copied result ≡ lookup (λ path. path_eq path (segments_of text.now)) values.now.entries }
+{
+    if values.len() <= FEW {
+        return walked_to(values, text);
+    }
+    match Segments::of_text(alloc, text) {
+        Ok(path) => values.get(&path),
+        Err(_) => walked_to(values, text),
+    }
 }
 
 // A property, behind the first `depth` segments of its path.
@@ -150,6 +171,7 @@ impl Props {
         ensures { IfOk result (λ p. p ≡ map.empty) }
     {
         Ok(Props {
+            alloc,
             values: BTreeMap::new(alloc),
         })
     }
@@ -162,7 +184,8 @@ impl Props {
         self.values.get(&path.segments)
     }
 
-    /// The value at the path that a text holds; `None` also where the text is no path. It takes no memory.
+    /// The value at the path that a text holds; `None` also where the text is no path. It is one search, and wants no
+    /// memory: where there is none for the path, it goes over all properties.
     pub fn get_at(&self, text: &Line) -> Option<&PropValue>
         ensures { option_copied result ≡ option_map_or (λ fault. None) (path_fault text.now) (map.get self.now (segments_of text.now)) }
     {
@@ -176,7 +199,7 @@ impl Props {
         if has_barred(text) {
             return None;
         }
-        found_at(&self.values, text)
+        found_at(self.alloc, &self.values, text)
     }
 
     /// Whether some stored path continues this one.

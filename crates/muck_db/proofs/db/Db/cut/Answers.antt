@@ -21,7 +21,7 @@ pub pass-requires : goal.pass-requires
 pass-requires c = omega (arith, length-entries_of c.self.inside.slots.items, c.self.invariant.sound.world.ordered.few)
 
 pub invariant_of-self : goal.invariant_of-self
-invariant_of-self c = kept_passed pending _ _ _ _ c.pass.ensures c.self.invariant
+invariant_of-self c = kept_passed pending _ _ _ _ _ c.pass.ensures c.self.invariant
 
 pub returns-clause-records : goal.returns-clause-records
 returns-clause-records c = subst (λ (es : List Entry). LeavesOut c.args.base.now (persist es) c.in_ok-records.records) c.self.view_is c.in_ok-records.ensures.records

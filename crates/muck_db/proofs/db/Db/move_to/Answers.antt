@@ -13,4 +13,4 @@ pub relocate-requires-clause-may : goal.relocate-requires-clause-may
 relocate-requires-clause-may c = move_checked _ _ _ (c.in_ok-d.d, c.in_ok-d.to) (sym c.check_move.ensures ∙ c.in_ok-d.was)
 
 pub invariant_of-self : goal.invariant_of-self
-invariant_of-self c = kept_moved _ _ _ _ _ _ (move_checked _ _ _ (c.in_ok-d.d, c.in_ok-d.to) (sym c.check_move.ensures ∙ c.in_ok-d.was)) c.relocate.ensures.moved c.relocate.ensures.order c.self.invariant
+invariant_of-self c = kept_moved _ _ _ _ _ _ _ (move_checked _ _ _ (c.in_ok-d.d, c.in_ok-d.to) (sym c.check_move.ensures ∙ c.in_ok-d.was)) c.relocate.ensures.moved c.relocate.ensures.order c.self.invariant

@@ -30,7 +30,7 @@ pub told_of-requires : goal.told_of-requires
 told_of-requires c = omega (arith, c.in-Some.ensures.known, length-entries_of c.self.inside.slots.items, c.self.invariant.sound.world.ordered.few)
 
 pub invariant_of-self-2 : goal.invariant_of-self-2
-invariant_of-self-2 c = kept_told _ _ c.in-Some.n _ _ c.in-Some.mark (sym c.marked.ensures.is ∙ c.in-Some.is) c.in-Some.ensures.below c.clear_mark.ensures c.self.invariant
+invariant_of-self-2 c = kept_told _ _ c.in-Some.n _ _ _ c.in-Some.mark (sym c.marked.ensures.is ∙ c.in-Some.is) c.in-Some.ensures.below c.clear_mark.ensures c.self.invariant
 
 pub returns-clause-told : goal.returns-clause-told
 returns-clause-told c =

@@ -18,7 +18,7 @@ pub vanish-requires-clause-known : goal.vanish-requires-clause-known
 vanish-requires-clause-known c = length_cleared c.in_ok-k.k _ _ c.in_ok-k.ensures.within c.clear_out.ensures.sent
 
 pub invariant_of-self : goal.invariant_of-self
-invariant_of-self c = kept_recycled c.args.d c.in_ok-k.k c.self.inside.slots.items _ (sym c.check_recycle.ensures.is ∙ c.in_ok-k.was) (recycled_from c.in_ok-k.k _ _ _ c.clear_out.ensures.sent c.vanish.ensures.entries) c.vanish.ensures.ends c.self.invariant.sound
+invariant_of-self c = kept_recycled c.args.d c.in_ok-k.k c.self.inside.slots.items _ _ (sym c.check_recycle.ensures.is ∙ c.in_ok-k.was) (recycled_from c.in_ok-k.k _ _ _ c.clear_out.ensures.sent c.vanish.ensures.entries) c.vanish.ensures.ends c.self.invariant.sound c.self.invariant.listed
 
 pub returns : goal.returns
 returns c =

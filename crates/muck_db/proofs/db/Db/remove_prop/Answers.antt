@@ -10,7 +10,7 @@ use Rattle.muck_db.proofs.db.Db.remove_prop.Goals as goal
 
 pub invariant_of-self : goal.invariant_of-self
 invariant_of-self c =
-    kept_set c.in_ok-k.k (without_prop c.args.path.now) _ _ _ _ (λ o. refl) c.in_ok-k.ensures.alive c.remove_prop.ensures
+    kept_set c.in_ok-k.k (without_prop c.args.path.now) _ _ _ _ _ (λ o. refl) c.in_ok-k.ensures.alive c.remove_prop.ensures
     (consistent_removed c.args.d c.args.path.now _ c.in_ok-k.k (sym c.check_any.ensures.is ∙ c.in_ok-k.was) c.self.invariant.sound.world) (limits_removed c.args.path.now c.in_ok-k.k _ c.self.invariant.sound.limits) c.self.invariant
 
 pub returns : goal.returns

@@ -15,5 +15,5 @@ returns c =
 
 pub invariant_of-self : goal.invariant_of-self
 invariant_of-self c =
-    kept_lined c.self.inside.slots.items _ c.in_ok-k.k c.self.inside.lowest c.self.inside.told c.min-self-inside.result c.args.lines c.in_ok-k.ensures.alive c.set_lines.ensures (omega (arith, c.min-self-inside.ensures)) (omega (arith, c.min-self-inside.ensures))
+    kept_lined c.self.inside.slots.items _ c.in_ok-k.k c.self.inside.lowest c.self.inside.told c.min-self-inside.result _ c.args.lines c.in_ok-k.ensures.alive c.set_lines.ensures (omega (arith, c.min-self-inside.ensures)) (omega (arith, c.min-self-inside.ensures))
     (consistent_lined c.args.d c.args.lines _ c.in_ok-k.k (sym c.check_program.ensures.is ∙ c.in_ok-k.was) c.self.invariant.sound.world) (limits_lined c.args.lines c.in_ok-k.k _ c.requires c.self.invariant.sound.limits) c.self.invariant

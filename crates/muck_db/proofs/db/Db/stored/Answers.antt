@@ -8,7 +8,7 @@ pub pass-requires : goal.pass-requires
 pass-requires c = omega (arith, length-entries_of c.self.inside.slots.items, c.self.invariant.sound.world.ordered.few)
 
 pub invariant_of-self : goal.invariant_of-self
-invariant_of-self c = kept_passed done _ _ _ _ c.pass.ensures c.self.invariant
+invariant_of-self c = kept_passed done _ _ _ _ _ c.pass.ensures c.self.invariant
 
 pub returns : goal.returns
 returns c = passes_all done _ _ _ c.self.view_is c.pass.ensures
