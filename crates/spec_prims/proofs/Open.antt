@@ -25,6 +25,7 @@ ended_open a act w v h given =
     record {
       licensed = record { gone = None; recycled = λ x e. absurd (cc); vanished = λ x e. absurd (cc); objects = t.rows; no_fewer = t.no_fewer; marked = t.marked; lists = t.lists; connections = t.ties; tune = inl t.tune };
       marks = t.marks;
+      told = t.told;
       tune = t.tune;
     }
 

@@ -16,6 +16,7 @@ use Rattle.spec_rights.specs.Verdict.{is_master}
 use Rattle.spec_rights.specs.Changing.{at_number, password_kept}
 use Rattle.spec_rights.specs.Licence.{Judge, new_open, Differs, Reordered, front_open}
 use Rattle.spec_rights.proofs.Lookups.{Row}
+use Rattle.spec_rights.proofs.Telling.{told_both, told_found}
 use Rattle.spec_rights.proofs.Licences.{changed_both, MarkOpen, Quiet, End, no_fewer_both, end_quietly}
 use Rattle.spec_rights.proofs.Changes.{rows_found, marks_set, many_set, marked_found, kept_digest}
 
@@ -54,7 +55,7 @@ differs_worded j x salt word q o p h (inl e) d = let P : Object → Type 0 = λ 
 differs_worded j x salt word q o p h (inr e) d = let P : Object → Type 0 = λ t. Differs j x q (Some t) in subst P (sym e) (at q d)
   where
     at : (q : Option Object) → Differs j x q (Some o) → Differs j x q (Some (with_password salt word o))
-    at None i = record { kind = new_worded j x salt word o o.kind ∙ i.kind; flags = i.flags; link = i.link }
+    at None i = record { kind = new_worded j x salt word o o.kind ∙ i.kind; flags = i.flags; link = i.link; lines = i.lines }
     at (Some was) c = changed_both j x was o (with_password salt word o) c (kept_digest j x salt word o h).changed
 
 differs_then : (j : Judge) (x : Dbref) (salt : ℕ) (word : List ℕ) (q r s : Option Object) → is_master j.actor ≡ true → Row (Worded salt word) r s → Differs j x q r → Differs j x q s
@@ -90,6 +91,7 @@ trailing_password j x salt word h = record { law = λ w. record { law = λ first
       marks = λ n. mark_then j (dbref_of n) salt word _ _ _ _ _ (rows w.objects n) (marks_set n f w.objects (number_in w.objects x)) (t.marks n);
       no_fewer = no_fewer_both first.objects w.objects (password_kept x salt word w).objects t.no_fewer (many_set x f w.objects);
       marked = marked_both first.objects w.objects (password_kept x salt word w).objects t.marked (marked_found x f w.objects);
+      told = told_both first.objects w.objects (password_kept x salt word w).objects t.told (told_found f w.objects (λ o. refl) (λ o. refl) (number_in w.objects x));
       ties = t.ties;
       tune = t.tune;
     }

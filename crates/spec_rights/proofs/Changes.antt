@@ -30,6 +30,7 @@ use Rattle.spec_rights.specs.Changing.{at_number, set_object, named, owned_by, l
 use Rattle.spec_rights.specs.Licence.{Freedom, Open, Judge, Changed, Differs, SameLists, SameTies, name_open, property_open, link_open, level_open, lines_open, owner_open}
 use Rattle.spec_rights.proofs.Lookups.{Row, row_same, rows_changed, number_is}
 use Rattle.spec_rights.proofs.Listing.{lists_alike, lists_itself}
+use Rattle.spec_rights.proofs.Telling.{Told, told_found, told_lined}
 use Rattle.spec_rights.proofs.Bits.{wizard_stays_set, wizard_stays_cleared}
 use Rattle.spec_rights.proofs.Licences.{judge, changed_same, SameMarks, TellsLines, mark_open, Kept, kept_same, Stay, End, Stays, Ends, itself, ties_itself, as_many, ends_by, stays_by}
 use Rattle.spec_rights.proofs.Allowed.{rename_allowed, write_allowed, change_allowed, link_allowed, flag_allowed, level_allowed, owner_allowed, edit_allowed, password_allowed}
@@ -62,11 +63,11 @@ rows_lined R same x lines h es n = rows_number R same x (λ o. record o { lines 
 
 -- Worlds in which the objects alone differ.
 
-pub stay_objects : (j : Judge) (w v : Live) → v.board ≡ w.board → ((n : ℕ) → Row (Kept j (dbref_of n)) (object_at (dbref_of n) w.objects) (object_at (dbref_of n) v.objects)) → SameLists j w.objects v.objects → TellsLines j w.objects v.objects → length w.objects ≤ length v.objects → Marked w.objects v.objects → Stay j w v
-stay_objects j w v b rows lists marks many marked =
+pub stay_objects : (j : Judge) (w v : Live) → v.board ≡ w.board → ((n : ℕ) → Row (Kept j (dbref_of n)) (object_at (dbref_of n) w.objects) (object_at (dbref_of n) v.objects)) → SameLists j w.objects v.objects → TellsLines j w.objects v.objects → length w.objects ≤ length v.objects → Marked w.objects v.objects → Told w.objects v.objects → Stay j w v
+stay_objects j w v b rows lists marks many marked told =
     let T : Board → Type 0 = λ t. SameTies j.actor w.board.connections t.connections in
     let U : Board → Type 0 = λ t. t.tune ≡ w.board.tune in
-    record { rows = rows; lists = lists; marks = marks; no_fewer = many; marked = marked; ties = subst T (sym b) (ties_itself j.actor w.board.connections); tune = subst U (sym b) refl }
+    record { rows = rows; lists = lists; marks = marks; no_fewer = many; marked = marked; told = told; ties = subst T (sym b) (ties_itself j.actor w.board.connections); tune = subst U (sym b) refl }
 
 pub differs_row : (j : Judge) (x : Dbref) (o p : Option Object) → Row (Changed j x) o p → Differs j x o p
 differs_row j x None None r = r
@@ -74,11 +75,11 @@ differs_row j x None (Some p) r = absurd r
 differs_row j x (Some o) None r = absurd r
 differs_row j x (Some o) (Some p) r = r
 
-pub end_objects : (j : Judge) (w v : Live) → v.board ≡ w.board → ((n : ℕ) → Differs j (dbref_of n) (object_at (dbref_of n) w.objects) (object_at (dbref_of n) v.objects)) → SameLists j w.objects v.objects → SameMarks j w.objects v.objects → length w.objects ≤ length v.objects → Marked w.objects v.objects → End j w v
-end_objects j w v b rows lists marks many marked =
+pub end_objects : (j : Judge) (w v : Live) → v.board ≡ w.board → ((n : ℕ) → Differs j (dbref_of n) (object_at (dbref_of n) w.objects) (object_at (dbref_of n) v.objects)) → SameLists j w.objects v.objects → SameMarks j w.objects v.objects → length w.objects ≤ length v.objects → Marked w.objects v.objects → Told w.objects v.objects → End j w v
+end_objects j w v b rows lists marks many marked told =
     let T : Board → Type 0 = λ t. SameTies j.actor w.board.connections t.connections in
     let U : Board → Type 0 = λ t. t.tune ≡ w.board.tune in
-    record { rows = rows; lists = lists; marks = marks; no_fewer = many; marked = marked; ties = subst T (sym b) (ties_itself j.actor w.board.connections); tune = subst U (sym b) refl }
+    record { rows = rows; lists = lists; marks = marks; no_fewer = many; marked = marked; told = told; ties = subst T (sym b) (ties_itself j.actor w.board.connections); tune = subst U (sym b) refl }
 
 -- there are as many
 many_number : (g : ℕ → List Entry → List Entry) (es : List Entry) → ((m : ℕ) → length (g m es) ≡ length es) → (q : Option ℕ) → length (option_map_or (λ m. g m es) q es) ≡ length es
@@ -118,12 +119,12 @@ pub marks_set : (n : ℕ) (f : Object → Object) (es : List Entry) (q : Option 
 marks_set n f es None = refl
 marks_set n f es (Some m) = mark_changed m n f es
 
-stay_found : (j : Judge) (x : Dbref) (f : Object → Object) → ((o : Object) → (f o).kind ≡ o.kind) → ((o : Object) → Kept j x o (f o)) → (w : Live) → Stay j w (set_object f x w)
-stay_found j x f kinds h w = stay_objects j w (set_object f x w) refl (rows_found (Kept j) (kept_same j) x f kinds h w.objects) (lists_set j x f w.objects) (λ n. inl (marks_set n f w.objects (number_in w.objects x))) (many_set x f w.objects) (marked_found x f w.objects)
+stay_found : (j : Judge) (x : Dbref) (f : Object → Object) → ((o : Object) → (f o).kind ≡ o.kind) → ((o : Object) → (f o).lines ≡ o.lines) → ((o : Object) → Kept j x o (f o)) → (w : Live) → Stay j w (set_object f x w)
+stay_found j x f kinds lines h w = stay_objects j w (set_object f x w) refl (rows_found (Kept j) (kept_same j) x f kinds h w.objects) (lists_set j x f w.objects) (λ n. inl (marks_set n f w.objects (number_in w.objects x))) (many_set x f w.objects) (marked_found x f w.objects) (told_found f w.objects kinds lines (number_in w.objects x))
 
-pub end_found : (j : Judge) (x : Dbref) (f : Object → Object) → ((o : Object) → (f o).kind ≡ o.kind) → ((o : Object) → Changed j x o (f o)) → (w : Live) → End j w (set_object f x w)
-end_found j x f kinds h w = end_objects j w (set_object f x w) refl (λ n. differs_row j (dbref_of n) _ _ (rows_found (Changed j) (changed_same j) x f kinds h w.objects n)) (lists_set j x f w.objects)
-    (λ n. mark_open j (dbref_of n) _ _ (object_at (dbref_of n) (set_object f x w).objects) (inl (marks_set n f w.objects (number_in w.objects x)))) (many_set x f w.objects) (marked_found x f w.objects)
+pub end_found : (j : Judge) (x : Dbref) (f : Object → Object) → ((o : Object) → (f o).kind ≡ o.kind) → ((o : Object) → (f o).lines ≡ o.lines) → ((o : Object) → Changed j x o (f o)) → (w : Live) → End j w (set_object f x w)
+end_found j x f kinds lines h w = end_objects j w (set_object f x w) refl (λ n. differs_row j (dbref_of n) _ _ (rows_found (Changed j) (changed_same j) x f kinds h w.objects n)) (lists_set j x f w.objects)
+    (λ n. mark_open j (dbref_of n) _ _ (object_at (dbref_of n) (set_object f x w).objects) (inl (marks_set n f w.objects (number_in w.objects x)))) (many_set x f w.objects) (marked_found x f w.objects) (told_found f w.objects kinds lines (number_in w.objects x))
 
 -- Names.
 
@@ -135,7 +136,7 @@ kept_name j x name o h = record {
 
 pub stays_named : (a : Actor) (free : Freedom) (x : Dbref) (name : List ℕ) → Stays a free (Some (Rename x)) (named x name)
 unfolding named
-stays_named a free x name = stays_by _ (λ start w s g. let j = judge a free start in stay_found j x (with_name name) (λ o. refl) (λ o. kept_name j x name o (rename_allowed a free start w.objects x s g)) w)
+stays_named a free x name = stays_by _ (λ start w s g. let j = judge a free start in stay_found j x (with_name name) (λ o. refl) (λ o. refl) (λ o. kept_name j x name o (rename_allowed a free start w.objects x s g)) w)
 
 -- Links.
 
@@ -147,7 +148,7 @@ kept_link j x to o h = record {
 
 pub stays_linked : (a : Actor) (free : Freedom) (x to : Dbref) → Stays a free (Some (Link x to)) (linked x to)
 unfolding linked
-stays_linked a free x to = stays_by _ (λ start w s g. let j = judge a free start in stay_found j x (with_link to) (λ o. refl) (λ o. kept_link j x to o (link_allowed a free start w.objects x to s g)) w)
+stays_linked a free x to = stays_by _ (λ start w s g. let j = judge a free start in stay_found j x (with_link to) (λ o. refl) (λ o. refl) (λ o. kept_link j x to o (link_allowed a free start w.objects x to s g)) w)
 
 -- Properties.
 
@@ -187,11 +188,11 @@ kept_props j x props o h = record {
 
 stay_stored : (j : Judge) (x : Dbref) (path : List (List ℕ)) (value : PropValue) → property_open j x path ≡ true → (w : Live) → Stay j w (stored x path value w)
 unfolding stored
-stay_stored j x path value h = stay_found j x (with_prop path value) (λ o. refl) (λ o. kept_props j x _ o (stored_open j x path value o.props h))
+stay_stored j x path value h = stay_found j x (with_prop path value) (λ o. refl) (λ o. refl) (λ o. kept_props j x _ o (stored_open j x path value o.props h))
 
 stay_unstored : (j : Judge) (x : Dbref) (path : List (List ℕ)) → property_open j x path ≡ true → (w : Live) → Stay j w (unstored x path w)
 unfolding unstored
-stay_unstored j x path h = stay_found j x (without_prop path) (λ o. refl) (λ o. kept_props j x _ o (removed_open j x path o.props h))
+stay_unstored j x path h = stay_found j x (without_prop path) (λ o. refl) (λ o. refl) (λ o. kept_props j x _ o (removed_open j x path o.props h))
 
 pub stays_stored : (a : Actor) (free : Freedom) (x : Dbref) (path : List (List ℕ)) (value : PropValue) → Stays a free (Some (Write x path)) (stored x path value)
 stays_stored a free x path value = stays_by _ (λ start w s g. stay_stored (judge a free start) x path value (write_allowed a free start w.objects x path s g) w)
@@ -228,7 +229,7 @@ stays_lines a free x lines h = stays_by _ (λ start w s g.
     let j = judge a free start in
     let may : lines_open j x ≡ true = edit_allowed a free start w.objects x h s g in
     stay_objects j w (lines_kept x lines w) refl (rows_lined (Kept j) (kept_same j) x lines (λ o. kept_lines j x lines o may) w.objects)
-    (lists_lined j x lines w.objects) (λ n. marks_lined j x lines w.objects may n (number_in w.objects x) refl) (many_lined x lines w.objects) (marked_lined x lines w.objects))
+    (lists_lined j x lines w.objects) (λ n. marks_lined j x lines w.objects may n (number_in w.objects x) refl) (many_lined x lines w.objects) (marked_lined x lines w.objects) (told_lined lines w.objects (number_in w.objects x)))
 
 -- Passwords.
 
@@ -240,7 +241,7 @@ kept_digest j x salt word o h = record {
 
 pub stays_password : (a : Actor) (free : Freedom) (x : Dbref) (salt : ℕ) (word : List ℕ) → Stays a free (Some (Password x)) (password_kept x salt word)
 unfolding password_kept
-stays_password a free x salt word = stays_by _ (λ start w s g. let j = judge a free start in stay_found j x (with_password salt word) (λ o. refl) (λ o. kept_digest j x salt word o (password_allowed w.objects a x g)) w)
+stays_password a free x salt word = stays_by _ (λ start w s g. let j = judge a free start in stay_found j x (with_password salt word) (λ o. refl) (λ o. refl) (λ o. kept_digest j x salt word o (password_allowed w.objects a x g)) w)
 
 -- Owners.
 
@@ -249,7 +250,7 @@ changed_owner j x owner o h = record { kind = refl; name = inl refl; owner = inr
 
 pub ends_owned : (a : Actor) (free : Freedom) (x owner : Dbref) → Ends itself a free (Some (SetOwner x owner)) (owned_by x owner)
 unfolding owned_by
-ends_owned a free x owner = ends_by _ (λ start w s g. let j = judge a free start in end_found j x (with_owner owner) (λ o. refl) (λ o. changed_owner j x owner o (owner_allowed a free start w.objects x owner s g)) w)
+ends_owned a free x owner = ends_by _ (λ start w s g. let j = judge a free start in end_found j x (with_owner owner) (λ o. refl) (λ o. refl) (λ o. changed_owner j x owner o (owner_allowed a free start w.objects x owner s g)) w)
 
 -- Levels.
 
@@ -258,7 +259,7 @@ changed_level j x level o h = record { kind = refl; name = inl refl; owner = inl
 
 pub ends_leveled : (a : Actor) (free : Freedom) (x : Dbref) (level : ℕ) → Ends itself a free (Some (SetLevel x level)) (leveled x level)
 unfolding leveled
-ends_leveled a free x level = ends_by _ (λ start w s g. let j = judge a free start in end_found j x (with_level level) (λ o. refl) (λ o. changed_level j x level o (level_allowed a free start w.objects x level s g)) w)
+ends_leveled a free x level = ends_by _ (λ start w s g. let j = judge a free start in end_found j x (with_level level) (λ o. refl) (λ o. refl) (λ o. changed_level j x level o (level_allowed a free start w.objects x level s g)) w)
 
 -- Flags.
 
@@ -277,11 +278,11 @@ unfolding flag_set
 ends_flag_set a free x flag k = ends_by _ (λ start w s g.
     let j = judge a free start in
     let t = flag_allowed a free start w.objects x flag s g in
-    end_found j x (λ o. with_flags (with_flag flag.0 o.flags) o) (λ o. refl) (λ o. changed_flags j x (with_flag flag.0 o.flags) o t.0 (wizard_open _ _ _ _ _ t.0 t.1 (λ v. wizard_stays_set flag o.flags k v))) w)
+    end_found j x (λ o. with_flags (with_flag flag.0 o.flags) o) (λ o. refl) (λ o. refl) (λ o. changed_flags j x (with_flag flag.0 o.flags) o t.0 (wizard_open _ _ _ _ _ t.0 t.1 (λ v. wizard_stays_set flag o.flags k v))) w)
 
 pub ends_flag_cleared : (a : Actor) (free : Freedom) (x : Dbref) (flag : Flags) → is_flag flag ≡ true → Ends itself a free (Some (SetFlag x flag)) (flag_cleared x flag)
 unfolding flag_cleared
 ends_flag_cleared a free x flag k = ends_by _ (λ start w s g.
     let j = judge a free start in
     let t = flag_allowed a free start w.objects x flag s g in
-    end_found j x (λ o. with_flags (without_flag flag.0 o.flags) o) (λ o. refl) (λ o. changed_flags j x (without_flag flag.0 o.flags) o t.0 (wizard_open _ _ _ _ _ t.0 t.1 (λ v. wizard_stays_cleared flag o.flags k v))) w)
+    end_found j x (λ o. with_flags (without_flag flag.0 o.flags) o) (λ o. refl) (λ o. refl) (λ o. changed_flags j x (without_flag flag.0 o.flags) o t.0 (wizard_open _ _ _ _ _ t.0 t.1 (λ v. wizard_stays_cleared flag o.flags k v))) w)

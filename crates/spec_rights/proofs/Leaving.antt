@@ -17,6 +17,7 @@ use Rattle.spec_rights.specs.Changing.{booted}
 use Rattle.spec_rights.specs.Licence.{Freedom, Open, SameTies, leave_open}
 use Rattle.spec_rights.proofs.Lookups.{row_same}
 use Rattle.spec_rights.proofs.Listing.{lists_itself}
+use Rattle.spec_rights.proofs.Telling.{told_itself}
 use Rattle.spec_rights.proofs.Licences.{judge, marks_itself, kept_same, differs_kept, Stays, Whole, itself, ties_itself, as_many, stays_by, whole_by}
 use Rattle.spec_rights.proofs.Allowed.{wizard_allowed, master_allowed}
 
@@ -47,6 +48,7 @@ whole_leave a d free given = whole_by _ (λ w c h. record {
     tune = inl refl;
   };
   marks = marks_itself (judge a (free w.objects) w.objects) w.objects;
+  told = told_itself w.objects;
   tune = refl;
 })
 
@@ -67,6 +69,7 @@ stays_left a free d = stays_by _ (λ start w s g. record {
   marks = λ n. inl refl;
   no_fewer = as_many w.objects w.objects refl;
   marked = marked_itself w.objects;
+  told = told_itself w.objects;
   ties = ties_master a d w.board.connections (master_allowed w.objects a g);
   tune = refl;
 })
@@ -95,6 +98,7 @@ stays_booted a free player = stays_by _ (λ start w s g. record {
   marks = λ n. inl refl;
   no_fewer = as_many w.objects w.objects refl;
   marked = marked_itself w.objects;
+  told = told_itself w.objects;
   ties = ties_booted a player w.board.connections (wizard_allowed w.objects a g);
   tune = refl;
 })

@@ -1,6 +1,7 @@
 pub mod Lookups
 pub mod Rights
 pub mod Listing
+pub mod Telling
 pub mod Licences
 pub mod Shown
 pub mod Allowed

@@ -21,6 +21,7 @@ use Rattle.spec_rights.specs.Licence.{Freedom, Open, Judge, owned, name_open, pr
 use Rattle.spec_rights.specs.Asking.{answered, asked}
 use Rattle.spec_rights.proofs.Lookups.{Row, row_same, row_both}
 use Rattle.spec_rights.proofs.Listing.{lists_itself, lists_both}
+use Rattle.spec_rights.proofs.Telling.{Told, told_itself, told_both, told_as}
 use Rattle.spec_rights.proofs.Rights.{rights, SameRights, same_itself}
 
 abbrev pub judge : Actor → Freedom → List Entry → Judge
@@ -194,6 +195,7 @@ pub record Stay (j : Judge) (w v : Live) : Type 0 where
   pub marks : TellsLines j w.objects v.objects
   pub no_fewer : length w.objects ≤ length v.objects
   pub marked : Marked w.objects v.objects
+  pub told : Told w.objects v.objects
   pub ties : SameTies j.actor w.board.connections v.board.connections
   pub tune : v.board.tune ≡ w.board.tune
 
@@ -204,6 +206,7 @@ pub record End (j : Judge) (w v : Live) : Type 0 where
   pub marks : SameMarks j w.objects v.objects
   pub no_fewer : length w.objects ≤ length v.objects
   pub marked : Marked w.objects v.objects
+  pub told : Told w.objects v.objects
   pub ties : SameTies j.actor w.board.connections v.board.connections
   pub tune : v.board.tune ≡ w.board.tune
 
@@ -214,6 +217,7 @@ stay_itself j w = record {
   marks = λ n. inl refl;
   no_fewer = as_many w.objects w.objects refl;
   marked = marked_itself w.objects;
+  told = told_itself w.objects;
   ties = ties_itself j.actor w.board.connections;
   tune = refl;
 }
@@ -225,6 +229,7 @@ stay_both j u v w s t = record {
   marks = λ n. open_both (λ mark. lines_open j (dbref_of n)) _ _ _ (s.marks n) (t.marks n);
   no_fewer = no_fewer_both u.objects v.objects w.objects s.no_fewer t.no_fewer;
   marked = marked_both u.objects v.objects w.objects s.marked t.marked;
+  told = told_both u.objects v.objects w.objects s.told t.told;
   ties = ties_both j.actor _ _ _ s.ties t.ties;
   tune = t.tune ∙ s.tune;
 }
@@ -237,6 +242,7 @@ stay_quietly j u v w t q = record {
   marks = subst (TellsLines j u.objects) (sym q.objects) t.marks;
   no_fewer = no_fewer_as u.objects v.objects w.objects q.objects t.no_fewer;
   marked = marked_as u.objects v.objects w.objects q.objects t.marked;
+  told = told_as u.objects v.objects w.objects q.objects t.told;
   ties = ties_both j.actor _ _ _ t.ties (ties_same j.actor v.board.connections w.board.connections q.ties);
   tune = q.tune ∙ t.tune;
 }
@@ -248,6 +254,7 @@ end_quietly j u v w t q = record {
   marks = subst (SameMarks j u.objects) (sym q.objects) t.marks;
   no_fewer = no_fewer_as u.objects v.objects w.objects q.objects t.no_fewer;
   marked = marked_as u.objects v.objects w.objects q.objects t.marked;
+  told = told_as u.objects v.objects w.objects q.objects t.told;
   ties = ties_both j.actor _ _ _ t.ties (ties_same j.actor v.board.connections w.board.connections q.ties);
   tune = q.tune ∙ t.tune;
 }
@@ -304,10 +311,11 @@ abbrev pub Own : Option ℕ → Live → Actor → Type 0
 Own None w a = Unit {0}
 Own (Some d) w a = player_in d w.board ≡ Some a.player
 
--- it is licensed, and so is what is to be told; and nothing is tuned
+-- it is licensed, and so is what is to be told; where a source changed, that is to be told; and nothing is tuned
 pub record Proper (a : Actor) (free : Freedom) (w v : Live) : Type 0 where
   pub licensed : Licensed a free w v
   pub marks : SameMarks (judge a free w.objects) w.objects v.objects
+  pub told : Told w.objects v.objects
   pub tune : v.board.tune ≡ w.board.tune
 
 -- keeps to the licence from a world of which something is given, at a connection of the actor's or none; what is free
@@ -384,7 +392,7 @@ stays_freely a free given f p = keeps_more f (λ w v s. record { law = λ start 
 
 pub ends_stays : (a : Actor) (free : Freedom) (given : Option Act) (f : Change) → Stays a free given f → Ends itself a free given f
 ends_stays a free given f p = keeps_more f (λ w v s. record {
-  law = λ start r h. let t = s.law start r h in record { rows = λ n. differs_kept _ (dbref_of n) _ _ (t.rows n); lists = t.lists; marks = marks_open (judge a free start) w.objects v.objects t.marks; no_fewer = t.no_fewer; marked = t.marked; ties = t.ties; tune = t.tune };
+  law = λ start r h. let t = s.law start r h in record { rows = λ n. differs_kept _ (dbref_of n) _ _ (t.rows n); lists = t.lists; marks = marks_open (judge a free start) w.objects v.objects t.marks; no_fewer = t.no_fewer; marked = t.marked; told = t.told; ties = t.ties; tune = t.tune };
 }) p
 
 pub ends_quiet : (a : Actor) (free : Freedom) (given : Option Act) (f : Change) → Quiet f → Ends itself a free given f
@@ -401,6 +409,7 @@ ends_followed out a free given f g p q = keeps_after f g (λ w v y s t. record {
         marks = marks_both (judge a free start) _ _ _ first.marks next.marks;
         no_fewer = no_fewer_both _ _ _ first.no_fewer next.no_fewer;
         marked = marked_both w.objects v.objects (out y).objects first.marked next.marked;
+        told = told_both w.objects v.objects (out y).objects first.told next.told;
         ties = ties_both a _ _ _ first.ties next.ties;
         tune = next.tune ∙ first.tune;
       };
@@ -423,7 +432,7 @@ own_kept (Some d) w v a e c = player_kept d w.board.connections v.board.connecti
 pub whole_ends : {Y : Type 0} (out : Y → Live) (a : Actor) (own : Option ℕ) (free : List Entry → Freedom) (given : Live → Type 0) (f : Live → Y) → ((w : Live) → given w → Ends out a (free w.objects) None f) → Whole out a own free given f
 whole_ends out a own free given f p = whole_by f (λ w c h.
     let t = ((p w h).law w).law w.objects (same_itself w.objects) tt in
-    record { licensed = record { gone = None; recycled = λ x e. absurd (cc); vanished = λ x e. absurd (cc); objects = t.rows; no_fewer = t.no_fewer; marked = t.marked; lists = t.lists; connections = t.ties; tune = inl t.tune }; marks = t.marks; tune = t.tune })
+    record { licensed = record { gone = None; recycled = λ x e. absurd (cc); vanished = λ x e. absurd (cc); objects = t.rows; no_fewer = t.no_fewer; marked = t.marked; lists = t.lists; connections = t.ties; tune = inl t.tune }; marks = t.marks; told = t.told; tune = t.tune })
 
 pub whole_quiet : (a : Actor) (own : Option ℕ) (free : List Entry → Freedom) (given : Live → Type 0) (f : Change) → Quiet f → Whole itself a own free given f
 whole_quiet a own free given f q = whole_ends itself a own free given f (λ w h. ends_quiet a (free w.objects) None f q)
@@ -452,6 +461,7 @@ whole_followed out a own free given f g q p = keeps_after f g (λ w v y s t. rec
             tune = open_both (λ tune. is_master a) _ _ _ (inl s.tune) l.tune;
           };
           marks = subst M s.objects p.marks;
+          told = told_both w.objects v.objects u.objects (told_as w.objects w.objects v.objects s.objects (told_itself w.objects)) p.told;
           tune = p.tune ∙ s.tune;
         }
 
@@ -476,6 +486,7 @@ whole_quietly a own free given f g p q = keeps_after f g (λ w v u s t. record {
           tune = open_both (λ tune. is_master a) _ _ _ l.tune (inl t.tune);
         };
         marks = subst (SameMarks (judge a (free w.objects) w.objects) w.objects) (sym t.objects) p.marks;
+        told = told_as w.objects v.objects u.objects t.objects p.told;
         tune = t.tune ∙ p.tune;
       };
 }) p q

@@ -1,7 +1,7 @@
 -- What is made keeps to the licence.
 use Rattle.std.proofs.Common.{◌≡◌, ℕ, ◌==◌, suc, Bool, true, false, cond, List, [], ◌∷◌, ◌++◌, length, length-append, refl, sym, ◌∙◌, ap, subst, Option, Some, None, inl, inr, arith}
 use Rattle.muck_model.proofs.Dbrefs.{same_eq}
-use Rattle.std.specs.Prelude.{◌≤◌, Ok, Err, nat_lt, slice_get, min, nat_le, ◌||◌, ◌&&◌}
+use Rattle.std.specs.Prelude.{◌≤◌, Ok, Err, nat_lt, slice_get, min, nat_le, ◌||◌, ◌&&◌, is_some}
 use Rattle.std.specs.Option.{option_map, option_and_then, option_map_or}
 use Rattle.std.proofs.lemmas.Bool.{cases_eq, or_right}
 use Rattle.std.proofs.lemmas.Bool.Decides.{nat_tests}
@@ -29,6 +29,7 @@ use Rattle.spec_rights.specs.Changing.{created_so}
 use Rattle.spec_rights.specs.Licence.{Freedom, Judge, IsNew, Differs, Reordered, as_before, front_open, SameLists, place_open}
 use Rattle.spec_rights.proofs.Lookups.{alive, seen_at, number_is}
 use Rattle.spec_rights.proofs.Listing.{reordered_moved}
+use Rattle.spec_rights.proofs.Telling.{source_at, Told}
 use Rattle.spec_rights.proofs.Rights.{SameRights, same_level}
 use Rattle.spec_rights.proofs.Licences.{judge, changed_same, mark_open, End}
 use Rattle.spec_rights.proofs.Allowed.{room_allowed, thing_allowed, exit_allowed, program_allowed, wizard_allowed}
@@ -177,6 +178,33 @@ marked_made k kind name owner finished to es =
     let made : List Entry = created k kind name owner to es in
     marked_both es made (set_at finished k made) (marked_created k kind name owner to es) (marked_set k finished made)
 
+-- what is new has no source, and of all else it stays
+told_made : (kind : Kind) (name : List ℕ) (owner : Dbref) (finished : Object → Object) (to : ℕ) (es : List Entry) → (new_in kind name owner finished (free_in es) to).lines ≡ [] → Told es (made_in kind name owner finished to es)
+told_made kind name owner finished to es h = record { source = λ n. inl (at n); stays = λ n t. ap is_some (mark_made (free_in es) kind name owner finished to es n) ∙ t }
+  where
+    source : Option Object → List (List ℕ)
+    source q = option_map_or (λ (o : Object). o.lines) (option_and_then alive q) []
+
+    new_source : (q : Option Object) → source (option_map (λ (x : Object). new_in kind name owner finished (free_in es) to) q) ≡ []
+    new_source None = refl
+    new_source (Some o) = elim (is_garbage (new_in kind name owner finished (free_in es) to).kind) as (λ b. option_map_or (λ (o : Object). o.lines) (cond b None (Some (new_in kind name owner finished (free_in es) to))) [] ≡ []) [ true ↦ refl | false ↦ h ]
+
+    seen : (fs : List Entry) (n : ℕ) → source_at fs (dbref_of n) ≡ source (object_in fs n)
+    seen fs n = ap (λ (q : Option Object). option_map_or (λ (o : Object). o.lines) q []) (seen_at fs n)
+
+    at : (n : ℕ) → source_at (made_in kind name owner finished to es) (dbref_of n) ≡ source_at es (dbref_of n)
+    at n =
+        let fs : List Entry = made_in kind name owner finished to es in
+        let k : ℕ = free_in es in
+        elim (cases_eq n k) [
+          | inl e ↦
+              let P : ℕ → Type 0 = λ m. source_at fs (dbref_of m) ≡ source_at es (dbref_of m) in
+              let new : source_at fs (dbref_of k) ≡ [] = seen fs k ∙ ap source (made_here kind name owner finished to es) ∙ new_source (object_in (grown k es) k) in
+              let old : source_at es (dbref_of k) ≡ [] = ap (λ (q : Option Object). option_map_or (λ (o : Object). o.lines) q []) (seen_at es k ∙ free_dead es) in
+              subst P (sym e) (new ∙ sym old)
+          | inr e ↦ seen fs n ∙ ap (λ (q : Option Object). option_map_or (λ (o : Object). o.lines) q []) (ap (λ (q : Option Object). option_and_then alive q) (made_there kind name owner finished to es n e) ∙ grown_same k n es) ∙ sym (seen es n)
+        ]
+
 -- what a check that passes says
 made_by : (kind : Kind) (owned : Bool) (to : ℕ) (es : List Entry) (p : ℕ × ℕ) → make_judged kind owned to es ≡ Ok p → (p.0 ≡ free_in es) × (p.1 ≡ to)
 unfolding make_judged
@@ -204,10 +232,11 @@ end_created j kind name owner place finished w p e h =
     let k = made_checked kind owner place w.objects p e in
     let D : ℕ → Type 0 = λ m. (n : ℕ) → Differs j (dbref_of n) (object_at (dbref_of n) w.objects) (object_at (dbref_of n) (set_at finished m (created m kind name owner p.1 w.objects))) in
     let L : ℕ → Type 0 = λ m. SameLists j w.objects (set_at finished m (created m kind name owner p.1 w.objects)) in
+    let T : ℕ → Type 0 = λ m. Told w.objects (set_at finished m (created m kind name owner p.1 w.objects)) in
     let new = h (free_in w.objects) p.1 (number_is w.objects place p.1 k.1) in
     end_objects j w (created_so p.0 kind name owner p.1 finished w) refl (subst D (sym k.0) (differs_made j kind name owner finished p.1 w.objects new)) (subst L (sym k.0) (lists_made j kind name owner finished p.1 w.objects))
     (λ n. mark_open j (dbref_of n) _ _ _ (inl (mark_made p.0 kind name owner finished p.1 w.objects n))) (many_made p.0 kind name owner finished p.1 w.objects)
-    (marked_made p.0 kind name owner finished p.1 w.objects)
+    (marked_made p.0 kind name owner finished p.1 w.objects) (subst T (sym k.0) (told_made kind name owner finished p.1 w.objects new.lines))
 
 -- The kinds.
 
@@ -219,16 +248,16 @@ and_all b c d e f g = rw (e, f, g) refl
 
 room_new : (a : Actor) (free : Freedom) (start : List Entry) (name : List ℕ) (k t : ℕ) → Builds a start → controls_or link start a (dbref_of t) ≡ true → IsNew (judge a free start) (dbref_of k) (new_in Room name a.user (λ o. o) k t)
 unfolding new_object
-room_new a free start name k t b h = record { kind = and_all _ _ _ (same_eq a.user a.user refl) b h; flags = refl; link = refl }
+room_new a free start name k t b h = record { kind = and_all _ _ _ (same_eq a.user a.user refl) b h; flags = refl; link = refl; lines = refl }
 
 thing_new : (a : Actor) (free : Freedom) (start : List Entry) (name : List ℕ) (at : Dbref) (k t : ℕ) → Builds a start → (nat_le 3 a.level || controls_or jump start a (dbref_of t)) ≡ true → IsNew (judge a free start) (dbref_of k) (new_in Thing name a.user (with_home at) k t)
 unfolding new_object
-thing_new a free start name at k t b h = record { kind = and_all _ _ _ (same_eq a.user a.user refl) b h; flags = refl; link = refl }
+thing_new a free start name at k t b h = record { kind = and_all _ _ _ (same_eq a.user a.user refl) b h; flags = refl; link = refl; lines = refl }
 
 exit_new : (a : Actor) (free : Freedom) (start : List Entry) (name : List ℕ) (to : Dbref) (k t : ℕ) → Builds a start → controls start a (dbref_of t) ≡ true → (same to nothing || (same to home || controls_or link start a to)) ≡ true →
     IsNew (judge a free start) (dbref_of k) (new_in Exit name a.user (with_link to) k t)
 unfolding new_object
-exit_new a free start name to k t b h l = record { kind = and_all _ _ _ (same_eq a.user a.user refl) b h; flags = refl; link = l }
+exit_new a free start name to k t b h l = record { kind = and_all _ _ _ (same_eq a.user a.user refl) b h; flags = refl; link = l; lines = refl }
 
 at_most : (n m : ℕ) → n ≡ m → nat_le (min n 3) m ≡ true
 at_most n m e = grind (arith, nat_tests)
@@ -238,11 +267,11 @@ and_three b c d e f g = rw (e, f, g) refl
 
 program_new : (a : Actor) (free : Freedom) (start : List Entry) (name : List ℕ) (level k t : ℕ) → nat_le 1 (level_at start a.user) ≡ true → nat_le level (level_at start a.user) ≡ true → IsNew (judge a free start) (dbref_of k) (new_in Program name a.user (with_level level) k t)
 unfolding new_object
-program_new a free start name level k t b h = record { kind = and_three _ _ _ (same_eq a.user a.user refl) b h; flags = refl; link = refl }
+program_new a free start name level k t b h = record { kind = and_three _ _ _ (same_eq a.user a.user refl) b h; flags = refl; link = refl; lines = refl }
 
 player_new : (a : Actor) (free : Freedom) (start : List Entry) (name : List ℕ) (owner : Dbref) (k t : ℕ) → is_master a ≡ true → IsNew (judge a free start) (dbref_of k) (new_in Player name owner (λ o. o) k t)
 unfolding new_object
-player_new a free start name owner k t h = record { kind = and_three _ _ _ h refl (same_eq (dbref_of k) (dbref_of k) refl); flags = refl; link = refl }
+player_new a free start name owner k t h = record { kind = and_three _ _ _ h refl (same_eq (dbref_of k) (dbref_of k) refl); flags = refl; link = refl; lines = refl }
 
 -- What is new by an act that is allowed.
 

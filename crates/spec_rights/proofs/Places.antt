@@ -20,6 +20,7 @@ use Rattle.spec_rights.specs.Verdict.{verdict}
 use Rattle.spec_rights.proofs.Rights.{SameRights}
 use Rattle.spec_rights.proofs.Lookups.{Row, row_same, number_is}
 use Rattle.spec_rights.proofs.Listing.{lists_itself, lists_moved}
+use Rattle.spec_rights.proofs.Telling.{Told, told_itself, told_moved}
 use Rattle.spec_rights.proofs.Licences.{judge, Kept, kept_same, Stay, End, Stays, Ends, itself, as_many, ends_by, stays_by}
 use Rattle.spec_rights.proofs.Allowed.{move_allowed, home_allowed, live_allowed, unlink_allowed}
 use Rattle.spec_rights.proofs.Changes.{rows_number, stay_objects, end_found}
@@ -67,6 +68,11 @@ marked_came es None q = marked_itself es
 marked_came es (Some m) None = marked_itself es
 marked_came es (Some m) (Some t) = marked_moved m t es
 
+told_came : (es : List Entry) (p q : Option ℕ) → Told es (moved_at p q es)
+told_came es None q = told_itself es
+told_came es (Some m) None = told_itself es
+told_came es (Some m) (Some t) = told_moved m t es
+
 -- to a place that is there
 stay_moved : (j : Judge) (x to : Dbref) (w : Live) → ((t : ℕ) → number_in w.objects to ≡ Some t → place_open j x to ≡ true) → Stay j w (moved_to x to w)
 unfolding moved_to
@@ -74,6 +80,7 @@ stay_moved j x to w h = stay_objects j w (moved_to x to w) refl (λ n. rows_move
     (λ n. inl (marks_came n w.objects (number_in w.objects x) (number_in w.objects to)))
     (as_many w.objects (moved_at (number_in w.objects x) (number_in w.objects to) w.objects) (many_moved w.objects (number_in w.objects x) (number_in w.objects to)))
     (marked_came w.objects (number_in w.objects x) (number_in w.objects to))
+    (told_came w.objects (number_in w.objects x) (number_in w.objects to))
 
 -- what may be moved freely
 pub stays_free : (a : Actor) (free : Freedom) (given : Option Act) (x to : Dbref) → free.moves x ≡ true → Stays a free given (moved_to x to)
@@ -93,7 +100,7 @@ changed_home j x to o h = record { kind = refl; name = inl refl; owner = inl ref
 
 end_homed : (j : Judge) (x to : Dbref) (w : Live) → home_open j x to ≡ true → End j w (homed x to w)
 unfolding homed
-end_homed j x to w h = end_found j x (with_home to) (λ o. refl) (λ o. changed_home j x to o h) w
+end_homed j x to w h = end_found j x (with_home to) (λ o. refl) (λ o. refl) (λ o. changed_home j x to o h) w
 
 pub ends_homed : (a : Actor) (free : Freedom) (x to : Dbref) → Ends itself a free (Some (Link x to)) (homed x to)
 ends_homed a free x to = ends_by _ (λ start w s g. end_homed (judge a free start) x to w (live_allowed a free start w.objects x to s g))

@@ -36,6 +36,7 @@ use Rattle.spec_live.proofs.HomeLaws.{list_untied, mark_untied, length_untied, l
 use Rattle.spec_live.proofs.RecyclingLaws.{length_exits_gone, length_vanished}
 use Rattle.spec_rights.proofs.Listing.{lists_itself, reordered_all, reordered_one, reordered_left, reordered_moved}
 use Rattle.spec_rights.proofs.Lookups.{Row, alive, seen_at, number_is}
+use Rattle.spec_rights.proofs.Telling.{told_itself, told_recycled}
 use Rattle.spec_rights.proofs.Licences.{judge, changed_same, MarkOpen, SameMarks, marks_itself, ties_itself, as_many, Proper}
 use Rattle.spec_rights.proofs.Allowed.{recycle_allowed}
 
@@ -439,6 +440,7 @@ nothing_recycled a free w = record {
     tune = inl refl;
   };
   marks = marks_itself (judge a free w.objects) w.objects;
+  told = told_itself w.objects;
   tune = refl;
 }
   where
@@ -485,6 +487,7 @@ there a free x w h d e t =
         tune = inl refl;
       };
       marks = marks_recycled (judge a free w.objects) d w.objects;
+      told = told_recycled d w.objects;
       tune = refl;
     }
 

@@ -140,11 +140,12 @@ new_open j x new Thing = same new.owner j.actor.user && (builds j && (new.level 
 new_open j x new Exit = same new.owner j.actor.user && (builds j && (new.level == 0 && controls j.objects j.actor new.place))
 new_open j x new Garbage = false
 
--- an object that is new, which is judged by this alone
+-- an object that is new, which is judged by this alone; it has no source yet
 pub record IsNew (j : Judge) (x : Dbref) (new : Object) : Type 0 where
   pub kind : new_open j x new new.kind ≡ true
   pub flags : new.flags ≡ no_flags
   pub link : (same new.link nothing || (same new.link home || controls_or link j.objects j.actor new.link)) ≡ true
+  pub lines : new.lines ≡ []
 
 -- what is there, where garbage isn't
 abbrev pub Differs : Judge → Dbref → Option Object → Option Object → Type 0
