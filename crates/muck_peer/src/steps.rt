@@ -48,8 +48,8 @@ impl Peer {
         }
     }
 
-    // Bytes are taken.
-    fn takes(&mut self, world: &mut World) -> Chose
+    // Bytes are taken, as many as there is room for.
+    fn takes_some(&mut self, world: &mut World) -> Chose
         requires alive { (now world.old).dead ≡ false }
         requires none { self.old.unsent ≡ [] }
         requires some { 0 < length (queue_of self.old.number (now world.old)) }
@@ -59,6 +59,18 @@ impl Peer {
         self.at = 0;
         self.len = n;
         Chose::Went
+    }
+
+    // Bytes are taken.
+    fn takes(&mut self, world: &mut World) -> Chose
+        requires alive { (now world.old).dead ≡ false }
+        requires none { self.old.unsent ≡ [] }
+        requires some { 0 < length (queue_of self.old.number (now world.old)) }
+        ensures { (event : Event) × (world.new ≡ entered world.old (by_porter event)) × ChoseAs result self.old self.new (now world.old) event × IsUntimed event }
+    {
+        let queued = world.queued(self.number);
+        self.widens(queued);
+        self.takes_some(world)
     }
 
     // A line is entered.
