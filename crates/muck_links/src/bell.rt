@@ -10,6 +10,7 @@ use std::time::{Duration, SystemTime, UNIX_EPOCH};
 
 // The party that tends the links, and the one that makes the dumps.
 const PORTER: u8 = 0;
+
 const DUMPER: usize = 9;
 
 // As many turns are told apart as are waited for at once, and more.
@@ -17,7 +18,9 @@ const TURNS: u64 = 16;
 
 // What a party's word says.
 const AWAKE: u64 = 0;
+
 const RESTS: u64 = 1;
+
 const HELPS: u64 = 2;
 
 // How often a thread looks for its turn before it sleeps, where others run at the same time.
@@ -28,11 +31,16 @@ const ROUNDS_BUSY: u64 = 8;
 
 // A sleep that nothing ends is over then, in milliseconds: while a turn is waited for, and while a party rests, which is done so often.
 const TURN_MILLIS: u64 = 50;
+
 const REST_MILLIS: u64 = 1000;
+
 const RESTS_MOST: u64 = 60;
 
-// How long the dumper lets things gather, and how long a porter sleeps that doesn't look at its links, in milliseconds.
+// How long a porter sleeps that doesn't look at its links, or at whose door a link may wait, in milliseconds.
 const NAP_MILLIS: u64 = 5;
+
+// How long the dumper lets things gather: where it asks for a turn, whoever comes behind it waits until the system lets it run.
+const GATHER_MILLIS: u64 = 50;
 
 /// What the threads of a server wait on, each on a word of its own, but for the porter, which waits at its links.
 #[derive(Drop)]
@@ -109,9 +117,16 @@ impl Bell {
         }
     }
 
-    // How long the porter may wait at its links now.
-    pub(crate) fn takes_nap(&self) -> Duration {
-        Duration::from_millis(self.nap.swap(0, Ordering::SeqCst))
+    // How long the porter may wait at its links now: not long while a link may wait that couldn't be let in.
+    pub(crate) fn takes_nap(&self, pending: bool) -> Duration {
+        let millis = self.nap.swap(0, Ordering::SeqCst);
+        let most = if pending { NAP_MILLIS } else { REST_MILLIS };
+        Duration::from_millis(millis.min(most))
+    }
+
+    // The word of a turn.
+    fn turn(&self, turn: u64) -> Option<&AtomicU64> {
+        self.turns.get((turn % TURNS) as usize)
     }
 
     // A link is ready.
@@ -191,8 +206,8 @@ impl<'b, W: Wait + Clock + Drop> BellRest<'b, W> {
         }
     }
 
-    fn naps(&self) {
-        let _ = thread::sleep(&self.rt, Duration::from_millis(NAP_MILLIS));
+    fn naps(&self, millis: u64) {
+        let _ = thread::sleep(&self.rt, Duration::from_millis(millis));
     }
 
     // The porter may wait at its links, in the second round that did nothing; where it doesn't look at them it sleeps a moment here.
@@ -200,7 +215,7 @@ impl<'b, W: Wait + Clock + Drop> BellRest<'b, W> {
         let bell = self.bell;
         bell.busy.store(0, Ordering::SeqCst);
         if bell.nap.load(Ordering::SeqCst) != 0 {
-            self.naps();
+            self.naps(NAP_MILLIS);
         } else if bell.quiet.swap(1, Ordering::SeqCst) != 0 {
             bell.nap.store(self.left_of_second(), Ordering::SeqCst);
         }
@@ -211,15 +226,11 @@ impl<'b, W: Wait + Clock + Drop> BellRest<'b, W> {
         let done = &self.bell.done;
         word.store(RESTS, Ordering::SeqCst);
         if done.load(Ordering::SeqCst) == 0 {
-            word.park_timeout(
-                &self.rt,
-                RESTS as u32,
-                Duration::from_millis(REST_MILLIS),
-            );
+            word.park_timeout(&self.rt, RESTS as u32, Duration::from_millis(REST_MILLIS));
         }
         word.store(AWAKE, Ordering::SeqCst);
         if done.load(Ordering::SeqCst) != 0 {
-            self.naps();
+            self.naps(GATHER_MILLIS);
             done.store(0, Ordering::SeqCst);
         }
     }
@@ -231,11 +242,7 @@ impl<'b, W: Wait + Clock + Drop> BellRest<'b, W> {
             helpers.fetch_sub(1, Ordering::SeqCst);
         }
         for _ in 0..RESTS_MOST {
-            word.park_timeout(
-                &self.rt,
-                RESTS as u32,
-                Duration::from_millis(REST_MILLIS),
-            );
+            word.park_timeout(&self.rt, RESTS as u32, Duration::from_millis(REST_MILLIS));
             if word.load(Ordering::SeqCst) != RESTS || helpers.load(Ordering::SeqCst) == 0 {
                 return;
             }
@@ -271,7 +278,12 @@ impl<'b, W: Wait + Clock + Drop> Rest for BellRest<'b, W> {
         }
     }
 
-    fn ended(&self, _party: u8) {
+    fn ended(&self, party: u8) {
+        if let Some(word) = self.bell.parties.get(usize::from(party)) {
+            if word.swap(AWAKE, Ordering::SeqCst) == HELPS {
+                self.bell.helpers.fetch_sub(1, Ordering::SeqCst);
+            }
+        }
         for party in 1..DUMPER + 1 {
             self.bell.wakes(party, AWAKE);
         }
@@ -279,7 +291,9 @@ impl<'b, W: Wait + Clock + Drop> Rest for BellRest<'b, W> {
     }
 
     fn pause(&self, turn: u64) {
-        let word = &self.bell.turns[(turn % TURNS) as usize];
+        let Some(word) = self.bell.turn(turn) else {
+            return;
+        };
         let looks = word.fetch_add(1, Ordering::SeqCst);
         if looks < self.looks_most {
             spin_loop();
@@ -290,7 +304,9 @@ impl<'b, W: Wait + Clock + Drop> Rest for BellRest<'b, W> {
     }
 
     fn passed(&self, turn: u64) {
-        let word = &self.bell.turns[(turn.wrapping_add(1) % TURNS) as usize];
+        let Some(word) = self.bell.turn(turn.wrapping_add(1)) else {
+            return;
+        };
         if word.load(Ordering::SeqCst) != 0 && word.swap(0, Ordering::SeqCst) > self.looks_most {
             word.wake_one();
         }

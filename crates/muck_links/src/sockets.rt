@@ -11,7 +11,6 @@ use std::alloc::Global;
 use std::io;
 use std::io::{ErrorKind, Read, Write};
 use std::net::{Ipv4Addr, Net, Shutdown, SocketAddr};
-use std::time::Duration;
 
 // The name of the listener among what may be ready; the links have their numbers.
 const DOOR: usize = usize::MAX;
@@ -112,7 +111,7 @@ impl<'b, N: Net> MioLinks<'b, N> {
         }
     }
 
-    // Looks which sockets are ready, and waits for as long as the bell lets it where none is and nobody waits at the door.
+    // Looks which sockets are ready, and waits for as long as the bell lets it where none is.
     fn look(&mut self)
         ensures { self.new.listening ≡ self.old.listening }
     {
@@ -123,10 +122,7 @@ impl<'b, N: Net> MioLinks<'b, N> {
             ..
         } = self;
         let Some(door) = door else { return };
-        let mut time = bell.takes_nap();
-        if door.pending && sockets.len() < LINKS_MOST {
-            time = Duration::ZERO;
-        }
+        let time = bell.takes_nap(door.pending && sockets.len() < LINKS_MOST);
         if door.poll.poll(&mut door.events, Some(time)).is_err() {
             return;
         }

@@ -42,11 +42,22 @@ impl Model for Peer {
     ghost invariant = { λ p. (p.at ≤ p.len) × (p.len ≤ length p.buffer.items) × (0 < length p.buffer.items) };
 }
 
+// So many bytes, or the least.
+fn at_least(bytes: usize) -> usize
+    ensures { 0 < result }
+{
+    if bytes < ROOM_LEAST {
+        ROOM_LEAST
+    } else {
+        bytes
+    }
+}
+
 // Room for so many bytes, or the least.
 fn room(alloc: Global, bytes: usize) -> Result<Vec<u8>, NoMemory>
     ensures { IfOk result (λ v. 0 < length v.items) }
 {
-    let v = vec![in alloc; 0u8; bytes.max(ROOM_LEAST)]?;
+    let v = vec![in alloc; 0u8; at_least(bytes)]?;
     Ok(v)
 }
 
@@ -86,8 +97,8 @@ impl Peer {
 
     // There is room for so many bytes, where there is memory for it.
     fn has_room(&mut self, bytes: usize)
-        requires none { self.old.unsent ≡ [] }
-        ensures same { self.new ≡ self.old }
+        requires { self.old.unsent ≡ [] }
+        ensures { self.new ≡ self.old }
     {
         if let Ok(buffer) = room(self.alloc, bytes) {
             self.at = 0;
@@ -98,8 +109,8 @@ impl Peer {
 
     /// There is room for all that is queued, so that it goes out in one write; where memory is wanted for that, in several.
     pub(crate) fn widens(&mut self, queued: usize)
-        requires none { self.old.unsent ≡ [] }
-        ensures same { self.new ≡ self.old }
+        requires { self.old.unsent ≡ [] }
+        ensures { self.new ≡ self.old }
     {
         if queued > self.buffer.len() {
             self.has_room(queued);
@@ -108,7 +119,7 @@ impl Peer {
 
     // What was written takes no room any more.
     fn narrows(&mut self)
-        ensures same { self.new ≡ self.old }
+        ensures { self.new ≡ self.old }
     {
         if !self.has_unsent() && self.buffer.len() > ROOM_LEAST {
             self.has_room(ROOM_LEAST);
