@@ -22,3 +22,4 @@ pub mod Dumping
 pub mod Stocking
 pub mod Loading
 pub mod Listing
+pub mod Bounds
