@@ -1,5 +1,5 @@
 -- The bounds below which no garbage and no mark stand, behind a recycling.
-use Rattle.std.proofs.Common.{◌≡◌, ℕ, ◌<◌, ◌≤◌, List, [], ◌∷◌, None, Ok, sym, ◌∙◌, ap, length, arith, Bool, false}
+use Rattle.std.proofs.Common.{◌≡◌, ℕ, ◌<◌, ◌≤◌, List, [], ◌∷◌, None, Ok, refl, sym, ◌∙◌, ap, length, arith, Bool, false}
 use Rattle.muck_model.specs.declared.dbref.Dbref.{Dbref}
 use Rattle.spec_live.specs.Chain.{Ends}
 use Rattle.spec_live.specs.Objects.{Entry, is_garbage, kind_in, list_in, mark_in}

@@ -23,3 +23,5 @@ pub mod Stocking
 pub mod Loading
 pub mod Listing
 pub mod Bounds
+pub mod Blocked
+pub mod Passing

@@ -7,3 +7,4 @@ pub mod Kept
 pub mod Dumps
 pub mod Table
 pub mod Lent
+pub mod Blocks
