@@ -22,3 +22,6 @@ pub mod Dumping
 pub mod Stocking
 pub mod Loading
 pub mod Listing
+pub mod Bounds
+pub mod Blocked
+pub mod Passing

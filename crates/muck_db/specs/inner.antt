@@ -5,3 +5,6 @@ pub mod Settings
 pub mod Loading
 pub mod Kept
 pub mod Dumps
+pub mod Table
+pub mod Lent
+pub mod Blocks

@@ -40,7 +40,7 @@ use crate::setting::{
     Setting, check_any, check_flags, check_home, check_level, check_link, check_owner,
     check_player, check_program, put_prop, remove_prop, set_at, set_lines,
 };
-use crate::slot::Slot;
+use crate::slots::Slots;
 use crate::start::first_slots;
 use crate::telling::{clear_mark, marked, told_of};
 use crate::walks::{first_listed, next_listed};
@@ -60,7 +60,7 @@ use std::marker::Model;
 /// fourteenth and at most 4,096 lines, and its digest is empty or 80 hex digits.
 #[derive(Drop)]
 pub struct Db {
-    slots: Vec<Slot>,
+    slots: Slots,
     // no garbage stands below this number
     lowest: u32,
     // nothing below this number is to be told of
@@ -206,7 +206,8 @@ impl Db {
     /// What a dump hands to the log, over what is kept already: the stored form of each object that isn't kept so, and
     /// what is tuned. Each record has a spelling. What isn't due has to be kept as it is, and isn't looked at; what is due
     /// is compared with what is kept, and copied where it differs. Then it is pending, until the dump was stored or
-    /// failed. Where memory is wanted nothing changes.
+    /// failed. Where memory is wanted nothing changes. It costs what is due and its neighbours, and a look at each block
+    /// of 16 numbers.
     pub fn cut(&mut self, alloc: Global, base: &[Stored], tune: &Tune) -> Result<Batch, NoMemory>
         requires kept { KeepsUndue base.now self.old }
         ensures records { IfOk result (λ batch. LeavesOut base.now (persist self.old) batch.records) }
@@ -414,9 +415,9 @@ impl Db {
     {
         let k = check_recycle(&self.slots, d)?;
         clear_out(&mut self.slots, k);
-        vanish(&mut self.slots, k);
-        self.lowest = 0;
-        self.told = 0;
+        let least = vanish(&mut self.slots, k);
+        self.lowest = self.lowest.min(least);
+        self.told = self.told.min(least);
         Ok(())
     }
 

@@ -2,6 +2,7 @@
 //! see it as the entries of `spec_live`, and nothing of the chains.
 #![tactic(auto)]
 
+mod blocks;
 mod chain;
 mod creation;
 mod cut;
@@ -19,6 +20,7 @@ mod recycling;
 mod seen;
 mod setting;
 mod slot;
+mod slots;
 mod start;
 mod telling;
 mod typed;

@@ -2,19 +2,20 @@
 ghost use Rattle.std.specs.Prelude.{◌≡◌, ◌≢◌, ◌<◌, ◌≤◌, ◌^◌, ℕ, Bool, [], map, length, false, true, IfOk, if◌then◌else◌, None};
 ghost use Rattle.spec_live.specs.declared.mark.Mark.TheVariants.{Gone};
 ghost use Rattle.spec_live.specs.Chain.{Ends};
-ghost use Rattle.spec_live.specs.Objects.{dbref_of, nothing, same, kind_in, list_in, changed_at};
+ghost use Rattle.spec_live.specs.Objects.{dbref_of, is_garbage, nothing, same, kind_in, list_in, changed_at};
 ghost use Rattle.spec_live.specs.Recycling.{is_tied, untied, wished_home, may_go, way_home, sent_home, is_exit_of, taken_away, recycle_check};
-ghost use Rattle.muck_db.specs.inner.Slots.{home_at, owner_at, shown, next_at, first_at, entries_of, untied_slot, new_slot, exit_wiped, wiped, HasOrder};
+ghost use Rattle.muck_db.specs.inner.Slots.{home_at, owner_at, kind_at, mark_at, shown, next_at, first_at, entries_of, untied_slot, new_slot, exit_wiped, wiped, HasOrder};
 
 use crate::links::{dbref_of, first_of, index_of, leads_to, take_out};
 use crate::moves::{fits, kind_of, number_of, relocate};
 use crate::slot::Slot;
+use crate::slots::Slots;
 use muck_model::{Dbref, Kind};
 use spec_live::{DbFault, Mark, Saving};
 
 // The number of an object that may be recycled.
 #[tactic(auto, using(crate::proofs::Bridge::kinds), unfolding(spec_live::specs::Recycling::recycle_check, spec_live::specs::Setting::checked))]
-pub fn check_recycle(slots: &Vec<Slot>, d: Dbref) -> Result<u32, DbFault>
+pub fn check_recycle(slots: &Slots, d: Dbref) -> Result<u32, DbFault>
     ensures is { result ≡ recycle_check d (entries_of slots.now.items) }
     ensures within { IfOk result (λ k. k < length slots.now.items) }
 {
@@ -69,17 +70,17 @@ fn untie_slot(slot: &mut Slot, d: u32)
 }
 
 #[tactic(auto, unfolding(spec_live::specs::Objects::changed_at))]
-fn untie_at(slots: &mut Vec<Slot>, k: u32, d: u32)
+fn untie_at(slots: &mut Slots, k: u32, d: u32)
     requires known { k < length slots.old.items }
     requires number { d < 2 ^ 31 }
     ensures items { slots.new.items ≡ changed_at k (untied_slot d) slots.old.items }
     ensures len { length slots.new.items ≡ length slots.old.items }
 {
-    untie_slot(&mut slots[k as usize], d);
+    untie_slot(slots.at_mut(k), d);
 }
 
 // No object has its home in `d` or a link to it any more.
-fn untie(slots: &mut Vec<Slot>, d: u32)
+fn untie(slots: &mut Slots, d: u32)
     requires few { length slots.old.items ≤ 100000 }
     requires number { d < 2 ^ 31 }
     ensures { slots.new.items ≡ map (untied_slot d) slots.old.items }
@@ -91,10 +92,10 @@ fn untie(slots: &mut Vec<Slot>, d: u32)
 }
 
 #[tactic(auto, unfolding(crate::specs::inner::Slots::home_at, crate::specs::inner::Slots::object_at, spec_live::specs::Objects::garbage))]
-fn home_of(slots: &Vec<Slot>, k: u32) -> Option<u32>
+fn home_of(slots: &Slots, k: u32) -> Option<u32>
     ensures { result ≡ home_at slots.now.items k }
 {
-    match slots.get(k as usize) {
+    match slots.get(k) {
         Some(
             Slot {
                 object: Some(object),
@@ -106,10 +107,10 @@ fn home_of(slots: &Vec<Slot>, k: u32) -> Option<u32>
 }
 
 #[tactic(auto, unfolding(crate::specs::inner::Slots::owner_at, crate::specs::inner::Slots::object_at, spec_live::specs::Objects::garbage))]
-fn owner_of(slots: &Vec<Slot>, k: u32) -> Option<u32>
+fn owner_of(slots: &Slots, k: u32) -> Option<u32>
     ensures { result ≡ owner_at slots.now.items k }
 {
-    match slots.get(k as usize) {
+    match slots.get(k) {
         Some(
             Slot {
                 object: Some(object),
@@ -124,7 +125,7 @@ fn owner_of(slots: &Vec<Slot>, k: u32) -> Option<u32>
 
 // Where `x` goes when it is sent home, if it may.
 #[tactic(auto, using(crate::proofs::Bridge::homes), unfolding(spec_live::specs::Recycling::wished_home))]
-fn wished_home(slots: &Vec<Slot>, x: u32) -> Option<u32>
+fn wished_home(slots: &Slots, x: u32) -> Option<u32>
     ensures { result ≡ wished_home x (entries_of slots.now.items) (kind_in (entries_of slots.now.items) x) }
 {
     match kind_of(slots, x) {
@@ -139,7 +140,7 @@ fn wished_home(slots: &Vec<Slot>, x: u32) -> Option<u32>
 
 // Whether `x` may go there, which isn't inside it.
 #[tactic(auto, using(crate::proofs::Bridge::kinds), unfolding(spec_live::specs::Recycling::may_go))]
-fn may_go(slots: &Vec<Slot>, x: u32, to: u32) -> bool
+fn may_go(slots: &Slots, x: u32, to: u32) -> bool
     requires { HasOrder slots.now.items }
     ensures { result ≡ may_go x to (entries_of slots.now.items) }
 {
@@ -151,7 +152,7 @@ fn may_go(slots: &Vec<Slot>, x: u32, to: u32) -> bool
 
 // Where `x` goes when it is sent home.
 #[tactic(auto, unfolding(spec_live::specs::Recycling::way_home))]
-fn way_home(slots: &Vec<Slot>, x: u32) -> u32
+fn way_home(slots: &Slots, x: u32) -> u32
     requires { HasOrder slots.now.items }
     ensures { result ≡ way_home x (entries_of slots.now.items) }
 {
@@ -162,7 +163,7 @@ fn way_home(slots: &Vec<Slot>, x: u32) -> u32
 }
 
 // Unties all objects from `d`, and sends its contents home, from the front on.
-pub fn clear_out(slots: &mut Vec<Slot>, d: u32)
+pub fn clear_out(slots: &mut Slots, d: u32)
     requires order { HasOrder slots.old.items }
     requires known { d < length slots.old.items }
     requires lower { d ≢ 0 }
@@ -215,17 +216,17 @@ fn wipe_slot(slot: &mut Slot, d: u32)
 }
 
 #[tactic(auto, unfolding(spec_live::specs::Objects::changed_at))]
-fn wipe_exit(slots: &mut Vec<Slot>, k: u32, d: u32)
+fn wipe_exit(slots: &mut Slots, k: u32, d: u32)
     requires known { k < length slots.old.items }
     requires number { d < 2 ^ 31 }
     ensures items { slots.new.items ≡ changed_at k (exit_wiped d) slots.old.items }
     ensures len { length slots.new.items ≡ length slots.old.items }
 {
-    wipe_slot(&mut slots[k as usize], d);
+    wipe_slot(slots.at_mut(k), d);
 }
 
 // The exits of `d` become garbage.
-fn wipe_exits(slots: &mut Vec<Slot>, d: u32)
+fn wipe_exits(slots: &mut Slots, d: u32)
     requires few { length slots.old.items ≤ 100000 }
     requires number { d < 2 ^ 31 }
     ensures { slots.new.items ≡ map (exit_wiped d) slots.old.items }
@@ -237,22 +238,26 @@ fn wipe_exits(slots: &mut Vec<Slot>, d: u32)
 }
 
 #[tactic(auto, unfolding(spec_live::specs::Objects::changed_at))]
-fn wipe(slots: &mut Vec<Slot>, d: u32)
+fn wipe(slots: &mut Slots, d: u32)
     requires { d < length slots.old.items }
     ensures { slots.new.items ≡ changed_at d wiped slots.old.items }
 {
-    slots[d as usize] = gone_slot();
+    *slots.at_mut(d) = gone_slot();
 }
 
-// Takes `d`, in which nothing is but its exits, out of its list; it and its exits become garbage.
-pub fn vanish(slots: &mut Vec<Slot>, d: u32)
+// Takes `d`, in which nothing is but its exits, out of its list; it and its exits become garbage. It answers a number below which nothing became garbage
+// or was marked: the least one that became garbage, or any below.
+pub fn vanish(slots: &mut Slots, d: u32) -> u32
     requires order { HasOrder slots.old.items }
     requires empty { list_in false (entries_of slots.old.items) d ≡ [] }
     requires known { d < length slots.old.items }
     ensures entries { entries_of slots.new.items ≡ taken_away d (entries_of slots.old.items) }
     ensures ends { (v : Bool) (p : ℕ) → Ends (length slots.new.items) (next_at slots.new.items) (first_at v slots.new.items p) }
+    ensures full { (k : ℕ) → k < result → is_garbage (kind_at slots.old.items k) ≡ false → is_garbage (kind_at slots.new.items k) ≡ false }
+    ensures unmarked { (k : ℕ) → k < result → mark_at slots.old.items k ≡ None → mark_at slots.new.items k ≡ None }
 {
     take_out(slots, d);
     wipe_exits(slots, d);
     wipe(slots, d);
+    0
 }
