@@ -46,14 +46,14 @@ fn copy_properties(alloc: Global, props: &Props) -> Result<Row<Property>, NoMemo
     ensures held { IfOk result (λ list. All MayHold list) }
     ensures kept { OnOk result (AllByRecursion IsKept (entries props.now)) }
 {
-    let all = props.all(alloc)?;
-    let mut list = Row::new(alloc)?;
-    for listed in all.into_vec() {
+    let all = props.all(alloc)?.into_vec();
+    let mut list = Vec::with_capacity(alloc, all.len())?;
+    for listed in all {
         let Listed { rest, value } = listed;
         see_value(&value);
         list.push(Property { path: rest, value })?;
     }
-    Ok(list)
+    Ok(Row::of(list))
 }
 
 // The properties, by rising path. They have a spelling.
