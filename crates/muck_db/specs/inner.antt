@@ -5,3 +5,5 @@ pub mod Settings
 pub mod Loading
 pub mod Kept
 pub mod Dumps
+pub mod Exits
+pub mod Ties

@@ -21,6 +21,7 @@ mod setting;
 mod slot;
 mod start;
 mod telling;
+mod ties;
 mod typed;
 mod walks;
 

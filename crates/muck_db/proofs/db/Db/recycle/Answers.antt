@@ -6,10 +6,11 @@ use Rattle.spec_live.proofs.RecyclingLaws.{recycle_checked}
 use Rattle.muck_db.specs.inner.Slots.{entries_of}
 use Rattle.muck_db.proofs.Bridge.{sound_order}
 use Rattle.muck_db.proofs.Leaving.{length_cleared, recycled_from, kept_recycled, does_recycled}
+use Rattle.muck_db.proofs.Tying.{ties_taken}
 use Rattle.muck_db.proofs.db.Db.recycle.Goals as goal
 
 pub clear_out-requires-clause-order : goal.clear_out-requires-clause-order
-clear_out-requires-clause-order c = sound_order _ c.self.invariant.sound
+clear_out-requires-clause-order c = sound_order _ c.self.invariant.kept.sound
 
 pub clear_out-requires-clause-lower : goal.clear_out-requires-clause-lower
 clear_out-requires-clause-lower c = (recycle_checked _ _ c.in_ok-k.k (sym c.check_recycle.ensures.is ∙ c.in_ok-k.was)).0
@@ -18,7 +19,10 @@ pub vanish-requires-clause-known : goal.vanish-requires-clause-known
 vanish-requires-clause-known c = length_cleared c.in_ok-k.k _ _ c.in_ok-k.ensures.within c.clear_out.ensures.sent
 
 pub invariant_of-self : goal.invariant_of-self
-invariant_of-self c = kept_recycled c.args.d c.in_ok-k.k c.self.inside.slots.items _ _ (sym c.check_recycle.ensures.is ∙ c.in_ok-k.was) (recycled_from c.in_ok-k.k _ _ _ c.clear_out.ensures.sent c.vanish.ensures.entries) c.vanish.ensures.ends c.self.invariant.sound c.self.invariant.listed
+invariant_of-self c = record {
+  kept = kept_recycled c.args.d c.in_ok-k.k c.self.inside.slots.items _ _ (sym c.check_recycle.ensures.is ∙ c.in_ok-k.was) (recycled_from c.in_ok-k.k _ _ _ c.clear_out.ensures.sent c.vanish.ensures.entries) c.vanish.ensures.ends c.self.invariant.kept.sound c.self.invariant.kept.listed;
+  tied = ties_taken c.in_ok-k.k _ _ _ (length_cleared c.in_ok-k.k _ _ c.in_ok-k.ensures.within c.clear_out.ensures.sent) c.vanish.ensures.entries c.clear_out.ensures.tied;
+}
 
 pub returns : goal.returns
 returns c =

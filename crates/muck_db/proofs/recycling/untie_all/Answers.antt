@@ -1,7 +1,7 @@
 use Rattle.std.proofs.Common.{arith}
 use Rattle.muck_db.specs.inner.Slots.{untied_slot}
 use Rattle.muck_db.proofs.Writes.{passed_none, passed_more, passed_all}
-use Rattle.muck_db.proofs.recycling.untie.Goals as goal
+use Rattle.muck_db.proofs.recycling.untie_all.Goals as goal
 
 pub loop-k-init : goal.loop-k-init
 loop-k-init c = passed_none (untied_slot c.args.d) c.args.slots.now.items
