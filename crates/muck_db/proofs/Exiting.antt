@@ -1,9 +1,11 @@
 -- The exits of an object become garbage, one behind the other of its list.
-use Rattle.std.proofs.Common.{◌≡◌, ℕ, ◌<◌, List, [], ◌∷◌, Option, Some, None, inl, inr, refl, sym, ◌∙◌, ap, subst, length, arith, Bool, true, false, map}
+use Rattle.std.proofs.Common.{◌≡◌, ℕ, ◌<◌, ◌≤◌, List, [], ◌∷◌, Option, Some, None, inl, inr, refl, sym, ◌∙◌, ap, subst, length, arith, Bool, true, false, map}
 use Rattle.std.proofs.lemmas.Bool.{cases_eq, false≢true}
 use Rattle.std.proofs.lemmas.Option.{slice_get-map}
 use Rattle.std.specs.List.{slice_get}
 use Rattle.std.specs.Option.{option_map, option_and_then, option_map_or}
+use Rattle.muck_model.specs.declared.dbref.Kind.TheVariants.{Garbage}
+use Rattle.spec_live.specs.declared.object.Object.{Object}
 use Rattle.spec_live.specs.Chain.{walk, IsChain, Ends, Member, IsApart, without}
 use Rattle.spec_live.specs.Objects.{Entry, changed_at, list_in}
 use Rattle.spec_live.specs.Recycling.{is_exit_of}
@@ -11,7 +13,7 @@ use Rattle.spec_live.specs.Consistent.{StandsIn}
 use Rattle.spec_live.proofs.Chains.{ends_from, ends_next, walk_is, walk_next, chain_apart, apart_first, member_here, member_none, member_without}
 use Rattle.spec_live.proofs.Lists.{length_changed, get_changed_same, get_changed_other}
 use Rattle.muck_db.specs.declared.slot.Slot.{Slot}
-use Rattle.muck_db.specs.inner.Slots.{shown, object_at, next_at, first_at, list_at, exit_wiped, entries_of, HasOrder, IsUnlinked}
+use Rattle.muck_db.specs.inner.Slots.{shown, object_at, kind_at, mark_at, next_at, first_at, list_at, wiped, exit_wiped, entries_of, HasOrder, IsUnlinked}
 use Rattle.muck_db.specs.inner.Exits.{exit_at, ListsExits}
 use Rattle.muck_db.proofs.Readers.{list_in-entries_of}
 use Rattle.muck_db.proofs.Linked.{chain_over}
@@ -120,3 +122,25 @@ pub wipes_shorter : (d x : ℕ) (old cur new : List Slot) (at next : Option ℕ)
 wipes_shorter d x old cur new at next here to is w =
     let r : Rest x cur new at next = rest_of d x cur new at next here to is w.ends in
     omega (arith, ap (λ (l : List ℕ). length l) r.same, ap (λ (l : List ℕ). length l) r.list)
+
+-- What stands below all that is wiped.
+
+pub below_wiped : (d x k : ℕ) (old cur new : List Slot) → new ≡ changed_at x (exit_wiped d) cur → k < x → slice_get cur k ≡ slice_get old k → slice_get new k ≡ slice_get old k
+below_wiped d x k old cur new is lt same = ap (λ (z : List Slot). slice_get z k) is ∙ get_changed_other cur x k (exit_wiped d) (λ e. omega (arith, e, lt)) ∙ same
+
+pub kind_below : (d least k : ℕ) (old mid left new : List Slot) → IsUnlinked d old mid → least ≤ d → k < least → ((j : ℕ) → j < least → slice_get left j ≡ slice_get mid j) → new ≡ changed_at d wiped left → kind_at new k ≡ kind_at old k
+unfolding kind_at object_at
+kind_below d least k old mid left new u le lt below is =
+    ap (λ (o : Option Object). option_map_or (λ (x : Object). x.kind) o Garbage)
+    (ap (λ (o : Option Slot). option_map shown o) (ap (λ (z : List Slot). slice_get z k) is ∙ get_changed_other left d k wiped (λ e. omega (arith, e, lt, le)) ∙ below k lt) ∙ same_at k)
+  where
+    same_at : (k : ℕ) → option_map shown (slice_get mid k) ≡ option_map shown (slice_get old k)
+    same_at k = u.same_objects k
+
+pub mark_below : (d least k : ℕ) (old mid left new : List Slot) → IsUnlinked d old mid → least ≤ d → k < least → ((j : ℕ) → j < least → slice_get left j ≡ slice_get mid j) → new ≡ changed_at d wiped left → mark_at new k ≡ mark_at old k
+unfolding mark_at
+mark_below d least k old mid left new u le lt below is =
+    ap (λ (o : Option Slot). option_and_then (λ (s : Slot). s.mark) o) (ap (λ (z : List Slot). slice_get z k) is ∙ get_changed_other left d k wiped (λ e. omega (arith, e, lt, le)) ∙ below k lt) ∙ same_at k
+  where
+    same_at : (k : ℕ) → option_and_then (λ (s : Slot). s.mark) (slice_get mid k) ≡ option_and_then (λ (s : Slot). s.mark) (slice_get old k)
+    same_at k = u.same_marks k

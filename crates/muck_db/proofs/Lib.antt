@@ -24,3 +24,4 @@ pub mod Dumping
 pub mod Stocking
 pub mod Loading
 pub mod Listing
+pub mod Bounds

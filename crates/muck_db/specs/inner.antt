@@ -7,3 +7,5 @@ pub mod Kept
 pub mod Dumps
 pub mod Exits
 pub mod Ties
+pub mod Table
+pub mod Lent

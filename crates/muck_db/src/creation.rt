@@ -10,6 +10,7 @@ use crate::links::dbref_of;
 use crate::moves::{is_vehicle, kind_of, may_stand, number_of};
 use crate::players::list_player;
 use crate::slot::Slot;
+use crate::slots::Slots;
 use crate::ties::Ties;
 use muck_model::{Dbref, Flags, Kind, Line, LineList, NoMemory};
 use muck_prop::Props;
@@ -18,14 +19,14 @@ use std::alloc::Global;
 
 const OBJECTS_MOST: u32 = 100_000;
 
-fn is_free(slots: &Vec<Slot>, k: u32) -> bool
+fn is_free(slots: &Slots, k: u32) -> bool
     ensures { result ≡ is_garbage (kind_at slots.now.items k) }
 {
     matches!(kind_of(slots, k), Kind::Garbage)
 }
 
 // The lowest number of garbage, else the next number, where no garbage stands below `lowest`.
-fn free_number(slots: &Vec<Slot>, lowest: u32) -> u32
+fn free_number(slots: &Slots, lowest: u32) -> u32
     requires few { length slots.now.items ≤ 100000 }
     requires full { (k : ℕ) → k < lowest → is_garbage (kind_at slots.now.items k) ≡ false }
     ensures { result ≡ free_in (entries_of slots.now.items) }
@@ -41,7 +42,7 @@ fn free_number(slots: &Vec<Slot>, lowest: u32) -> u32
 
 // Whether the owner is a player; none where it isn't there. The owner of a player isn't looked at.
 #[tactic(auto, using(crate::proofs::Bridge::kinds), unfolding(spec_live::specs::Making::owner_judged))]
-fn is_owned(slots: &Vec<Slot>, kind: Kind, owner: Dbref) -> Option<bool>
+fn is_owned(slots: &Slots, kind: Kind, owner: Dbref) -> Option<bool>
     ensures { result ≡ owner_judged kind owner (entries_of slots.now.items) }
 {
     if matches!(kind, Kind::Player) {
@@ -53,7 +54,7 @@ fn is_owned(slots: &Vec<Slot>, kind: Kind, owner: Dbref) -> Option<bool>
 
 // Whether the kind may be there, and its owner is a player.
 #[tactic(auto, using(crate::proofs::Bridge::kinds), unfolding(spec_live::specs::Making::may_make, spec_live::specs::Objects::is_vehicle_in))]
-fn may_make(slots: &Vec<Slot>, kind: Kind, owned: bool, to: u32) -> bool
+fn may_make(slots: &Slots, kind: Kind, owned: bool, to: u32) -> bool
     ensures { result ≡ may_make kind owned to (entries_of slots.now.items) }
 {
     may_stand(kind, kind_of(slots, to), is_vehicle(slots, to)) && owned
@@ -62,7 +63,7 @@ fn may_make(slots: &Vec<Slot>, kind: Kind, owned: bool, to: u32) -> bool
 // The number and the place of a creation that is allowed, or the first refusal.
 #[tactic(auto, unfolding(spec_live::specs::Making::create_check, spec_live::specs::Making::make_judged, spec_live::specs::Making::objects_most))]
 pub fn check_create(
-    slots: &Vec<Slot>,
+    slots: &Slots,
     lowest: u32,
     kind: Kind,
     owner: Dbref,
@@ -163,7 +164,7 @@ pub fn make_room(
 
 // Puts an object at a number of garbage, or at the next one.
 #[tactic(auto, unfolding(crate::specs::inner::Slots::object_put, spec_live::specs::Objects::changed_at))]
-pub fn put_object(slots: &mut Vec<Slot>, n: u32, object: Object) -> Result<(), DbFault>
+pub fn put_object(slots: &mut Slots, n: u32, object: Object) -> Result<(), DbFault>
     requires { n ≤ length slots.old.items }
     ensures put { OnOk result (slots.new.items ≡ object_put n object slots.old.items) }
     ensures memory { OnErr result (result ≡ Err DbFault.NoMemory) }
@@ -183,7 +184,7 @@ pub fn put_object(slots: &mut Vec<Slot>, n: u32, object: Object) -> Result<(), D
             Err(_) => Err(DbFault::NoMemory),
         };
     }
-    let slot = &mut slots[n as usize];
+    let slot = slots.at_mut(n);
     slot.object = Some(object);
     slot.saving = Saving::Due;
     Ok(())

@@ -17,7 +17,7 @@ use crate::kept::is_kept;
 use crate::links::{dbref_of, first_of, next_of, place_of};
 use crate::marking::is_due;
 use crate::moves::object_of;
-use crate::slot::Slot;
+use crate::slots::Slots;
 use crate::typed::{see_count, see_lists, see_numbers, see_text, see_ties, see_value};
 use crate::walks::dbref_at;
 use muck_codec::{Property, Stored};
@@ -66,7 +66,7 @@ fn properties_of(alloc: Global, props: &Props) -> Result<Row<Property>, NoMemory
 }
 
 // The first of a list of exits, or of contents, or `#-1`.
-pub fn first_link(slots: &Vec<Slot>, exits: bool, k: u32) -> Dbref
+pub fn first_link(slots: &Slots, exits: bool, k: u32) -> Dbref
     requires order { HasOrder slots.now.items }
     requires known { k < length slots.now.items }
     ensures { result ≡ first_of (list_in exits (entries_of slots.now.items) k) }
@@ -75,7 +75,7 @@ pub fn first_link(slots: &Vec<Slot>, exits: bool, k: u32) -> Dbref
 }
 
 // What stands behind an object in the list that it is in, or `#-1`.
-pub fn next_link(slots: &Vec<Slot>, k: u32) -> Dbref
+pub fn next_link(slots: &Slots, k: u32) -> Dbref
     requires order { HasOrder slots.now.items }
     requires known { k < length slots.now.items }
     ensures { result ≡ link_of (next_in (entries_of slots.now.items) k) }
@@ -87,7 +87,7 @@ pub fn next_link(slots: &Vec<Slot>, k: u32) -> Dbref
 }
 
 // What is stored of an object, with its chain fields.
-fn record_of(alloc: Global, slots: &Vec<Slot>, k: u32, object: &Object) -> Result<Stored, NoMemory>
+fn record_of(alloc: Global, slots: &Slots, k: u32, object: &Object) -> Result<Stored, NoMemory>
     requires order { HasOrder slots.now.items }
     requires known { k < length slots.now.items }
     requires object { object_in (entries_of slots.now.items) k ≡ Some object.now }
@@ -146,7 +146,7 @@ fn garbage(alloc: Global) -> Result<Object, NoMemory>
 
 // What is stored at a number: its object, or what is kept of one that was recycled.
 #[tactic(auto, using(crate::proofs::Cutting::object_stored))]
-fn object_at<'a>(slots: &'a Vec<Slot>, k: u32, blank: &'a Object) -> &'a Object
+fn object_at<'a>(slots: &'a Slots, k: u32, blank: &'a Object) -> &'a Object
     requires known { k < length slots.now.items }
     requires blank { blank.now ≡ garbage }
     ensures { object_in (entries_of slots.now.items) k ≡ Some result.now }
@@ -167,7 +167,7 @@ pub enum Extent {
 }
 
 // Whether a dump may leave out a number without a look at its object.
-fn is_passed(extent: Extent, slots: &Vec<Slot>, k: u32) -> bool
+fn is_passed(extent: Extent, slots: &Slots, k: u32) -> bool
     requires { k < length slots.now.items }
     ensures { result ≡ passes extent (saving_at slots.now.items k) }
 {
@@ -178,7 +178,7 @@ fn is_passed(extent: Extent, slots: &Vec<Slot>, k: u32) -> bool
 }
 
 // Whether a number is left out: it isn't looked at, or its object is kept so. It is compared in place with what is kept, which takes no memory.
-fn is_left_out(extent: Extent, base: &[Stored], slots: &Vec<Slot>, k: u32, object: &Object) -> bool
+fn is_left_out(extent: Extent, base: &[Stored], slots: &Slots, k: u32, object: &Object) -> bool
     requires order { HasOrder slots.now.items }
     requires known { k < length slots.now.items }
     requires object { object_in (entries_of slots.now.items) k ≡ Some object.now }
@@ -194,7 +194,7 @@ pub fn records_of(
     alloc: Global,
     extent: Extent,
     base: &[Stored],
-    slots: &Vec<Slot>,
+    slots: &Slots,
 ) -> Result<Row<Stored>, NoMemory>
     requires order { HasOrder slots.now.items }
     requires limits { IsWithinLimits (entries_of slots.now.items) }

@@ -40,7 +40,7 @@ use crate::setting::{
     Setting, check_any, check_flags, check_home, check_level, check_link, check_owner,
     check_player, check_program, put_prop, remove_prop, set_at, set_lines,
 };
-use crate::slot::Slot;
+use crate::slots::Slots;
 use crate::start::first_slots;
 use crate::telling::{clear_mark, marked, told_of};
 use crate::ties::{Ties, tether_of};
@@ -61,7 +61,7 @@ use std::marker::Model;
 /// fourteenth and at most 4,096 lines, and its digest is empty or 80 hex digits.
 #[derive(Drop)]
 pub struct Db {
-    slots: Vec<Slot>,
+    slots: Slots,
     // no garbage stands below this number
     lowest: u32,
     // nothing below this number is to be told of
@@ -423,9 +423,9 @@ impl Db {
     {
         let k = check_recycle(&self.slots, d)?;
         clear_out(&mut self.slots, &mut self.ties, k);
-        vanish(&mut self.slots, k);
-        self.lowest = 0;
-        self.told = 0;
+        let least = vanish(&mut self.slots, k);
+        self.lowest = self.lowest.min(least);
+        self.told = self.told.min(least);
         Ok(())
     }
 

@@ -19,6 +19,7 @@ mod recycling;
 mod seen;
 mod setting;
 mod slot;
+mod slots;
 mod start;
 mod telling;
 mod ties;

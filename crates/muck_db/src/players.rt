@@ -5,7 +5,7 @@ ghost use Rattle.muck_match.specs.inner.Listed.{IsAmong};
 ghost use Rattle.muck_db.specs.inner.Slots.{HasPlayers};
 
 use crate::moves::kind_of;
-use crate::slot::Slot;
+use crate::slots::Slots;
 use muck_model::{Kind, NoMemory};
 use std::alloc::Global;
 
@@ -22,7 +22,7 @@ pub fn list_player(players: &mut Vec<u32>, kind: Kind, n: u32) -> Result<(), NoM
 }
 
 /// The numbers of all players.
-pub fn players_of(alloc: Global, slots: &Vec<Slot>) -> Result<Vec<u32>, NoMemory>
+pub fn players_of(alloc: Global, slots: &Slots) -> Result<Vec<u32>, NoMemory>
     requires { length slots.now.items ≤ 100000 }
     ensures { IfOk result (λ players. HasPlayers slots.now.items players.items) }
 {

@@ -1,18 +1,19 @@
 // Recycling an object: nothing is tied to it any more, what it holds goes home, and it and its exits become garbage.
-ghost use Rattle.std.specs.Prelude.{◌≡◌, ◌≢◌, ◌<◌, ◌≤◌, ◌^◌, ℕ, Bool, [], map, length, false, true, IfOk, if◌then◌else◌, None};
+ghost use Rattle.std.specs.Prelude.{◌≡◌, ◌≢◌, ◌<◌, ◌≤◌, ◌^◌, ℕ, Bool, [], map, length, slice_get, false, true, IfOk, if◌then◌else◌, None};
 ghost use Rattle.spec_live.specs.declared.mark.Mark.TheVariants.{Gone};
 ghost use Rattle.spec_live.specs.Chain.{Ends};
-ghost use Rattle.spec_live.specs.Objects.{dbref_of, nothing, same, kind_in, list_in, changed_at};
+ghost use Rattle.spec_live.specs.Objects.{dbref_of, is_garbage, nothing, same, kind_in, list_in, changed_at};
 ghost use Rattle.spec_live.specs.Recycling.{is_tied, untied, wished_home, may_go, way_home, sent_home, is_exit_of, taken_away, recycle_check};
 ghost use Rattle.std.specs.BTreeSet.{contains};
 ghost use Rattle.std.specs.Ordering.{nat_cmp};
 ghost use Rattle.muck_db.specs.inner.Exits.{ListsExits};
 ghost use Rattle.muck_db.specs.inner.Ties.{is_tied_at, Notes, HasTies};
-ghost use Rattle.muck_db.specs.inner.Slots.{home_at, owner_at, shown, next_at, first_at, entries_of, untied_slot, new_slot, exit_wiped, wiped, HasOrder};
+ghost use Rattle.muck_db.specs.inner.Slots.{home_at, owner_at, kind_at, mark_at, shown, next_at, first_at, entries_of, untied_slot, new_slot, exit_wiped, wiped, HasOrder};
 
 use crate::links::{dbref_of, first_of, index_of, leads_to, next_of, take_out};
 use crate::moves::{fits, kind_of, number_of, relocate};
 use crate::slot::Slot;
+use crate::slots::Slots;
 use crate::ties::{Tied, Ties};
 use muck_model::{Dbref, Kind};
 use spec_live::{DbFault, Mark, Saving};
@@ -20,7 +21,7 @@ use std::collections::BTreeSet;
 
 // The number of an object that may be recycled.
 #[tactic(auto, using(crate::proofs::Bridge::kinds), unfolding(spec_live::specs::Recycling::recycle_check, spec_live::specs::Setting::checked))]
-pub fn check_recycle(slots: &Vec<Slot>, d: Dbref) -> Result<u32, DbFault>
+pub fn check_recycle(slots: &Slots, d: Dbref) -> Result<u32, DbFault>
     ensures is { result ≡ recycle_check d (entries_of slots.now.items) }
     ensures within { IfOk result (λ k. k < length slots.now.items) }
 {
@@ -75,18 +76,18 @@ fn untie_slot(slot: &mut Slot, d: u32)
 }
 
 #[tactic(auto, unfolding(spec_live::specs::Objects::changed_at))]
-fn untie_at(slots: &mut Vec<Slot>, k: u32, d: u32)
+fn untie_at(slots: &mut Slots, k: u32, d: u32)
     requires known { k < length slots.old.items }
     requires number { d < 2 ^ 31 }
     ensures items { slots.new.items ≡ changed_at k (untied_slot d) slots.old.items }
     ensures len { length slots.new.items ≡ length slots.old.items }
 {
-    untie_slot(&mut slots[k as usize], d);
+    untie_slot(slots.at_mut(k), d);
 }
 
 // Unties a number, where it is in the table.
 #[tactic(auto, unfolding(spec_live::specs::Objects::changed_at))]
-fn untie_known(slots: &mut Vec<Slot>, k: u32, d: u32)
+fn untie_known(slots: &mut Slots, k: u32, d: u32)
     requires { d < 2 ^ 31 }
     ensures items { slots.new.items ≡ changed_at k (untied_slot d) slots.old.items }
     ensures len { length slots.new.items ≡ length slots.old.items }
@@ -97,7 +98,7 @@ fn untie_known(slots: &mut Vec<Slot>, k: u32, d: u32)
 }
 
 // Unties those numbers, among which are all that are tied to `d`.
-fn untie_these(slots: &mut Vec<Slot>, numbers: &mut BTreeSet<u32>, d: u32)
+fn untie_these(slots: &mut Slots, numbers: &mut BTreeSet<u32>, d: u32)
     requires number { d < 2 ^ 31 }
     requires lower { d ≢ 0 }
     requires noted { (k : ℕ) → is_tied_at d slots.old.items k ≡ true → contains nat_cmp numbers.old k ≡ true }
@@ -109,7 +110,7 @@ fn untie_these(slots: &mut Vec<Slot>, numbers: &mut BTreeSet<u32>, d: u32)
 }
 
 // Unties all numbers, since it isn't known which are tied to `d`.
-fn untie_all(slots: &mut Vec<Slot>, d: u32)
+fn untie_all(slots: &mut Slots, d: u32)
     requires few { length slots.old.items ≤ 100000 }
     requires number { d < 2 ^ 31 }
     ensures { slots.new.items ≡ map (untied_slot d) slots.old.items }
@@ -121,7 +122,7 @@ fn untie_all(slots: &mut Vec<Slot>, d: u32)
 }
 
 // Unties what is noted at `d`, where nothing is noted then.
-fn untie_noted(slots: &mut Vec<Slot>, tied: &mut Tied, d: u32)
+fn untie_noted(slots: &mut Slots, tied: &mut Tied, d: u32)
     requires few { length slots.old.items ≤ 100000 }
     requires number { d < 2 ^ 31 }
     requires lower { d ≢ 0 }
@@ -138,7 +139,7 @@ fn untie_noted(slots: &mut Vec<Slot>, tied: &mut Tied, d: u32)
 }
 
 // No object has its home in `d` or a link to it any more.
-fn untie(slots: &mut Vec<Slot>, ties: &mut Ties, d: u32)
+fn untie(slots: &mut Slots, ties: &mut Ties, d: u32)
     requires few { length slots.old.items ≤ 100000 }
     requires known { d < length slots.old.items }
     requires lower { d ≢ 0 }
@@ -150,10 +151,10 @@ fn untie(slots: &mut Vec<Slot>, ties: &mut Ties, d: u32)
 }
 
 #[tactic(auto, unfolding(crate::specs::inner::Slots::home_at, crate::specs::inner::Slots::object_at, spec_live::specs::Objects::garbage))]
-fn home_of(slots: &Vec<Slot>, k: u32) -> Option<u32>
+fn home_of(slots: &Slots, k: u32) -> Option<u32>
     ensures { result ≡ home_at slots.now.items k }
 {
-    match slots.get(k as usize) {
+    match slots.get(k) {
         Some(
             Slot {
                 object: Some(object),
@@ -165,10 +166,10 @@ fn home_of(slots: &Vec<Slot>, k: u32) -> Option<u32>
 }
 
 #[tactic(auto, unfolding(crate::specs::inner::Slots::owner_at, crate::specs::inner::Slots::object_at, spec_live::specs::Objects::garbage))]
-fn owner_of(slots: &Vec<Slot>, k: u32) -> Option<u32>
+fn owner_of(slots: &Slots, k: u32) -> Option<u32>
     ensures { result ≡ owner_at slots.now.items k }
 {
-    match slots.get(k as usize) {
+    match slots.get(k) {
         Some(
             Slot {
                 object: Some(object),
@@ -183,7 +184,7 @@ fn owner_of(slots: &Vec<Slot>, k: u32) -> Option<u32>
 
 // Where `x` goes when it is sent home, if it may.
 #[tactic(auto, using(crate::proofs::Bridge::homes), unfolding(spec_live::specs::Recycling::wished_home))]
-fn wished_home(slots: &Vec<Slot>, x: u32) -> Option<u32>
+fn wished_home(slots: &Slots, x: u32) -> Option<u32>
     ensures { result ≡ wished_home x (entries_of slots.now.items) (kind_in (entries_of slots.now.items) x) }
 {
     match kind_of(slots, x) {
@@ -198,7 +199,7 @@ fn wished_home(slots: &Vec<Slot>, x: u32) -> Option<u32>
 
 // Whether `x` may go there, which isn't inside it.
 #[tactic(auto, using(crate::proofs::Bridge::kinds), unfolding(spec_live::specs::Recycling::may_go))]
-fn may_go(slots: &Vec<Slot>, x: u32, to: u32) -> bool
+fn may_go(slots: &Slots, x: u32, to: u32) -> bool
     requires { HasOrder slots.now.items }
     ensures { result ≡ may_go x to (entries_of slots.now.items) }
 {
@@ -210,7 +211,7 @@ fn may_go(slots: &Vec<Slot>, x: u32, to: u32) -> bool
 
 // Where `x` goes when it is sent home.
 #[tactic(auto, unfolding(spec_live::specs::Recycling::way_home))]
-fn way_home(slots: &Vec<Slot>, x: u32) -> u32
+fn way_home(slots: &Slots, x: u32) -> u32
     requires { HasOrder slots.now.items }
     ensures { result ≡ way_home x (entries_of slots.now.items) }
 {
@@ -221,7 +222,7 @@ fn way_home(slots: &Vec<Slot>, x: u32) -> u32
 }
 
 // Unties all objects from `d`, and sends its contents home, from the front on.
-pub fn clear_out(slots: &mut Vec<Slot>, ties: &mut Ties, d: u32)
+pub fn clear_out(slots: &mut Slots, ties: &mut Ties, d: u32)
     requires order { HasOrder slots.old.items }
     requires known { d < length slots.old.items }
     requires lower { d ≢ 0 }
@@ -276,46 +277,55 @@ fn wipe_slot(slot: &mut Slot, d: u32)
 }
 
 #[tactic(auto, unfolding(spec_live::specs::Objects::changed_at))]
-fn wipe_exit(slots: &mut Vec<Slot>, k: u32, d: u32)
+fn wipe_exit(slots: &mut Slots, k: u32, d: u32)
     requires known { k < length slots.old.items }
     requires number { d < 2 ^ 31 }
     ensures items { slots.new.items ≡ changed_at k (exit_wiped d) slots.old.items }
     ensures len { length slots.new.items ≡ length slots.old.items }
 {
-    wipe_slot(&mut slots[k as usize], d);
+    wipe_slot(slots.at_mut(k), d);
 }
 
-// The exits of `d`, which its list has, become garbage. What was wiped doesn't know any more what stood behind it.
-fn wipe_exits(slots: &mut Vec<Slot>, d: u32)
+// The exits of `d`, which its list has, become garbage. What was wiped doesn't know any more what stood behind it. It answers the least of them, or `d`
+// where that is less.
+fn wipe_exits(slots: &mut Slots, d: u32) -> u32
     requires known { d < length slots.old.items }
     requires number { d < 2 ^ 31 }
     requires exits { ListsExits d slots.old.items }
-    ensures { slots.new.items ≡ map (exit_wiped d) slots.old.items }
+    ensures items { slots.new.items ≡ map (exit_wiped d) slots.old.items }
+    ensures most { result ≤ d }
+    ensures below { (k : ℕ) → k < result → slice_get slots.new.items k ≡ slice_get slots.old.items k }
 {
+    let mut least = d;
     let mut at = first_of(slots, true, d);
     while let Some(k) = at {
         at = next_of(slots, k);
         wipe_exit(slots, k, d);
+        least = least.min(k);
     }
+    least
 }
 
 #[tactic(auto, unfolding(spec_live::specs::Objects::changed_at))]
-fn wipe(slots: &mut Vec<Slot>, d: u32)
+fn wipe(slots: &mut Slots, d: u32)
     requires { d < length slots.old.items }
     ensures { slots.new.items ≡ changed_at d wiped slots.old.items }
 {
-    slots[d as usize] = gone_slot();
+    *slots.at_mut(d) = gone_slot();
 }
 
-// Takes `d`, in which nothing is but its exits, out of its list; it and its exits become garbage.
-pub fn vanish(slots: &mut Vec<Slot>, d: u32)
+// Takes `d`, in which nothing is but its exits, out of its list; it and its exits become garbage. It answers the least number that became garbage.
+pub fn vanish(slots: &mut Slots, d: u32) -> u32
     requires order { HasOrder slots.old.items }
     requires empty { list_in false (entries_of slots.old.items) d ≡ [] }
     requires known { d < length slots.old.items }
     ensures entries { entries_of slots.new.items ≡ taken_away d (entries_of slots.old.items) }
     ensures ends { (v : Bool) (p : ℕ) → Ends (length slots.new.items) (next_at slots.new.items) (first_at v slots.new.items p) }
+    ensures full { (k : ℕ) → k < result → is_garbage (kind_at slots.old.items k) ≡ false → is_garbage (kind_at slots.new.items k) ≡ false }
+    ensures unmarked { (k : ℕ) → k < result → mark_at slots.old.items k ≡ None → mark_at slots.new.items k ≡ None }
 {
     take_out(slots, d);
-    wipe_exits(slots, d);
+    let least = wipe_exits(slots, d);
     wipe(slots, d);
+    least
 }

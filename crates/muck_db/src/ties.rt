@@ -6,6 +6,7 @@ ghost use Rattle.muck_db.specs.inner.Ties.{link_at, Tethers, Notes, IsNoted, Has
 
 use crate::links::index_of;
 use crate::slot::Slot;
+use crate::slots::Slots;
 use muck_model::NoMemory;
 use std::alloc::Global;
 use std::collections::BTreeSet;
@@ -33,11 +34,11 @@ pub struct Tether {
 
 /// Where the home and the link of a number lead, both nowhere where it is garbage.
 #[tactic(auto, unfolding(crate::specs::inner::Slots::home_at, crate::specs::inner::Ties::link_at, crate::specs::inner::Slots::object_at, spec_live::specs::Objects::garbage))]
-pub fn tether_of(slots: &Vec<Slot>, k: u32) -> Tether
+pub fn tether_of(slots: &Slots, k: u32) -> Tether
     ensures home { result.home ≡ home_at slots.now.items k }
     ensures link { result.link ≡ link_at slots.now.items k }
 {
-    match slots.get(k as usize) {
+    match slots.get(k) {
         Some(
             Slot {
                 object: Some(object),
@@ -96,7 +97,7 @@ impl Ties {
     }
 
     /// What is tied to each number of a table.
-    pub fn of_slots(alloc: Global, slots: &Vec<Slot>) -> Result<Ties, NoMemory>
+    pub fn of_slots(alloc: Global, slots: &Slots) -> Result<Ties, NoMemory>
         requires { length slots.now.items ≤ 100000 }
         ensures { IfOk result (λ ties. HasTies slots.now.items ties.of.items) }
     {
