@@ -125,7 +125,7 @@ turn slots d x t s free low first home =
 -- Becoming garbage.
 
 -- what an object becomes where exits of d do
-unfoldable pub left_object : ℕ → Object → Object
+unfoldable left_object : ℕ → Object → Object
 left_object d o = cond (is_exit_of d o) garbage o
 
 pub length_wiped : (d : ℕ) (old new : List Slot) → new ≡ map (exit_wiped d) old → length new ≡ length old
@@ -296,10 +296,10 @@ gone_list false d e true h = ap (λ (z : Entry). list_of false (left_out d z)) (
 gone_list true d e false h = ap (λ (z : Entry). list_of true (left_out d z)) (stays_is d e h)
 gone_list false d e false h = ap (λ (z : Entry). list_of false (left_out d z)) (stays_is d e h)
 
-unfoldable exit_in : ℕ → List Entry → ℕ → Bool
+unfoldable pub exit_in : ℕ → List Entry → ℕ → Bool
 exit_in d es k = option_map_or (is_exit_of d) (object_in es k) false
 
-pub object_left_in : (d k : ℕ) (es : List Entry) → (k ≡ d → ⊥) → object_in (vanished d (exits_gone d es)) k ≡ option_map (left_object d) (object_in es k)
+object_left_in : (d k : ℕ) (es : List Entry) → (k ≡ d → ⊥) → object_in (vanished d (exits_gone d es)) k ≡ option_map (left_object d) (object_in es k)
 unfolding object_in
 object_left_in d k es ne = ap (λ (o : Option Entry). option_map (λ (e : Entry). e.object) o) (get_left d k es ne) ∙ by_cases (slice_get es k)
   where
@@ -332,7 +332,7 @@ pub exit_bridge : (d k : ℕ) (slots : List Slot) → exit_in d (entries_of slot
 unfolding exit_in exit_at
 exit_bridge d k slots = ap (λ (o : Option Object). option_map_or (is_exit_of d) o false) (object_in-entries_of slots k)
 
-pub gone_here : (d : ℕ) (es : List Entry) → d < length es → (object_in (vanished d (exits_gone d es)) d ≡ Some garbage) × (mark_in (vanished d (exits_gone d es)) d ≡ Some Gone) × ((v : Bool) → list_in v (vanished d (exits_gone d es)) d ≡ [])
+gone_here : (d : ℕ) (es : List Entry) → d < length es → (object_in (vanished d (exits_gone d es)) d ≡ Some garbage) × (mark_in (vanished d (exits_gone d es)) d ≡ Some Gone) × ((v : Bool) → list_in v (vanished d (exits_gone d es)) d ≡ [])
 unfolding object_in mark_in list_in gone_entry
 gone_here d es lt = (ap (λ (o : Option Entry). option_map (λ (e : Entry). e.object) o) (get_gone d es lt), ap (λ (o : Option Entry). option_and_then (λ (e : Entry). e.mark) o) (get_gone d es lt), λ v. ap (λ (o : Option Entry). option_map_or (list_of v) o []) (get_gone d es lt) ∙ none v)
   where

@@ -1,13 +1,13 @@
 -- Who is tied to a number is noted there.
-use Rattle.std.proofs.Common.{◌≡◌, ◌⊎◌, ℕ, ◌+◌, ◌<◌, ◌≤◌, List, [], ◌∷◌, ◌++◌, Option, Some, None, inl, inr, refl, sym, ◌∙◌, ap, subst, length, length-append, arith, Bool, true, false, cond, ◌||◌, map, Result, Ok}
+use Rattle.std.proofs.Common.{◌≡◌, ◌⊎◌, ℕ, zero, suc, get_or, ◌+◌, ◌<◌, ◌≤◌, List, [], ◌∷◌, ◌++◌, Option, Some, None, inl, inr, refl, sym, ◌∙◌, ap, subst, length, length-append, arith, Bool, true, false, cond, ◌||◌, map, Result, Ok}
 use Rattle.std.proofs.lemmas.Bool.{cases_eq, cases_lt, false≢true}
-use Rattle.std.proofs.lemmas.Option.{slice_get-map, slice_get_past}
+use Rattle.std.proofs.lemmas.Option.{slice_get-map, slice_get_past, slice_get_read, get_or_from_slice_get}
 use Rattle.std.proofs.lemmas.Map.Lookups.{exact_unsigned}
 use Rattle.std.specs.declared.cmp.Ordering.{Ordering}
 use Rattle.std.specs.declared.cmp.Ordering.TheVariants.{Less, Equal, Greater}
 use Rattle.std.specs.Ordering.{is_eq, nat_cmp}
 use Rattle.std.specs.BTreeMap.{is_at}
-use Rattle.std.specs.List.{slice_get, list_any}
+use Rattle.std.specs.List.{slice_get, slice_set, list_any}
 use Rattle.std.specs.Option.{option_map, option_and_then, option_map_or}
 use Rattle.muck_model.specs.declared.dbref.Dbref.{Dbref}
 use Rattle.muck_model.specs.declared.dbref.Kind.{Kind}
@@ -21,24 +21,23 @@ use Rattle.spec_live.specs.Objects.{Entry, dbref_of, nothing, home, index_of, sa
 use Rattle.spec_live.specs.Moving.{with_place, moved}
 use Rattle.spec_live.specs.Setting.{may_live}
 use Rattle.spec_live.specs.Making.{blank_entry, grown, has_home, new_object, create_check}
-use Rattle.spec_live.specs.Recycling.{without_ties, is_tied, is_exit_of, exits_gone, vanished, taken_away}
+use Rattle.spec_live.specs.Recycling.{without_ties, is_tied}
 use Rattle.spec_live.specs.Consistent.{IsTied, HasLink, HasHome, IsConsistent}
 use Rattle.spec_live.proofs.Checks.{index_only, alive_known}
 use Rattle.spec_live.proofs.KindLaws.{linked_alive, home_alive}
 use Rattle.spec_live.proofs.HomeLaws.{not_nothing}
-use Rattle.spec_live.proofs.RecyclingLaws.{length_taken, object_taken}
 use Rattle.spec_live.proofs.CreationLaws.{may_create, Begins, begins, grown_more, grown_same, object_more}
 use Rattle.spec_live.proofs.Lists.{length_map, length_changed, get_changed_same, get_changed_other}
 use Rattle.spec_live.proofs.Readers.{length_moved, object_moved, object_unmoved, object_named, object_unnamed}
 use Rattle.muck_db.specs.declared.slot.Slot.{Slot}
 use Rattle.muck_db.specs.declared.ties.Tied.{Tied}
 use Rattle.muck_db.specs.declared.ties.Tether.{Tether}
-use Rattle.muck_db.specs.inner.Slots.{shown, object_at, home_at, on_slot, with_saving, with_mark, with_source, with_slot_lines, entries_of, untied_slot}
+use Rattle.muck_db.specs.inner.Slots.{shown, object_at, home_at, on_slot, with_saving, with_mark, with_source, with_slot_lines, entries_of, untied_slot, IsUnlinked}
 use Rattle.muck_db.specs.inner.Ties.{is_tied_at, link_at, Tethers, Notes, IsNoted, HasTies}
 use Rattle.muck_db.proofs.Readers.{length-entries_of, object_in-entries_of}
 use Rattle.muck_db.proofs.Writes.{get_ext}
 use Rattle.muck_db.proofs.Creating.{Put}
-use Rattle.muck_db.proofs.Leaving.{whether, left_object, gone_here, object_left_in}
+use Rattle.muck_db.proofs.Leaving.{whether}
 
 -- What a tie is.
 
@@ -83,6 +82,62 @@ link_tied d k slots h = by_cases (object_at slots k) h
 tied_past : (d k : ℕ) (slots : List Slot) → length slots ≤ k → is_tied_at d slots k ≡ false
 unfolding is_tied_at object_at
 tied_past d k slots past = ap (λ (o : Option Slot). option_map_or (is_tied d) (option_map shown o) false) (slice_get_past slots k past)
+
+-- A write of what is noted at one number.
+
+set_same : (ties : List Tied) (d : ℕ) (s t : Tied) → slice_get (slice_set ties d s) d ≡ Some t → t ≡ s
+set_same [] d s t h = absurd (cc h)
+set_same (x ∷ xs) zero s t h = cc h
+set_same (x ∷ xs) (suc d) s t h = set_same xs d s t h
+
+set_other : (ties : List Tied) (d e : ℕ) (s : Tied) → (e ≡ d → ⊥) → slice_get (slice_set ties d s) e ≡ slice_get ties e
+set_other [] d e s ne = refl
+set_other (x ∷ xs) zero zero s ne = absurd (ne refl)
+set_other (x ∷ xs) zero (suc e) s ne = refl
+set_other (x ∷ xs) (suc d) zero s ne = refl
+set_other (x ∷ xs) (suc d) (suc e) s ne = set_other xs d e s (λ q. ne (ap suc q))
+
+set_was : (ties : List Tied) (d : ℕ) (s t : Tied) → slice_get (slice_set ties d s) d ≡ Some t → (x : Tied) × (slice_get ties d ≡ Some x)
+set_was [] d s t h = absurd (cc h)
+set_was (x ∷ xs) zero s t h = (x, refl)
+set_was (x ∷ xs) (suc d) s t h = set_was xs d s t h
+
+pub noted_else : (ties : List Tied) (d e j : ℕ) (s : Tied) → (e ≡ d → ⊥) → IsNoted ties e j → IsNoted (slice_set ties d s) e j
+unfolding IsNoted
+noted_else ties d e j s ne h t there = h t (sym (set_other ties d e s ne) ∙ there)
+
+pub noted_here : (ties : List Tied) (d j : ℕ) (s : Tied) → Notes s j → IsNoted (slice_set ties d s) d j
+unfolding IsNoted
+noted_here ties d j s n t there = subst (λ (z : Tied). Notes z j) (sym (set_same ties d s t there)) n
+
+pub noted_kept : (ties : List Tied) (d e j : ℕ) (x s : Tied) → x ≡ get_or ties d x → (Notes x j → Notes s j) → IsNoted ties e j → IsNoted (slice_set ties d s) e j
+unfolding IsNoted
+noted_kept ties d e j x s is keep h = elim (cases_eq e d) [
+  | inl q ↦ λ t there.
+      let at : slice_get (slice_set ties d s) d ≡ Some t = subst (λ (z : ℕ). slice_get (slice_set ties d s) z ≡ Some t) q there in
+      let was : (y : Tied) × (slice_get ties d ≡ Some y) = set_was ties d s t at in
+      let same : x ≡ was.0 = is ∙ get_or_from_slice_get ties d was.0 x was.1 in
+      let old : Notes x j = subst (λ (z : Tied). Notes z j) (sym same) (h was.0 (subst (λ (z : ℕ). slice_get ties z ≡ Some was.0) (sym q) was.1)) in
+      subst (λ (z : Tied). Notes z j) (sym (set_same ties d s t at)) (keep old)
+  | inr ne ↦ λ t there. h t (sym (set_other ties d e s ne) ∙ there)
+]
+
+pub noted_past : (ties : List Tied) (d j : ℕ) → length ties ≤ d → IsNoted ties d j
+unfolding IsNoted
+noted_past ties d j past t there = absurd (cc (there, slice_get_past ties d past))
+
+pub zero_never : (d e : ℕ) (o : Option ℕ) → d ≤ 0 → o ≡ Some d → (e ≡ 0 → ⊥) → o ≡ Some e → ⊥
+zero_never d e o least is low so = let same : d ≡ e = cc (is, so) in low (omega (arith, least, same))
+
+-- what is untied, as a pass over what is noted wants it
+pub untie_may : (slots : List Slot) (ties : List Tied) (d : ℕ) (x : Tied) → HasTies slots ties → (d ≡ 0 → ⊥) → d < length slots → x ≡ get_or ties d x → (k : ℕ) → is_tied_at d slots k ≡ true → Notes x k
+unfolding IsNoted
+untie_may slots ties d x h low known is k tied = h.noted d k low tied x (slice_get_read ties (length ties) d x refl (omega (arith, known, h.long)) is)
+
+pub set_long : (ties : List Tied) (d : ℕ) (s : Tied) → length (slice_set ties d s) ≡ length ties
+set_long [] d s = refl
+set_long (x ∷ xs) zero s = refl
+set_long (x ∷ xs) (suc d) s = ap suc (set_long xs d s)
 
 -- The ties of a table, made number by number.
 
@@ -189,41 +244,13 @@ ties_moved x to old new ties is h = ties_fewer old new ties (record {
   fewer = λ d k t. sym (tied_in d k old) ∙ sym (moved_tied d k x to (entries_of old)) ∙ tied_as d k new (moved x to (entries_of old)) is t;
 }) h
 
--- Nothing is tied to garbage, nor through it.
+-- Ends of ties.
 
 same_number : (a b : ℕ) → same (dbref_of a) (dbref_of b) ≡ true → a ≡ b
 same_number a b h = cc (ap (λ z. z.0) (eq_same (dbref_of a) (dbref_of b) h))
 
 not_home : (d : ℕ) → home ≡ dbref_of d → ⊥
 not_home d e = cc (ap (λ (z : Dbref). z.0) e)
-
-not_garbage : (d : ℕ) → is_tied d garbage ≡ true → ⊥
-unfolding garbage
-not_garbage d h = either (same nothing (dbref_of d)) (same nothing (dbref_of d)) ⊥ (λ q. not_nothing d (eq_same nothing (dbref_of d) q)) (λ q. not_nothing d (eq_same nothing (dbref_of d) q)) h
-
--- what has vanished, and its exits, is tied to nothing
-pub ties_taken : (x : ℕ) (old new : List Slot) (ties : List Tied) → x < length old → entries_of new ≡ taken_away x (entries_of old) → HasTies old ties → HasTies new ties
-unfolding left_object
-ties_taken x old new ties lt is h =
-    let es : List Entry = entries_of old in
-    let known : x < length es = omega (arith, lt, length-entries_of old) in
-    ties_fewer old new ties (record {
-      short = omega (arith, length-entries_of new, length-entries_of old, ap (λ (z : List Entry). length z) is, length_taken es x);
-      fewer = λ d k t.
-          let now : option_map_or (is_tied d) (object_in (vanished x (exits_gone x es)) k) false ≡ true = sym (ap (λ (o : Option Object). option_map_or (is_tied d) o false) (object_taken es x k)) ∙ tied_as d k new (taken_away x es) is t in
-          elim (cases_eq k x) [
-            | inl e ↦ absurd (not_garbage d (sym (ap (λ (o : Option Object). option_map_or (is_tied d) o false) (subst (λ (z : ℕ). object_in (vanished x (exits_gone x es)) z ≡ Some garbage) (sym e) (gone_here x es known).0)) ∙ now))
-            | inr ne ↦ sym (tied_in d k old) ∙ by_cases d (object_in es k) (sym (ap (λ (o : Option Object). option_map_or (is_tied d) o false) (object_left_in x k es ne)) ∙ now)
-          ];
-    }) h
-  where
-    here : (d : ℕ) (o : Object) (b : Bool) → is_tied d (cond b garbage o) ≡ true → is_tied d o ≡ true
-    here d o true q = absurd (not_garbage d q)
-    here d o false q = q
-
-    by_cases : (d : ℕ) (o : Option Object) → option_map_or (is_tied d) (option_map (left_object x) o) false ≡ true → option_map_or (is_tied d) o false ≡ true
-    by_cases d None q = q
-    by_cases d (Some o) q = here d o (is_exit_of x o) q
 
 -- Untying.
 
@@ -264,7 +291,7 @@ table_untied_so d e k old new low is h = by_cases (slice_get old k) (sym (ap (λ
     by_cases (Some s) q = slot_untied_so d e s low q
 
 -- what is noted at d alone changes
-pub ties_untied : (d : ℕ) (old new : List Slot) (ties after : List Tied) → new ≡ map (untied_slot d) old → length after ≡ length ties → ((e : ℕ) → (e ≡ d → ⊥) → slice_get after e ≡ slice_get ties e) → HasTies old ties → HasTies new after
+ties_untied : (d : ℕ) (old new : List Slot) (ties after : List Tied) → new ≡ map (untied_slot d) old → length after ≡ length ties → ((e : ℕ) → (e ≡ d → ⊥) → slice_get after e ≡ slice_get ties e) → HasTies old ties → HasTies new after
 unfolding IsNoted
 ties_untied d old new ties after is long others h = record {
   long = omega (arith, h.long, long, ap (λ (z : List Slot). length z) is, length_map (untied_slot d) old);
@@ -272,6 +299,9 @@ ties_untied d old new ties after is long others h = record {
       let was : (e ≡ d → ⊥) × (is_tied_at e old k ≡ true) = table_untied_so d e k old new low is tied in
       h.noted e k low was.1 t (sym (others e was.0) ∙ there);
 }
+
+pub ties_emptied : (d : ℕ) (old new : List Slot) (ties : List Tied) (s : Tied) → new ≡ map (untied_slot d) old → HasTies old ties → HasTies new (slice_set ties d s)
+ties_emptied d old new ties s is h = ties_untied d old new ties (slice_set ties d s) is (set_long ties d s) (λ e ne. set_other ties d e s ne) h
 
 -- a slot that isn't tied to d stays as it is
 end_stays : (d : ℕ) (a z : Dbref) → same a (dbref_of d) ≡ false → cond (same a (dbref_of d)) z a ≡ a
@@ -351,6 +381,12 @@ unties_all d old cur left none u = get_ext cur (map (untied_slot d) old) (λ k. 
   | inl q ↦ q ∙ sym (slice_get-map (untied_slot d) old k)
   | inr q ↦ absurd (false≢true (subst (λ (l : List ℕ). list_any (is_at (nat_cmp k)) l ≡ true) none q.1))
 ])
+
+-- Out of a list.
+
+pub ties_unlinked : (x : ℕ) (old mid : List Slot) (ties : List Tied) → IsUnlinked x old mid → HasTies old ties → HasTies mid ties
+unfolding is_tied_at
+ties_unlinked x old mid ties u h = ties_fewer old mid ties (record { short = omega (arith, u.same_length); fewer = λ d k t. sym (ap (λ (o : Option Object). option_map_or (is_tied d) o false) (u.same_objects k)) ∙ t }) h
 
 -- Setting a field.
 

@@ -423,7 +423,7 @@ impl Db {
     {
         let k = check_recycle(&self.slots, d)?;
         clear_out(&mut self.slots, &mut self.ties, k);
-        let least = vanish(&mut self.slots, k);
+        let least = vanish(&mut self.slots, &mut self.ties, k);
         self.lowest = self.lowest.min(least);
         self.told = self.told.min(least);
         Ok(())

@@ -14,7 +14,7 @@ use crate::links::{dbref_of, first_of, index_of, leads_to, next_of, take_out};
 use crate::moves::{fits, kind_of, number_of, relocate};
 use crate::slot::Slot;
 use crate::slots::Slots;
-use crate::ties::{Tied, Ties};
+use crate::ties::{Tied, Ties, tether_of};
 use muck_model::{Dbref, Kind};
 use spec_live::{DbFault, Mark, Saving};
 use std::collections::BTreeSet;
@@ -277,7 +277,7 @@ fn wipe_slot(slot: &mut Slot, d: u32)
 }
 
 #[tactic(auto, unfolding(spec_live::specs::Objects::changed_at))]
-fn wipe_exit(slots: &mut Slots, k: u32, d: u32)
+fn wipe_exit_at(slots: &mut Slots, k: u32, d: u32)
     requires known { k < length slots.old.items }
     requires number { d < 2 ^ 31 }
     ensures items { slots.new.items ≡ changed_at k (exit_wiped d) slots.old.items }
@@ -286,46 +286,75 @@ fn wipe_exit(slots: &mut Slots, k: u32, d: u32)
     wipe_slot(slots.at_mut(k), d);
 }
 
+// An exit of `d` becomes garbage, and isn't noted any more where it led.
+fn wipe_exit(slots: &mut Slots, ties: &mut Ties, k: u32, d: u32)
+    requires known { k < length slots.old.items }
+    requires number { d < 2 ^ 31 }
+    requires tied { HasTies slots.old.items ties.old.of.items }
+    ensures items { slots.new.items ≡ changed_at k (exit_wiped d) slots.old.items }
+    ensures tied { HasTies slots.new.items ties.new.of.items }
+{
+    let before = tether_of(slots, k);
+    wipe_exit_at(slots, k, d);
+    ties.retie(k, before, tether_of(slots, k));
+}
+
 // The exits of `d`, which its list has, become garbage. What was wiped doesn't know any more what stood behind it. It answers the least of them, or `d`
 // where that is less.
-fn wipe_exits(slots: &mut Slots, d: u32) -> u32
+fn wipe_exits(slots: &mut Slots, ties: &mut Ties, d: u32) -> u32
     requires known { d < length slots.old.items }
     requires number { d < 2 ^ 31 }
     requires exits { ListsExits d slots.old.items }
+    requires tied { HasTies slots.old.items ties.old.of.items }
     ensures items { slots.new.items ≡ map (exit_wiped d) slots.old.items }
     ensures most { result ≤ d }
     ensures below { (k : ℕ) → k < result → slice_get slots.new.items k ≡ slice_get slots.old.items k }
+    ensures tied { HasTies slots.new.items ties.new.of.items }
 {
     let mut least = d;
     let mut at = first_of(slots, true, d);
     while let Some(k) = at {
         at = next_of(slots, k);
-        wipe_exit(slots, k, d);
+        wipe_exit(slots, ties, k, d);
         least = least.min(k);
     }
     least
 }
 
 #[tactic(auto, unfolding(spec_live::specs::Objects::changed_at))]
-fn wipe(slots: &mut Slots, d: u32)
+fn wipe_at(slots: &mut Slots, d: u32)
     requires { d < length slots.old.items }
     ensures { slots.new.items ≡ changed_at d wiped slots.old.items }
 {
     *slots.at_mut(d) = gone_slot();
 }
 
+// An object becomes garbage, and isn't noted any more where it lived or led.
+fn wipe(slots: &mut Slots, ties: &mut Ties, d: u32)
+    requires known { d < length slots.old.items }
+    requires tied { HasTies slots.old.items ties.old.of.items }
+    ensures items { slots.new.items ≡ changed_at d wiped slots.old.items }
+    ensures tied { HasTies slots.new.items ties.new.of.items }
+{
+    let before = tether_of(slots, d);
+    wipe_at(slots, d);
+    ties.retie(d, before, tether_of(slots, d));
+}
+
 // Takes `d`, in which nothing is but its exits, out of its list; it and its exits become garbage. It answers the least number that became garbage.
-pub fn vanish(slots: &mut Slots, d: u32) -> u32
+pub fn vanish(slots: &mut Slots, ties: &mut Ties, d: u32) -> u32
     requires order { HasOrder slots.old.items }
     requires empty { list_in false (entries_of slots.old.items) d ≡ [] }
     requires known { d < length slots.old.items }
+    requires tied { HasTies slots.old.items ties.old.of.items }
     ensures entries { entries_of slots.new.items ≡ taken_away d (entries_of slots.old.items) }
     ensures ends { (v : Bool) (p : ℕ) → Ends (length slots.new.items) (next_at slots.new.items) (first_at v slots.new.items p) }
     ensures full { (k : ℕ) → k < result → is_garbage (kind_at slots.old.items k) ≡ false → is_garbage (kind_at slots.new.items k) ≡ false }
     ensures unmarked { (k : ℕ) → k < result → mark_at slots.old.items k ≡ None → mark_at slots.new.items k ≡ None }
+    ensures tied { HasTies slots.new.items ties.new.of.items }
 {
     take_out(slots, d);
-    let least = wipe_exits(slots, d);
-    wipe(slots, d);
+    let least = wipe_exits(slots, ties, d);
+    wipe(slots, ties, d);
     least
 }

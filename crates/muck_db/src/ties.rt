@@ -1,6 +1,6 @@
 // Who is tied to a number: who has its home there, or a link to it. It is noted at that number, so that recycling an
 // object looks at those alone.
-ghost use Rattle.std.specs.Prelude.{◌≡◌, ◌<◌, ◌≤◌, ℕ, length, true, IfOk, OnOk, Some};
+ghost use Rattle.std.specs.Prelude.{◌≡◌, ◌<◌, ◌≤◌, ℕ, length, false, true, IfOk, OnOk, Some};
 ghost use Rattle.muck_db.specs.inner.Slots.{home_at};
 ghost use Rattle.muck_db.specs.inner.Ties.{link_at, Tethers, Notes, IsNoted, HasTies};
 
@@ -53,6 +53,25 @@ pub fn tether_of(slots: &Slots, k: u32) -> Tether
             link: None,
         },
     }
+}
+
+fn leads(to: Option<u32>, d: u32) -> bool
+    ensures { result ≡ false → to ≡ Some d → ⊥ }
+{
+    match to {
+        Some(n) => n == d,
+        None => false,
+    }
+}
+
+// Whether a home or a link leads there.
+fn tethers(tether: Tether, d: u32) -> bool
+    ensures { result ≡ false → Tethers tether d → ⊥ }
+{
+    if leads(tether.home, d) {
+        return true;
+    }
+    leads(tether.link, d)
 }
 
 impl Tied {
@@ -122,6 +141,17 @@ impl Ties {
         Ok(())
     }
 
+    // Notes a number at another one.
+    fn note_at(&mut self, d: u32, k: u32)
+        ensures long { length self.new.of.items ≡ length self.old.of.items }
+        ensures others { (e j : ℕ) → IsNoted self.old.of.items e j → IsNoted self.new.of.items e j }
+        ensures noted { IsNoted self.new.of.items d k }
+    {
+        if (d as usize) < self.of.len() {
+            self.of[d as usize].note(k);
+        }
+    }
+
     // Notes a number at the one that it is tied to.
     fn note(&mut self, to: Option<u32>, k: u32)
         ensures long { length self.new.of.items ≡ length self.old.of.items }
@@ -131,8 +161,8 @@ impl Ties {
         let Some(d) = to else {
             return;
         };
-        if d > 0 && (d as usize) < self.of.len() {
-            self.of[d as usize].note(k);
+        if d > 0 {
+            self.note_at(d, k);
         }
     }
 
@@ -155,7 +185,7 @@ impl Ties {
         let Some(d) = from else {
             return;
         };
-        if tether.home == from || tether.link == from {
+        if tethers(tether, d) {
             return;
         }
         if (d as usize) < self.of.len() {

@@ -4,7 +4,7 @@ use Rattle.muck_db.proofs.Exiting.{wipes_none, wipes_more, wipes_all, wipes_shor
 use Rattle.muck_db.proofs.recycling.wipe_exits.Goals as goal
 
 pub loop-at-init : goal.loop-at-init
-loop-at-init c = record { wipes = wipes_none c.args.d c.args.slots.now.items _ c.first_of-at.ensures c.requires.exits; most = omega arith; below = λ k lt. refl }
+loop-at-init c = record { wipes = wipes_none c.args.d c.args.slots.now.items _ c.first_of-at.ensures c.requires.exits; most = omega arith; below = λ k lt. refl; tied = c.requires.tied }
 
 pub next_of-at-requires : goal.next_of-at-requires
 next_of-at-requires c = ends_within _ _ _ _ c.in-Some.is c.loop-at.invariant.wipes.ends
@@ -20,6 +20,7 @@ loop-at-preserved c = record {
   wipes = wipes_more c.args.d c.in-Some.k _ _ _ _ _ c.in-Some.is c.next_of-at.ensures c.wipe_exit.ensures.items c.loop-at.invariant.wipes;
   most = omega (arith, c.loop-at.invariant.most, c.min-least.ensures);
   below = λ k lt. below_wiped c.args.d c.in-Some.k k _ _ _ c.wipe_exit.ensures.items (omega (arith, lt, c.min-least.ensures)) (c.loop-at.invariant.below k (omega (arith, lt, c.min-least.ensures)));
+  tied = c.wipe_exit.ensures.tied;
 }
 
 pub returns-clause-items : goal.returns-clause-items

@@ -7,7 +7,6 @@ use Rattle.muck_db.specs.inner.Slots.{entries_of}
 use Rattle.muck_db.proofs.Bridge.{sound_order}
 use Rattle.muck_db.proofs.Leaving.{length_cleared, recycled_from, does_recycled}
 use Rattle.muck_db.proofs.Bounds.{kept_gone}
-use Rattle.muck_db.proofs.Tying.{ties_taken}
 use Rattle.muck_db.proofs.db.Db.recycle.Goals as goal
 
 pub clear_out-requires-clause-order : goal.clear_out-requires-clause-order
@@ -22,11 +21,11 @@ vanish-least-requires-clause-known c = length_cleared c.in_ok-k.k _ _ c.in_ok-k.
 pub invariant_of-self : goal.invariant_of-self
 invariant_of-self c = record {
   kept =
-    kept_gone c.args.d c.in_ok-k.k c.self.inside.slots.items c.clear_out.new.slots.items c.vanish-least.new.slots.items c.self.inside.lowest c.self.inside.told c.vanish-least.result _ _ _
-    (sym c.check_recycle.ensures.is ∙ c.in_ok-k.was) c.clear_out.ensures.sent c.vanish-least.ensures.entries c.vanish-least.ensures.ends
-    (record { full = c.vanish-least.ensures.full; unmarked = c.vanish-least.ensures.unmarked })
-    (omega (arith, c.min-self-inside.ensures)) (omega (arith, c.min-self-inside.ensures)) (omega (arith, c.min-self-inside-2.ensures)) (omega (arith, c.min-self-inside-2.ensures)) c.self.invariant.kept;
-  tied = ties_taken c.in_ok-k.k _ _ _ (length_cleared c.in_ok-k.k _ _ c.in_ok-k.ensures.within c.clear_out.ensures.sent) c.vanish-least.ensures.entries c.clear_out.ensures.tied;
+      kept_gone c.args.d c.in_ok-k.k c.self.inside.slots.items c.clear_out.new.slots.items c.vanish-least.new.slots.items c.self.inside.lowest c.self.inside.told c.vanish-least.result _ _ _
+      (sym c.check_recycle.ensures.is ∙ c.in_ok-k.was) c.clear_out.ensures.sent c.vanish-least.ensures.entries c.vanish-least.ensures.ends
+      (record { full = c.vanish-least.ensures.full; unmarked = c.vanish-least.ensures.unmarked })
+      (omega (arith, c.min-self-inside.ensures)) (omega (arith, c.min-self-inside.ensures)) (omega (arith, c.min-self-inside-2.ensures)) (omega (arith, c.min-self-inside-2.ensures)) c.self.invariant.kept;
+  tied = c.vanish-least.ensures.tied;
 }
 
 pub returns : goal.returns
