@@ -104,15 +104,17 @@ impl Tied {
 }
 
 impl Ties {
-    // Nothing is tied to so many numbers.
+    // Room for so many numbers, to which nothing is tied.
     fn none(alloc: Global, n: u32) -> Result<Ties, NoMemory>
-        ensures { IfOk result (λ ties. length ties.of.items ≡ n) }
+        ensures { IfOk result (λ ties. n ≤ length ties.of.items) }
     {
-        let mut of = Vec::new(alloc);
-        for _ in 0..n {
-            of.push(Tied::new(alloc))?;
+        let mut ties = Ties {
+            of: Vec::new(alloc),
+        };
+        for k in 0..n {
+            ties.make_room(alloc, k)?;
         }
-        Ok(Ties { of })
+        Ok(ties)
     }
 
     /// What is tied to each number of a table.
