@@ -27,7 +27,7 @@ use Rattle.spec_live.proofs.Checks.{index_only, alive_known}
 use Rattle.spec_live.proofs.KindLaws.{linked_alive, home_alive}
 use Rattle.spec_live.proofs.HomeLaws.{not_nothing}
 use Rattle.spec_live.proofs.CreationLaws.{may_create, Begins, begins, grown_more, grown_same, object_more}
-use Rattle.spec_live.proofs.Lists.{length_map, length_changed, get_changed_same, get_changed_other}
+use Rattle.spec_live.proofs.Lists.{length_map, length_changed, get_changed_same, get_changed_other, get_more}
 use Rattle.spec_live.proofs.Readers.{length_moved, object_moved, object_unmoved, object_named, object_unnamed}
 use Rattle.muck_db.specs.declared.slot.Slot.{Slot}
 use Rattle.muck_db.specs.declared.ties.Tied.{Tied}
@@ -125,6 +125,10 @@ noted_kept ties d e j x s is keep h = elim (cases_eq e d) [
 pub noted_past : (ties : List Tied) (d j : ℕ) → length ties ≤ d → IsNoted ties d j
 unfolding IsNoted
 noted_past ties d j past t there = absurd (cc (there, slice_get_past ties d past))
+
+pub noted_pushed : (old new : List Tied) (x : Tied) (d j : ℕ) → new ≡ old ++ x ∷ [] → d < length old → IsNoted old d j → IsNoted new d j
+unfolding IsNoted
+noted_pushed old new x d j is lt h t there = h t (sym (get_more old x d (λ e. omega (arith, e, lt))) ∙ sym (ap (λ (z : List Tied). slice_get z d) is) ∙ there)
 
 pub zero_never : (d e : ℕ) (o : Option ℕ) → d ≤ 0 → o ≡ Some d → (e ≡ 0 → ⊥) → o ≡ Some e → ⊥
 zero_never d e o least is low so = let same : d ≡ e = cc (is, so) in low (omega (arith, least, same))

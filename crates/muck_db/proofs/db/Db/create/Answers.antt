@@ -1,7 +1,9 @@
 use Rattle.std.proofs.Common.{sym, ◌∙◌, arith, subst, List, Ok}
 use Rattle.spec_live.specs.Objects.{Entry}
 use Rattle.spec_live.specs.Making.{create_check, Creates}
+use Rattle.muck_db.specs.declared.slot.Slot.{Slot}
 use Rattle.muck_db.specs.inner.Slots.{entries_of}
+use Rattle.muck_db.specs.inner.Ties.{IsHeld}
 use Rattle.muck_db.proofs.Readers.{length-entries_of}
 use Rattle.muck_db.proofs.Bridge.{sound_order}
 use Rattle.muck_db.proofs.Creating.{put_begins, put_within, put_few, created_from, kept_listed, kept_created, creates}
@@ -31,6 +33,20 @@ dbref_of-requires c = omega (arith, put_few _ _ _ _ _ _ (sym c.check_create.ensu
 
 pub make_room-requires : goal.make_room-requires
 make_room-requires c = omega (arith, put_within _ _ _ _ _ _ (sym c.check_create.ensures ∙ c.in_ok-n.was), c.self.invariant.tied.long)
+
+pub invariant_of-self : goal.invariant_of-self
+invariant_of-self c = record {
+  kept = kept_listed _ _ _ _ _ c.make_room.ensures.more c.self.invariant.kept;
+  tied = ties_roomy _ _ _ c.self.invariant.kept.sound.world c.make_room.ensures.long c.make_room.ensures.others c.self.invariant.tied;
+}
+
+pub invariant_of-self-in_err-put_object : goal.invariant_of-self-in_err-put_object
+invariant_of-self-in_err-put_object c =
+    let P : List Slot → Type 0 = λ z. IsHeld z c.self.inside.lowest c.self.inside.told c.make_room.new.players.items c.make_room.new.ties.of.items in
+    subst P (sym c.in_err-put_object.ensures.err) (record {
+      kept = kept_listed _ _ _ _ _ c.make_room.ensures.more c.self.invariant.kept;
+      tied = ties_roomy _ _ _ c.self.invariant.kept.sound.world c.make_room.ensures.long c.make_room.ensures.others c.self.invariant.tied;
+    })
 
 pub invariant_of-self-2 : goal.invariant_of-self-2
 invariant_of-self-2 c = record {
