@@ -25,3 +25,5 @@ pub mod Stocking
 pub mod Loading
 pub mod Listing
 pub mod Bounds
+pub mod Blocked
+pub mod Passing

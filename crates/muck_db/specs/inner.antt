@@ -9,3 +9,4 @@ pub mod Exits
 pub mod Ties
 pub mod Table
 pub mod Lent
+pub mod Blocks

@@ -6,6 +6,7 @@ ghost use Rattle.muck_match.specs.inner.Listed.{IsAmong};
 ghost use Rattle.muck_db.specs.inner.Slots.{kind_at, entries_of, object_put};
 ghost use Rattle.muck_db.specs.inner.Ties.{IsNoted};
 
+use crate::blocks::Flag;
 use crate::links::dbref_of;
 use crate::moves::{is_vehicle, kind_of, may_stand, number_of};
 use crate::players::list_player;
@@ -25,17 +26,19 @@ fn is_free(slots: &Slots, k: u32) -> bool
     matches!(kind_of(slots, k), Kind::Garbage)
 }
 
-// The lowest number of garbage, else the next number, where no garbage stands below `lowest`.
+// The lowest number of garbage, else the next number, where no garbage stands below `lowest`. The blocks in which none may be are passed over.
 fn free_number(slots: &Slots, lowest: u32) -> u32
     requires few { length slots.now.items ≤ 100000 }
     requires full { (k : ℕ) → k < lowest → is_garbage (kind_at slots.now.items k) ≡ false }
     ensures { result ≡ free_in (entries_of slots.now.items) }
 {
     let n = slots.len() as u32;
-    for k in lowest..n {
+    let mut k = slots.next_flagged(Flag::Garbage, lowest);
+    while k < n {
         if is_free(slots, k) {
             return k;
         }
+        k = slots.next_flagged(Flag::Garbage, k + 1);
     }
     n
 }

@@ -1,5 +1,5 @@
 // What a dump hands to the log: the stored form of each object that isn't kept so.
-ghost use Rattle.std.specs.Prelude.{◌≡◌, ◌<◌, ◌≤◌, length, map, All, IfOk, OnOk, Some, true, slice_get};
+ghost use Rattle.std.specs.Prelude.{◌≡◌, ◌<◌, ◌≤◌, ℕ, length, map, All, IfOk, OnOk, Some, true, slice_get};
 ghost use Rattle.std.specs.FinMap.{entries};
 ghost use Rattle.std.specs.List.{AllByRecursion};
 ghost use Rattle.muck_model.specs.Bytes.{lines_most};
@@ -13,6 +13,7 @@ ghost use Rattle.muck_db.specs.inner.Dumps.{MayLook, passes};
 ghost use Rattle.muck_db.specs.inner.Limits.{IsWithinLimits};
 ghost use Rattle.muck_db.specs.inner.Slots.{saving_at, entries_of, HasOrder};
 
+use crate::blocks::Flag;
 use crate::kept::is_kept;
 use crate::links::{dbref_of, first_of, next_of, place_of};
 use crate::marking::is_due;
@@ -188,8 +189,20 @@ fn is_left_out(extent: Extent, base: &[Stored], slots: &Slots, k: u32, object: &
     is_passed(extent, slots, k) || is_kept(base, slots, k, object)
 }
 
-// What is stored of each object that is looked at and isn't kept so; only what differs is copied. It passes over all slots, and reads the change mark
-// of each, which is a byte: a list of what is due would have to be kept with each change, and want memory there.
+// The next number that a dump may have to look at, from `from` on, or one past all.
+fn next_look(extent: Extent, slots: &Slots, from: u32) -> u32
+    requires { length slots.now.items ≤ 100000 }
+    ensures later { from ≤ result }
+    ensures passed { (i : ℕ) → from ≤ i → i < result → i < length slots.now.items → passes extent (saving_at slots.now.items i) ≡ true }
+{
+    match extent {
+        Extent::WhatIsDue => slots.next_flagged(Flag::Unsaved, from),
+        Extent::Everything => from,
+    }
+}
+
+// What is stored of each object that is looked at and isn't kept so; only what differs is copied. A dump that looks at what
+// is due alone passes over the blocks in which all is done.
 pub fn records_of(
     alloc: Global,
     extent: Extent,
@@ -205,11 +218,13 @@ pub fn records_of(
     let blank = garbage(alloc)?;
     let n = slots.len() as u32;
     let mut records = Row::new(alloc)?;
-    for k in 0..n {
+    let mut k = next_look(extent, slots, 0);
+    while k < n {
         let object = object_at(slots, k, &blank);
         if !is_left_out(extent, base, slots, k, object) {
             records.push(record_of(alloc, slots, k, object)?)?;
         }
+        k = next_look(extent, slots, k + 1);
     }
     Ok(records)
 }

@@ -214,7 +214,8 @@ impl Db {
     /// What a dump hands to the log, over what is kept already: the stored form of each object that isn't kept so, and
     /// what is tuned. Each record has a spelling. What isn't due has to be kept as it is, and isn't looked at; what is due
     /// is compared with what is kept, and copied where it differs. Then it is pending, until the dump was stored or
-    /// failed. Where memory is wanted nothing changes.
+    /// failed. Where memory is wanted nothing changes. It costs what is due and its neighbours, and a look at each block
+    /// of 16 numbers.
     pub fn cut(&mut self, alloc: Global, base: &[Stored], tune: &Tune) -> Result<Batch, NoMemory>
         requires kept { KeepsUndue base.now self.old }
         ensures records { IfOk result (λ batch. LeavesOut base.now (persist self.old) batch.records) }

@@ -2,6 +2,7 @@
 //! see it as the entries of `spec_live`, and nothing of the chains.
 #![tactic(auto)]
 
+mod blocks;
 mod chain;
 mod creation;
 mod cut;

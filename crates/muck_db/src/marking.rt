@@ -5,6 +5,7 @@ ghost use Rattle.spec_live.specs.Saving.{is_due};
 ghost use Rattle.muck_db.specs.inner.Slots.{saving_at, with_saving};
 ghost use Rattle.muck_db.specs.inner.Dumps.{saving_after};
 
+use crate::blocks::Flag;
 use crate::slots::Slots;
 use spec_live::Saving;
 
@@ -49,13 +50,16 @@ fn pass_at(slots: &mut Slots, k: u32, moment: Moment)
     slot.saving = saving_after(moment, slot.saving);
 }
 
-// Takes every object past a moment of a dump.
+// Takes every object past a moment of a dump. What is done stays so at each, and the blocks that hold nothing else are passed over.
 pub fn pass(slots: &mut Slots, moment: Moment)
     requires { length slots.old.items ≤ 100000 }
     ensures { slots.new.items ≡ map (with_saving (saving_after moment)) slots.old.items }
 {
     let n = slots.len() as u32;
-    for k in 0..n {
+    let mut k = slots.next_flagged(Flag::Unsaved, 0);
+    while k < n {
         pass_at(slots, k, moment);
+        slots.leave(k);
+        k = slots.next_flagged(Flag::Unsaved, k + 1);
     }
 }

@@ -4,6 +4,7 @@ ghost use Rattle.spec_live.specs.Objects.{changed_at};
 ghost use Rattle.spec_live.specs.Marks.{marked_from, told_of};
 ghost use Rattle.muck_db.specs.inner.Slots.{mark_at, entries_of, with_mark};
 
+use crate::blocks::Flag;
 use crate::links::dbref_of;
 use crate::slots::Slots;
 use spec_live::{Changed, Mark};
@@ -16,7 +17,7 @@ fn mark_of(slots: &Slots, k: u32) -> Option<Mark>
     slots.at(k).mark
 }
 
-// The lowest number with a mark, where none stands below `told`.
+// The lowest number with a mark, where none stands below `told`. The blocks in which none may be are passed over.
 pub fn marked(slots: &Slots, told: u32) -> Option<(u32, Mark)>
     requires few { length slots.now.items ≤ 100000 }
     requires unmarked { (k : ℕ) → k < told → mark_at slots.now.items k ≡ None }
@@ -26,10 +27,12 @@ pub fn marked(slots: &Slots, told: u32) -> Option<(u32, Mark)>
     ensures none { IfNone result ((k : ℕ) → k < length slots.now.items → mark_at slots.now.items k ≡ None) }
 {
     let n = slots.len() as u32;
-    for k in told..n {
+    let mut k = slots.next_flagged(Flag::Marked, told);
+    while k < n {
         if let Some(mark) = mark_of(slots, k) {
             return Some((k, mark));
         }
+        k = slots.next_flagged(Flag::Marked, k + 1);
     }
     None
 }
