@@ -12,10 +12,17 @@ use Rattle.muck_db.specs.inner.Slots.{next_at, first_at, kind_at, mark_at, entri
 use Rattle.muck_db.proofs.Readers.{kind_in-entries_of, mark_in-entries_of}
 use Rattle.muck_db.proofs.Leaving.{recycled_from, kept_recycled}
 
-mark_sent_home : (es : List Entry) (xs : List ℕ) (k : ℕ) → mark_in (sent_home xs es) k ≡ mark_in es k
+sent_nothing : (es : List Entry) → sent_home [] es ≡ es
 unfolding sent_home
-mark_sent_home es [] k = refl
-mark_sent_home es (x ∷ xs) k = mark_sent_home (moved x (way_home x es) es) xs k ∙ mark_moved es x (way_home x es) k
+sent_nothing es = refl
+
+sent_first : (es : List Entry) (x : ℕ) (xs : List ℕ) → sent_home (x ∷ xs) es ≡ sent_home xs (moved x (way_home x es) es)
+unfolding sent_home
+sent_first es x xs = refl
+
+mark_sent_home : (es : List Entry) (xs : List ℕ) (k : ℕ) → mark_in (sent_home xs es) k ≡ mark_in es k
+mark_sent_home es [] k = ap (λ z. mark_in z k) (sent_nothing es)
+mark_sent_home es (x ∷ xs) k = ap (λ z. mark_in z k) (sent_first es x xs) ∙ mark_sent_home (moved x (way_home x es) es) xs k ∙ mark_moved es x (way_home x es) k
 
 -- what is sent home keeps its kind and its mark
 kind_cleared : (d k : ℕ) (old mid : List Slot) → entries_of mid ≡ sent_home (list_in false (entries_of old) d) (untied d (entries_of old)) → kind_at mid k ≡ kind_at old k

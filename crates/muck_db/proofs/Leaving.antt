@@ -30,6 +30,7 @@ use Rattle.spec_live.proofs.Dues.{saving_exits, saving_vanished}
 use Rattle.muck_db.specs.declared.slot.Slot.{Slot}
 use Rattle.muck_db.specs.inner.Slots.{shown, object_at, kind_at, next_at, first_of, first_at, mark_at, place_at, list_at, saving_at, untied_slot, new_slot, wiped, exit_wiped, entry_of, entries_of, LeadsTo, Stands, HasOrder, HasPlayers, IsSound, IsKept, IsUnlinked}
 use Rattle.muck_db.specs.inner.Limits.{IsWithinLimits}
+use Rattle.muck_db.specs.inner.Exits.{exit_at}
 use Rattle.muck_db.proofs.LimitLaws.{limits_recycled}
 use Rattle.muck_db.proofs.Readers.{length-entries_of, object_in-entries_of, kind_in-entries_of, list_in-entries_of, mark_in-entries_of, saving_in-entries_of}
 use Rattle.muck_db.proofs.Leads.{relinked_due, IsWithout, next_without, saving_without}
@@ -127,9 +128,6 @@ turn slots d x t s free low first home =
 unfoldable left_object : ℕ → Object → Object
 left_object d o = cond (is_exit_of d o) garbage o
 
-unfoldable exit_at : ℕ → List Slot → ℕ → Bool
-exit_at d slots k = option_map_or (is_exit_of d) (object_at slots k) false
-
 pub length_wiped : (d : ℕ) (old new : List Slot) → new ≡ map (exit_wiped d) old → length new ≡ length old
 length_wiped d old new is = ap (λ (z : List Slot). length z) is ∙ length_map (exit_wiped d) old
 
@@ -146,7 +144,7 @@ wiped_is : (d : ℕ) (s : Slot) → is_exit_of d (shown s) ≡ true → exit_wip
 unfolding exit_wiped
 wiped_is d s h = rw h refl
 
-unwiped_is : (d : ℕ) (s : Slot) → is_exit_of d (shown s) ≡ false → exit_wiped d s ≡ s
+pub unwiped_is : (d : ℕ) (s : Slot) → is_exit_of d (shown s) ≡ false → exit_wiped d s ≡ s
 unfolding exit_wiped
 unwiped_is d s h = rw h refl
 
@@ -208,11 +206,11 @@ exit_place d k slots h = by_cases (object_at slots k) refl h
         let both : (is_exit o.kind ≡ true) × (same o.place (dbref_of d) ≡ true) = and_parts (is_exit o.kind) (same o.place (dbref_of d)) q in
         rw e (ap (λ z. index_of z) (eq_same o.place (dbref_of d) both.1))
 
-exit_same : (d k : ℕ) (old mid : List Slot) → IsUnlinked d old mid → exit_at d mid k ≡ exit_at d old k
+pub exit_same : (d k : ℕ) (old mid : List Slot) → IsUnlinked d old mid → exit_at d mid k ≡ exit_at d old k
 unfolding exit_at
 exit_same d k old mid u = ap (λ (o : Option Object). option_map_or (is_exit_of d) o false) (u.same_objects k)
 
-whether : (b : Bool) (P : Type 0) → (b ≡ true → P) → (b ≡ false → P) → P
+pub whether : (b : Bool) (P : Type 0) → (b ≡ true → P) → (b ≡ false → P) → P
 whether true P so other = so refl
 whether false P so other = other refl
 
@@ -298,7 +296,7 @@ gone_list false d e true h = ap (λ (z : Entry). list_of false (left_out d z)) (
 gone_list true d e false h = ap (λ (z : Entry). list_of true (left_out d z)) (stays_is d e h)
 gone_list false d e false h = ap (λ (z : Entry). list_of false (left_out d z)) (stays_is d e h)
 
-unfoldable exit_in : ℕ → List Entry → ℕ → Bool
+unfoldable pub exit_in : ℕ → List Entry → ℕ → Bool
 exit_in d es k = option_map_or (is_exit_of d) (object_in es k) false
 
 object_left_in : (d k : ℕ) (es : List Entry) → (k ≡ d → ⊥) → object_in (vanished d (exits_gone d es)) k ≡ option_map (left_object d) (object_in es k)
@@ -330,7 +328,7 @@ list_left_in v d k es ne = ap (λ (o : Option Entry). option_map_or (list_of v) 
     by_cases (Some e) = gone_list v d e (is_exit_of d e.object) refl
 
 -- one and the same
-exit_bridge : (d k : ℕ) (slots : List Slot) → exit_in d (entries_of slots) k ≡ exit_at d slots k
+pub exit_bridge : (d k : ℕ) (slots : List Slot) → exit_in d (entries_of slots) k ≡ exit_at d slots k
 unfolding exit_in exit_at
 exit_bridge d k slots = ap (λ (o : Option Object). option_map_or (is_exit_of d) o false) (object_in-entries_of slots k)
 
@@ -364,7 +362,7 @@ saving_left : (d k : ℕ) (es : List Entry) → (k ≡ d → ⊥) → saving_in 
 unfolding exit_in is_exit_at
 saving_left d k es ne = saving_vanished (exits_gone d es) d k ∙ rw (ne_eqb k d ne) (saving_exits d k es)
 
-exit_stands_in : (d k : ℕ) (es : List Entry) → exit_in d es k ≡ true → StandsIn es true d k
+pub exit_stands_in : (d k : ℕ) (es : List Entry) → exit_in d es k ≡ true → StandsIn es true d k
 unfolding exit_in is_exit_at
 exit_stands_in d k es h = exit_stands d es k h
 
@@ -373,7 +371,7 @@ unfolding exit_in is_exit_at
 stands_exit_in d k es h = stands_exit d es k h
 
 -- nothing stands in an exit
-place_stays : (d k p : ℕ) (es : List Entry) → IsOrdered es → place_in es k ≡ Some p → exit_in d es p ≡ false
+pub place_stays : (d k p : ℕ) (es : List Entry) → IsOrdered es → place_in es k ≡ Some p → exit_in d es p ≡ false
 unfolding fits_in
 place_stays d k p es c place = whether (exit_in d es p) (exit_in d es p ≡ false)
     (λ h. let P : Kind → Type 0 = λ z. may_stand (kind_in es k) z (is_vehicle_in es p) ≡ true in

@@ -12,6 +12,8 @@ pub mod Holding
 pub mod Fields
 pub mod Tellings
 pub mod Leaving
+pub mod Exiting
+pub mod Tying
 pub mod Showing
 pub mod Counting
 pub mod Settings

@@ -26,7 +26,7 @@ ghost use Rattle.muck_db.specs.inner.Shown.{is_there, after_in, first_in, next_i
 ghost use Rattle.muck_model.specs.Bytes.{lines_most};
 
 use crate::chain::Chain;
-use crate::creation::{check_create, new_object, put_object};
+use crate::creation::{check_create, make_room, new_object, put_object};
 use crate::cut::{Extent, records_of};
 use crate::links::dbref_of;
 use crate::load::slots_of;
@@ -34,7 +34,7 @@ use crate::marking::{Moment, pass};
 use crate::moves::{check_move, count_there, found, list_of, relocate};
 use crate::password::{digest_word, is_digest_of};
 use crate::paths::KnownPaths;
-use crate::players::{list_player, players_of};
+use crate::players::players_of;
 use crate::recycling::{check_recycle, clear_out, vanish};
 use crate::setting::{
     Setting, check_any, check_flags, check_home, check_level, check_link, check_owner,
@@ -43,6 +43,7 @@ use crate::setting::{
 use crate::slots::Slots;
 use crate::start::first_slots;
 use crate::telling::{clear_mark, marked, told_of};
+use crate::ties::{Ties, tether_of};
 use crate::walks::{first_listed, next_listed};
 use muck_codec::{Batch, Stored};
 use muck_match::{Found, find_among, player_among};
@@ -67,13 +68,16 @@ pub struct Db {
     told: u32,
     // each player is among these numbers
     players: Vec<u32>,
+    // who has its home in a number, or a link to it, is noted there
+    ties: Ties,
     paths: KnownPaths,
 }
 
 impl Model for Db {
     ghost use Rattle.std.specs.Prelude.{List};
     ghost use Rattle.spec_live.specs.Objects.{Entry};
-    ghost use Rattle.muck_db.specs.inner.Slots.{entries_of, IsKept};
+    ghost use Rattle.muck_db.specs.inner.Slots.{entries_of};
+    ghost use Rattle.muck_db.specs.inner.Ties.{IsHeld};
 
     ghost Value = { List Entry };
 
@@ -84,7 +88,7 @@ impl Model for Db {
 
     ghost view = { λ a. entries_of a.slots.items };
 
-    ghost invariant = { λ a. IsKept a.slots.items a.lowest a.told a.players.items };
+    ghost invariant = { λ a. IsHeld a.slots.items a.lowest a.told a.players.items a.ties.of.items };
 }
 
 impl Db {
@@ -94,12 +98,14 @@ impl Db {
     {
         let slots = first_slots(alloc)?;
         let players = players_of(alloc, &slots)?;
+        let ties = Ties::of_slots(alloc, &slots)?;
         let paths = KnownPaths::new(alloc)?;
         Ok(Db {
             slots,
             lowest: 0,
             told: 0,
             players,
+            ties,
             paths,
         })
     }
@@ -114,12 +120,14 @@ impl Db {
     {
         let slots = slots_of(alloc, records)?;
         let players = players_of(alloc, &slots)?;
+        let ties = Ties::of_slots(alloc, &slots)?;
         let paths = KnownPaths::new(alloc)?;
         Ok(Db {
             slots,
             lowest: 0,
             told: 0,
             players,
+            ties,
             paths,
         })
     }
@@ -273,7 +281,7 @@ impl Db {
     {
         let (n, to) = check_create(&self.slots, self.lowest, kind, owner, place)?;
         let object = new_object(alloc, n, kind, name, owner)?;
-        let Ok(()) = list_player(&mut self.players, kind, n) else {
+        let Ok(()) = make_room(alloc, &mut self.players, &mut self.ties, kind, n) else {
             return Err(DbFault::NoMemory);
         };
         put_object(&mut self.slots, n, object)?;
@@ -409,13 +417,14 @@ impl Db {
 
     /// Recycles an object: homes in it become `#0` and links to it nothing, its contents go home in the order of their
     /// list, its exits become garbage, and then so does it. `NoSuchObject` comes where it isn't there, `WrongKind` for
-    /// `#0` and for a player; nothing has changed then. It takes no memory, and goes over all objects twice.
+    /// `#0` and for a player; nothing has changed then. It takes no memory, and looks at what is tied to the
+    /// object, what it holds and its exits alone, unless memory was wanted when something was tied to it.
     pub fn recycle(&mut self, d: Dbref) -> Result<(), DbFault>
         ensures { Does recycled (recycle_check d self.old) self.old self.new result }
     {
         let k = check_recycle(&self.slots, d)?;
-        clear_out(&mut self.slots, k);
-        let least = vanish(&mut self.slots, k);
+        clear_out(&mut self.slots, &mut self.ties, k);
+        let least = vanish(&mut self.slots, &mut self.ties, k);
         self.lowest = self.lowest.min(least);
         self.told = self.told.min(least);
         Ok(())
@@ -444,7 +453,9 @@ impl Db {
         ensures { Does (set_at (with_setting setting)) checked self.old self.new result }
     {
         let k = checked?;
+        let before = tether_of(&self.slots, k);
         set_at(&mut self.slots, k, setting);
+        self.ties.retie(k, before, tether_of(&self.slots, k));
         Ok(())
     }
 }

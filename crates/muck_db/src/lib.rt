@@ -23,6 +23,7 @@ mod slot;
 mod slots;
 mod start;
 mod telling;
+mod ties;
 mod typed;
 mod walks;
 
