@@ -27,7 +27,9 @@ use Rattle.spec_dumps.proofs.Begun.{rests_begun}
 use Rattle.spec_events.specs.World.{booted}
 use Rattle.spec_events.specs.Histories.{History, now, AllLawful, AllLicensed}
 use Rattle.spec_events.specs.Passwords.{AllKnown}
+use Rattle.spec_events.specs.Sourced.{AllSourced}
 use Rattle.spec_events.proofs.Passwords.{all_known_booted}
+use Rattle.spec_events.proofs.SourcedEvents.{all_sourced_booted}
 use Rattle.spec_events.proofs.Turns.{all_licensed_booted}
 use Rattle.spec_live.specs.Objects.{Entry, mark_in}
 use Rattle.spec_live.specs.Boards.{early_board}
@@ -87,9 +89,12 @@ unmarked os n = ap (λ (o : Option Entry). option_and_then (λ (e : Entry). e.ma
     by_cases None = refl
     by_cases (Some s) = refl
 
--- a run of such a world keeps to its licences, and its players are known
+-- a run of such a world keeps to its licences, what runs in it is of its source, and its players are known
 pub licensed_from : (began : ℕ) (kept : Kept) (es : List Happened) → AllLicensed (booted_at began kept) es
 licensed_from began kept es = all_licensed_booted (loaded kept.objects) kept.tune began began (unmarked kept.objects) es
+
+pub sourced_from : (began : ℕ) (kept : Kept) (es : List Happened) → AllSourced (booted_at began kept) es
+sourced_from began kept es = all_sourced_booted (loaded kept.objects) kept.tune began began es
 
 pub known_from : (began : ℕ) (kept : Kept) (es : List Happened) → AllLawful (booted_at began kept) es → AllKnown (booted_at began kept) es
 known_from began kept es lawful = all_known_booted (loaded kept.objects) kept.tune began began (unmarked kept.objects) es lawful

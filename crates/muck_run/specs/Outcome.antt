@@ -14,6 +14,7 @@ use Rattle.spec_dumps.specs.Survival.{IsSafe, StandsWhole, RoseInLast}
 use Rattle.spec_events.specs.World.{World, booted}
 use Rattle.spec_events.specs.Histories.{after, by_porter, AllLawful, AllLicensed}
 use Rattle.spec_events.specs.Passwords.{AllKnown}
+use Rattle.spec_events.specs.Sourced.{AllSourced}
 use Rattle.muck_script.specs.declared.act.Act.{Act}
 use Rattle.muck_script.specs.Script.{script_of}
 use Rattle.muck_script.specs.Story.{Dumped, stored, failed, outcomes_of, dump_entries, story, text_of, transcript}
@@ -140,11 +141,12 @@ pub record IsStart (tells : Bool) (a b : List ℕ) (began : ℕ) (w : World) (mo
   pub boots : w ≡ booted (loaded kept.objects) kept.tune began began
   pub holds : tells ≡ true → (s : Chosen) × (stored_in a b ≡ Ok s) × (s.held.world ≡ kept) × (s.held.number ≡ mounted)
 
--- What happened in a run that began in the world w: each entry was lawful where it stands, and changed only what is open there; whoever
--- has a player gave its password; and the tale and what was written are those of the script that was read.
+-- What happened in a run that began in the world w: each entry was lawful where it stands, and changed only what is open there; what was built and what ran was of
+-- the source that its program had there; whoever has a player gave its password; and the tale and what was written are those of the script that was read.
 pub record HasHappened {S K : Type 0} (left : S → Option (List ℕ)) (faults : S → ℕ) (written : K → Option (List ℕ)) (breaks : K → ℕ) (w : World) (why : Why) (s t : S) (k l : K) (tale : List Entry) : Type 0 where
   pub lawful : AllLawful w tale
   pub licensed : AllLicensed w tale
+  pub sourced : AllSourced w tale
   pub passwords : AllKnown w tale
   pub acts : List Act
   pub read : HasRead left faults s t acts

@@ -10,6 +10,7 @@ use Rattle.spec_dumps.specs.Survival.{IsSafe, StandsWhole, RoseInLast}
 use Rattle.spec_events.specs.World.{World}
 use Rattle.spec_events.specs.Histories.{AllLawful, AllLicensed}
 use Rattle.spec_events.specs.Passwords.{AllKnown}
+use Rattle.spec_events.specs.Sourced.{AllSourced}
 use Rattle.spec_serve.specs.Marks.{counts_in, IsLinksNote}
 use Rattle.spec_serve.specs.Promises.{Tally}
 use Rattle.muck_porter.specs.Times.{Timely}
@@ -58,7 +59,7 @@ pub record IsUnserved {L C D : Type 0} (shows : Bool) (told : L → Told) (answe
   pub second_file : tells ≡ true → IsUntouched seen moment images second second'
 
 -- A server began, on the world that the two files held, at the second that the clock answered first. One history happened, to which all
--- parties added: each entry was lawful where it stands, and changed only what is open there; and whoever has a player gave its password.
+-- parties added: each entry was lawful where it stands, and changed only what is open there; what was built and what ran was of the source that its program had there; and whoever has a player gave its password.
 -- Each party did what it may, and that is over, but where all turns were had. The note of the links (`counted`) stands where it belongs. The links were asked to listen once, on this port, and what they carried is what
 -- that history says of each connection. Each moment is the greater of what the clock, which had the answers `coming` from then on, answers next, and of the second before
 -- it. Of the disks is kept what is kept of a run.
@@ -76,6 +77,7 @@ pub record HasServed {L C D : Type 0} (shows : Bool) (told : L → Told) (listen
   pub answered : why ≡ why_served cause
   pub lawful : AllLawful start tale
   pub licensed : AllLicensed start tale
+  pub sourced : AllSourced start tale
   pub passwords : AllKnown start tale
   pub shared : IsShared workers tale
   pub over : ¬ (HasRunOut cause tale) → AllOver workers tale

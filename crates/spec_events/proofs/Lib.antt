@@ -30,3 +30,8 @@ pub mod Passwords
 pub mod Claims
 mod Errors
 mod Ending
+pub mod Sources
+pub mod Sourcing
+pub mod SourcedRows
+pub mod SourcedUnits
+pub mod SourcedEvents

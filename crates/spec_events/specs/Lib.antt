@@ -13,3 +13,4 @@ pub mod Histories
 pub mod Logged
 pub mod Own
 pub mod Passwords
+pub mod Sourced
