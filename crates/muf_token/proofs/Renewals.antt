@@ -1,5 +1,6 @@
 -- What the source says, and an `$include`, in layers: both do what the definition says to what names mean.
-use Rattle.std.proofs.Common.{◌≡◌, ℕ, ◌+◌, ◌<◌, ◌≤◌, Bool, true, false, cond, is_some, List, [], ◌++◌, ℤ, Option, Some, None, Result, Ok, Err, refl, ap, sym, subst, ◌∙◌, arith, append-nil}
+use Rattle.std.proofs.Common.{◌≡◌, ℕ, ◌+◌, ◌<◌, ◌≤◌, Bool, true, false, cond, is_some, List, [], ◌∷◌, ◌++◌, ℤ, Option, Some, None, Result, Ok, Err, OnOk, refl, ap, sym, subst, ◌∙◌, arith, append-nil, true≢false}
+use Rattle.std.proofs.lemmas.Int.{ints}
 use Rattle.std.specs.Str.{bytes_eq}
 use Rattle.std.specs.Ordering.{int_eq}
 use Rattle.std.specs.List.{IsDistinct}
@@ -10,6 +11,7 @@ use Rattle.muf_token.specs.declared.includes.Definition.{Definition}
 use Rattle.muf_token.specs.declared.piece.Piece.{Piece}
 use Rattle.muf_token.specs.declared.place.Place.{Place}
 use Rattle.muf_token.specs.declared.reader.Reader.{Reader}
+use Rattle.muf_token.specs.declared.layers.Entry.{Entry}
 use Rattle.muf_token.specs.declared.layers.Layers.{Layers}
 use Rattle.muf_token.specs.Numbers.{kind_of}
 use Rattle.muf_token.specs.Output.{and_then}
@@ -17,14 +19,60 @@ use Rattle.muf_token.specs.Directives.{Spot, Name, name_at}
 use Rattle.muf_token.specs.Source.{State, Step, with_definition, undef_at, object_of, with_all, included, include_at}
 use Rattle.muf_token.specs.inner.Spots.{spot_of}
 use Rattle.muf_token.specs.inner.Readers.{state_of, LeadsOn, SayTheSame}
-use Rattle.muf_token.specs.inner.Layers.{newest, lent_to, own_of, mean_of, own, lents, stamp_at, meant, told, lents_of, of_object, time_of, IsTimed, HasAll, HasBy, AreTaken, LendsOn, IsReady}
-use Rattle.muf_token.proofs.Meanings.{AreSame, lookup_inserted, distinct_inserted, lookup_removed, distinct_removed}
+use Rattle.muf_token.specs.inner.Layers.{newest, lent_to, own_of, mean_of, entry_at, own, lents, stamp_at, meant, told, lents_of, of_object, time_of, IsTimed, HasAll, HasBy, AreTaken, LendsOn, IsReady}
+use Rattle.muf_token.proofs.Meanings.{laws, lookup_inserted, distinct_inserted, lookup_removed, distinct_removed}
 use Rattle.muf_token.proofs.Alike.{words_alike}
 use Rattle.muf_token.proofs.Takings.{given, lookup_given, distinct_with_all, leads_on, include_is}
-use Rattle.muf_token.proofs.Layered.{ints, told_lookup, told_distinct, same_behind, last_of, last_given, raised, of_append, of_own, of_other}
+use Rattle.muf_token.proofs.Layered.{same_objects, newest_own, told_lookup, told_distinct, same_behind, last_of, last_given, raised, of_append, of_own, of_other}
 
 meant_told : (m : Layers) (q : List ℕ) → IsTimed m → lookup (bytes_eq q) (told m) ≡ meant m q
 meant_told m q h = told_lookup m.stamps.entries m.names.entries q h.one
+
+-- ---- an entry
+
+lookup_same : {X : Type 0} (es : List (List ℕ × X)) (a b : List ℕ) → bytes_eq a b ≡ true → lookup (bytes_eq a) es ≡ lookup (bytes_eq b) es
+lookup_same [] a b h = refl
+lookup_same (e ∷ es) a b h = ap (λ c. cond c (Some e.1) (lookup (bytes_eq a) es)) (laws.congr a b e.0 h) ∙ ap (λ o. cond (bytes_eq b e.0) (Some e.1) o) (lookup_same es a b h)
+
+-- one of a name that is taken out and put back
+pub put_back : (name q : List ℕ) (e old mid new : Option Entry) → mid ≡ cond (bytes_eq name q) None old → new ≡ cond (bytes_eq name q) e mid → new ≡ cond (bytes_eq name q) e old
+put_back name q e old mid new h k = k ∙ ap (cond (bytes_eq name q) e) h ∙ by (bytes_eq name q)
+  where
+    by : (b : Bool) → cond b e (cond b None old) ≡ cond b e old
+    by true = refl
+    by false = refl
+
+-- what the source says of a name, from now on
+module _ (old new : Layers) (name : List ℕ) (e : Entry) (h : IsTimed old) (stamps : new.stamps.entries ≡ old.stamps.entries) (at : (q : List ℕ) → entry_at new q ≡ cond (bytes_eq name q) (Some e) (entry_at old q)) (lent : e.lent ≡ lents old name)
+    (stamp : e.stamp ≡ old.clock + 1) where
+  pub said_mean : (q : List ℕ) → meant new q ≡ cond (bytes_eq name q) e.body (meant old q)
+  said_mean q = ap (λ s. mean_of s (entry_at new q)) stamps ∙ ap (mean_of old.stamps.entries) (at q) ∙ by (bytes_eq name q)
+    where
+      by : (b : Bool) → mean_of old.stamps.entries (cond b (Some e) (entry_at old q)) ≡ cond b e.body (meant old q)
+      by true = ap (λ t. t.1) (newest_own old.stamps.entries e.lent (e.stamp, e.body) (λ d. omega (arith, h.times d, stamp)))
+      by false = refl
+
+  said_lents : (q : List ℕ) → lents new q ≡ lents old q
+  said_lents q = ap lent_to (at q) ∙ by (bytes_eq name q) refl
+    where
+      by : (b : Bool) → bytes_eq name q ≡ b → lent_to (cond b (Some e) (entry_at old q)) ≡ lents old q
+      by true k = lent ∙ ap lent_to (lookup_same old.names.entries name q k)
+      by false k = refl
+
+  pub said_kept : new.clock ≡ old.clock + 1 → IsDistinct bytes_eq (keys_of new.names.entries) → LendsOn old new
+  said_kept clock one = record {
+    timed = record {
+      one = one;
+      own_times = λ q. subst (λ o. (own_of o).0 ≤ new.clock) (sym (at q)) (by q (bytes_eq name q));
+      times = λ d. subst (λ s. time_of (lookup (int_eq d) s) ≤ new.clock) (sym stamps) (omega (arith, h.times d, clock));
+    };
+    same = said_lents;
+    stamps = stamps;
+  }
+    where
+      by : (q : List ℕ) (b : Bool) → (own_of (cond b (Some e) (entry_at old q))).0 ≤ new.clock
+      by q true = omega (arith, stamp, clock)
+      by q false = omega (arith, h.own_times q, clock)
 
 -- ---- what the source says
 
@@ -40,6 +88,12 @@ defined_alike old new name body h k mean branches out lent spot = words_alike le
   branches = sym branches;
   out = sym out;
 })
+
+pub defined_by : {E : Type 0} (old new : Reader) (name : List ℕ) (body : List Piece) (r : Result (Unit {0}) E) → IsTimed old.definitions
+    → OnOk r ((q : List ℕ) → meant new.definitions q ≡ cond (bytes_eq name q) (Some body) (meant old.definitions q)) → OnOk r (LendsOn old.definitions new.definitions) → new.branches ≡ old.branches → new.out ≡ old.out
+    → OnOk r (SayTheSame (with_definition name body (state_of old)) (state_of new))
+defined_by old new name body (Ok x) h mean kept branches out = defined_alike old new name body h kept.timed mean branches out
+defined_by old new name body (Err e) h mean kept branches out = tt
 
 pub undone : (line : ℕ) (old new : Reader) (spot : Spot) (n : Name) (place : Place) → name_at line spot ≡ Ok n → spot_of place ≡ n.behind → IsTimed old.definitions → IsTimed new.definitions
     → ((q : List ℕ) → meant new.definitions q ≡ cond (bytes_eq n.name q) None (meant old.definitions q)) → new.branches ≡ old.branches → new.out ≡ old.out
@@ -76,7 +130,7 @@ pub kept_same : (lent : Dbref → Option (List Definition)) (old new : Layers) �
 kept_same lent old new h e = subst (AreTaken lent) (sym e) h
 
 pub nothing_taken : (m : Layers) → IsTimed m → ((d : ℤ) → stamp_at m d ≡ None) → ((q : List ℕ) → lents m q ≡ []) → (lent : Dbref → Option (List Definition)) → AreTaken lent m
-nothing_taken m h none no lent = record { timed = h; taken = λ d. subst (λ o. HasBy lent d o m) (sym (none d.0)) (λ q. ap (of_object d.0) (no q)) }
+nothing_taken m h never bare lent = record { timed = h; taken = λ d. subst (λ o. HasBy lent d o m) (sym (never d.0)) (λ q. ap (of_object d.0) (bare q)) }
 
 -- ---- the first include
 
@@ -84,7 +138,7 @@ pub ready_known : (lent : Dbref → Option (List Definition)) (d : Dbref) (m : L
 ready_known lent d m h known = record { timed = h.timed; all = by (stamp_at m d.0) known (h.taken d); others = λ k e. h.taken k; mean = λ q. refl }
   where
     by : (o : Option ℕ) → is_some o ≡ true → HasBy lent d o m → HasAll lent d m
-    by None e x = absurd (grind e)
+    by None e x = absurd (true≢false (sym e))
     by (Some t) e x = x
 
 pub ready_first : (lent : Dbref → Option (List Definition)) (d : Dbref) (list : List Definition) (old new : Layers) → lent d ≡ Some list → AreTaken lent old → is_some (stamp_at old d.0) ≡ false
@@ -108,7 +162,7 @@ ready_first lent d list old new l h unknown more mine one stamps clock = record 
 
     absent : (o : Option ℕ) → is_some o ≡ false → o ≡ None
     absent None e = refl
-    absent (Some t) e = absurd (grind e)
+    absent (Some t) e = absurd (true≢false e)
 
     missing : stamp_at old d.0 ≡ None
     missing = absent (stamp_at old d.0) unknown
@@ -119,7 +173,7 @@ ready_first lent d list old new l h unknown more mine one stamps clock = record 
     beside : (k : Dbref) → int_eq d.0 k.0 ≡ false → (q : List ℕ) → of_object k.0 (lents new q) ≡ of_object k.0 (lents old q)
     beside k e q =
         ap (of_object k.0) (more q) ∙ of_append k.0 (lents old q) (lents_of d.0 list q)
-        ∙ ap (λ ys. of_object k.0 (lents old q) ++ ys) (of_other k.0 d.0 list q (ints.symm k.0 d.0 ∙ e)) ∙ append-nil (of_object k.0 (lents old q))
+        ∙ ap (λ ys. of_object k.0 (lents old q) ++ ys) (of_other k.0 d.0 list q (same_objects.symm k.0 d.0 ∙ e)) ∙ append-nil (of_object k.0 (lents old q))
 
     other : (k : Dbref) → int_eq d.0 k.0 ≡ false → (o : Option ℕ) → HasBy lent k o old → HasBy lent k o new
     other k e None x = λ q. beside k e q ∙ x q
@@ -138,7 +192,7 @@ module _ (lent : Dbref → Option (List Definition)) (d : Dbref) (old mid new : 
   same_lents q = ap (λ es. lent_to (lookup (bytes_eq q) es)) now.names
 
   same_own : (q : List ℕ) → own new q ≡ own mid q
-  same_own q = let f = (λ es. own_of (lookup (bytes_eq q) es)) in ap f now.names
+  same_own q = ap (λ es. own_of (lookup (bytes_eq q) es)) now.names
 
   renewed_timed : IsTimed new
   renewed_timed = record {
@@ -152,7 +206,7 @@ module _ (lent : Dbref → Option (List Definition)) (d : Dbref) (old mid new : 
       by k false = omega (arith, ready.timed.times k)
 
   object_same : (k : Dbref) → int_eq d.0 k.0 ≡ true → d ≡ k
-  object_same k e = let same : d.0 ≡ k.0 = grind (arith, int_tests) in ap (λ x. record { 0 = x }) same
+  object_same k e = let same : d.0 ≡ k.0 = grind (arith, ints) in ap (λ x. record { 0 = x }) same
 
   pub renewed_taken : AreTaken lent new
   renewed_taken = record { timed = renewed_timed; taken = λ k. subst (λ o. HasBy lent k o new) (sym (now.stamps k.0)) (by k (int_eq d.0 k.0) refl) }
