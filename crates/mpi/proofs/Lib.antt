@@ -10,6 +10,7 @@ pub mod Lengths
 pub mod Maps
 pub mod Mapped
 pub mod Numbers
+pub mod Parting
 pub mod Parts
 pub mod Pieces
 pub mod Places
