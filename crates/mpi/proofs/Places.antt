@@ -116,3 +116,20 @@ found_within text part None h = tt
 found_within text part (Some k) h = let high = h.0.high in omega arith
 
 pub ruleset place_steps = (found_first, found_within)
+
+-- the same byte by byte: where a part stands that has a byte at least
+pub short_begins : (text part : List ℕ) → place_in text part ≡ option_map (λ k. 0 + k) (place_in (drop 0 text) part)
+short_begins text part = sym (mapped_none (place_in text part))
+
+pub short_found : (text part : List ℕ) (at : ℕ) → at < length text → place_in text part ≡ place_from text part at → begins_with (drop at text) part ≡ true → Some at ≡ place_in text part
+short_found text part at less whole here =
+    let is : at ≡ at + 0 = omega arith in
+    ap Some is ∙ sym (whole ∙ from_here text part at less here)
+
+pub short_further : (text part : List ℕ) (at : ℕ) → at < length text → place_in text part ≡ place_from text part at → begins_with (drop at text) part ≡ false → place_in text part ≡ place_from text part (suc at)
+short_further text part at less whole other = whole ∙ from_behind text part at less other
+
+pub short_lacks : (text part : List ℕ) (at : ℕ) → length text ≤ at → 0 < length part → place_in text part ≡ place_from text part at → None ≡ place_in text part
+short_lacks text part at past some whole = sym (whole ∙ from_end text part at past ∙ ap (option_map (λ k. at + k)) (place_end part (λ none. absurd (omega (arith, some, none)))))
+
+pub ruleset short_steps = (short_begins, short_found, short_further, short_lacks)

@@ -1,5 +1,5 @@
 // Parts of texts, and texts as lists.
-ghost use Rattle.std.specs.Prelude.{◌≡◌, ◌≤◌, ◌+◌, None, IfOk, IfSome, length, take, drop, option_map, map as mapped};
+ghost use Rattle.std.specs.Prelude.{◌≡◌, ◌<◌, ◌≤◌, ◌+◌, None, IfOk, IfSome, length, take, drop, option_map, map as mapped};
 ghost use Rattle.std.specs.Option.{option_copied};
 ghost use Rattle.muck_model.specs.Bytes.{text_fault};
 ghost use Rattle.mpi.specs.Made.{Inside, text_or_long};
@@ -54,12 +54,34 @@ pub(crate) fn stripped(text: &[u8]) -> &[u8]
     before_spaces(past_spaces(text))
 }
 
+// How long a part may be that is sought byte by byte: a search takes longer to begin with.
+const SHORT: usize = 16;
+
+// How many bytes stand before the first place where a part stands, which has a byte at least.
+#[tactic(auto, using(crate::proofs::Places::short_steps))]
+fn short_place(text: &[u8], part: &[u8]) -> Option<usize>
+    requires { 0 < length part.now }
+    ensures value { result ≡ place_in text.now part.now }
+    ensures within { IfSome result (λ n. n ≤ length text.now) }
+{
+    for at in 0..text.len() {
+        if text[at..].starts_with(part) {
+            return Some(at);
+        }
+    }
+    None
+}
+
 // How many bytes stand before the first place where a text stands that is sought in another.
 #[tactic(auto, using(crate::proofs::Places::place_steps))]
 fn place_in(text: &[u8], sought: &Finder<'_>) -> Option<usize>
     ensures value { result ≡ place_in text.now sought.now }
     ensures within { IfSome result (λ n. n ≤ length text.now) }
 {
+    let part = sought.needle();
+    if !part.is_empty() && part.len() <= SHORT {
+        return short_place(text, part);
+    }
     sought.find(text)
 }
 
