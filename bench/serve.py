@@ -2,8 +2,7 @@
 """What the server costs, by sockets on this machine, through dist/muckd or the program that MUCKD names, and beside it the same of TinyMUX (Debian's package tinymux) where it
 is installed: `bench/serve.py` prints a table, and on standard error each figure as it comes. `serve.py OBJECTS` takes so many objects for the dumps (100,000 where no number is given), and a
 second word divides all counts: `serve.py 2000 20` is a quick look. Times are by the clock, and of the client and the server together, on a machine that does nothing else: each is the
-round trip through both. A thread that waits for its turn leaves the processor to others, so where other programs want it the figures are theirs: `chrt -r 1 bench/serve.py`, as root, comes
-before those. What is measured:
+round trip through both. Where other programs want the processor, half of the times say more than the longest: `chrt -r 1 bench/serve.py`, as root, comes before those. What is measured:
 
 - say: one player, alone in its room, says a text and waits until it is answered;
 - lines: eight players, each in a room of its own, send all their lines at once, and read what comes; with one worker and with four (TinyMUX has no number of them);

@@ -13,9 +13,8 @@ def renamed(turn):
 
 ROUNDS = [renamed(turn) for turn in range(DUMPS)]
 ASKED = typed("@dump")
-OVER = "dump_interval: a dump looks at each object"
 ROWS = [
-    Row("dump of 100 due in 99,000 objects", ASKED, [line for lines in ROUNDS for line in lines + ASKED], HOLD, 0.0036, DUMPS, worlds.things, [line for lines in ROUNDS for line in lines], OVER),
-    Row("dump of none due in 99,000 objects", ASKED, ASKED * DUMPS, HOLD, None, DUMPS, worlds.things, over=OVER),
+    Row("dump of 100 due in 99,000 objects", ASKED, [line for lines in ROUNDS for line in lines + ASKED], HOLD, 0.0036, DUMPS, worlds.things, [line for lines in ROUNDS for line in lines]),
+    Row("dump of none due in 99,000 objects", ASKED, ASKED * DUMPS, HOLD, None, DUMPS, worlds.things),
     Memory("memory of a property, beside none (bytes)", worlds.things_with_a_property, worlds.things, worlds.MANY, 600, 1100),
 ]

@@ -20,13 +20,21 @@ def looked_at(name, formula, before, world=worlds.small, over=""):
     return Row(f"look: {name}", typed(f"@describe me={formula}"), typed("look me"), LINE, before, world=world, over=over)
 
 
+# So many line ends as bytes, which a program may put into a formula, and the words that make them.
+ENDS = "\r" * 3840
+MAKES_ENDS = '"%s" 1 8 1 for pop dup strcat repeat' % (r"\r" * 15)
+
+
+def literals(text):
+    """The words of a program that make a part of a formula, of texts that fit on a line."""
+    parts = ['"%s"' % text[at:at + 700].replace("\\", "\\\\") for at in range(0, len(text), 700)]
+    return " strcat ".join([" ".join(parts[:2]), *parts[2:]]) + " strcat" * (len(parts) > 1)
+
+
 def parsed(name, formula, rounds=1, bound=LINE, over="mpi_commands"):
-    """A program evaluates the formula, a text of two lines, up to the fault in which its commands end."""
-    text = formula.replace("\\", "\\\\")
-    half = len(text) // 2
-    while text[half - 1] == "\\":
-        half -= 1
-    first = f'"{text[:half]}" "{text[half:]}" strcat w !'
+    """A program evaluates the formula up to the fault in which its commands end."""
+    front, *behind = formula.split(ENDS)
+    first = " ".join([literals(front), *[f"{MAKES_ENDS} strcat {literals(part)} strcat" for part in behind], "w !"])
     return rounds_of(f"parsempi: {name}", bound, None, rounds, '0 try me @ w @ "" 0 parsempi pop catch pop endcatch', first, over=over)
 
 
@@ -39,16 +47,27 @@ ROWS = [
     looked_at("parse in foreach, no byte", over_list("{parse:j,{&l},}"), 0.63),
     looked_at("null of 1,901 arguments", over_list("{null:%s}" % ("," * 1900)), 0.11),
     looked_at("add of 951 arguments", over_list("{add:%s}" % ("1," * 950)), 0.19),
-    looked_at("mklist of 1,901 arguments", over_list("{mklist:%s}" % ("," * 1900)), 0.15),
+    looked_at("mklist of 1,901 arguments", over_list("{mklist:%s}" % ("," * 1900)), 0.15, over="mpi_commands"),
     looked_at("or of 1,901 arguments", over_list("{or:%s}" % ("," * 1900)), 0.08),
-    looked_at("subst of 4,095 bytes, each replaced", over_list("{subst:{&l},\\r,a}"), 0.13),
+    looked_at("subst of 4,095 bytes, each replaced", over_list("{subst:{&l},\\r,a}"), 0.13, over="mpi_commands"),
     looked_at("sublist of 4,096 items", over_list("{sublist:{&l},1,4096}"), 0.06),
     looked_at("tell of 4,095 line ends", over_list("{tell:{&l}}"), None, over="mpi_commands"),
     looked_at("ref of one of 99,000 things in the room", over_list("{ref:thing 50000}"), None, worlds.full_room, "mpi_commands"),
+    looked_at("prop along 99,000 places", over_list("{prop:lantern}"), None, worlds.deep, "mpi_commands"),
+    looked_at("propdir among 30,000 properties", over_list("{propdir:p}"), None, worlds.properties),
+    looked_at("contents of a room of 99,000 things", over_list("{contents:here}"), None, worlds.full_room),
     parsed("foreach in foreach, 3,900 plain bytes", over_list("{foreach:j,{&l},%s}" % ("a" * 3900)), over=""),
     parsed("add of 1,951 arguments", over_list("{add:%s}" % ("1," * 1950))),
     parsed("null of 3,901 arguments", over_list("{null:%s}" % ("," * 3900))),
     parsed("mklist of 3,901 arguments", over_list("{mklist:%s}" % ("," * 3900))),
+    parsed("or of 1,951 arguments, each 0", over_list("{or:%s}" % ("0," * 1950))),
+    parsed("add of 1,301 arguments with a \\ each", over_list("{add:%s}" % ("\\1," * 1300))),
+    parsed("mklist of 1,301 arguments with a \\ each", over_list("{mklist:%s}" % ("\\,," * 1300))),
+    parsed("parse of 3,841 items, no byte", over_list("{parse:j,%s,}" % ENDS)),
+    parsed("sublist of 3,841 items", over_list("{sublist:%s,1,4096}" % ENDS)),
+    parsed("count of 3,841 items", over_list("{count:%s}" % ENDS)),
+    parsed("lt of 3,880 bytes", over_list("{lt:%s,%s}" % ("a" * 1940, "a" * 1940))),
+    parsed("nested 55 deep, null of 3,300 arguments", over_list("{null:%s{null:%s}%s" % ("{if:1," * 55, "," * 3300, "}" * 56))),
     parsed("subst of 3,900 bytes, each replaced", over_list("{subst:%s,a,b}" % ("a" * 3900))),
     parsed("a section of subst of 3,900 bytes", over_list("{subst:%s,a,b}" % ("a" * 3900)), 1100, SLICE, "mpi_commands and preempt_units"),
 ]

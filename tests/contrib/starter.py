@@ -23,6 +23,10 @@ FRONT = """\
 open 1
 send 1 connect One potrzebie
 """
+TUNED = """\
+# Everybody waits while a formula of a message is evaluated. So many commands are enough for most, and the worst that is known takes some hundredths of a second by them.
+@tune mpi_commands=200
+"""
 ROOMS = """\
 # The workshop: One lives there and no exit leads to it, so nobody hears what One types. The programs stand there.
 @dig Workshop
@@ -105,7 +109,7 @@ def program(name, level, words, number):
 
 
 def script():
-    typed = [*library.typed(), *ROOMS.splitlines(), f"@teleport #{LIBRARY}=Workshop"]
+    typed = [*TUNED.splitlines(), *library.typed(), *ROOMS.splitlines(), f"@teleport #{LIBRARY}=Workshop"]
     number = 6
     for name, level, words in PROGRAMS:
         typed += program(name, level, words, number)

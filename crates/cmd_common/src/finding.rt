@@ -10,7 +10,7 @@ ghost use Rattle.muck_perm.specs.inner.Guards.{Did, world_of};
 ghost use Rattle.cmd_common.specs.inner.Plays.{Finds};
 
 use crate::replies::cant_be_done;
-use muck_match::{Found, find, player};
+use muck_match::Found;
 use muck_model::{Dbref, Kind, Line, NoMemory};
 use muck_perm::Guard;
 use std::alloc::Global;
@@ -50,7 +50,7 @@ pub(crate) fn tell_not_known(guard: &mut Guard, d: u32, text: &[u8]) -> Result<(
 pub fn find_one(guard: &mut Guard, d: u32, text: &Line) -> Result<Option<Dbref>, NoMemory>
     ensures { Finds (finding (tell d) guard.old.actor.player text.now) guard.old guard.new result }
 {
-    match find(guard.db(), guard.actor().player, text) {
+    match guard.db().find(guard.actor().player, text) {
         Found::One(x) => Ok(Some(x)),
         Found::None => {
             tell_not_understood(guard, d, text.as_slice())?;
@@ -68,7 +68,7 @@ pub fn find_one(guard: &mut Guard, d: u32, text: &Line) -> Result<Option<Dbref>,
 pub fn find_player(guard: &mut Guard, d: u32, name: &Line) -> Result<Option<Dbref>, NoMemory>
     ensures { Finds (finding_player (tell d) name.now) guard.old guard.new result }
 {
-    match player(guard.db(), name) {
+    match guard.db().player_named(name.as_slice()) {
         Some(x) => Ok(Some(x)),
         None => {
             tell_not_understood(guard, d, name.as_slice())?;

@@ -7,7 +7,7 @@ ghost use Rattle.muck_perm.specs.inner.Guards.{objects_of};
 
 use muck_db::Db;
 use muck_lock::{Finder, LockFault, print, read};
-use muck_match::{Found, find};
+use muck_match::Found;
 use muck_model::{Dbref, Kind, Line, Lock, NoMemory};
 use muck_perm::Guard;
 use std::alloc::Global;
@@ -32,7 +32,7 @@ impl<'a> Finder for KeyNames<'a> {
     ghost programs = { λ names x. option_map_or (λ o. is_program o.kind) (object_at x names.db.now) false };
 
     fn find(&self, name: &Line) -> Option<Dbref> {
-        match find(self.db, self.player, name) {
+        match self.db.find(self.player, name) {
             Found::One(x) => Some(x),
             _ => None,
         }

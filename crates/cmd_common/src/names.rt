@@ -7,7 +7,6 @@ ghost use Rattle.spec_commands.specs.Building.{is_reserved, bad_start, is_name, 
 ghost use Rattle.muck_perm.specs.inner.Guards.{world_of};
 
 use muck_db::Db;
-use muck_match::player_named;
 use muck_model::{Dbref, Kind};
 use muck_perm::Guard;
 
@@ -57,7 +56,7 @@ pub fn is_player_name(db: &Db, name: &[u8]) -> bool
     ensures some { result ≡ true → 1 ≤ length name.now }
     ensures short { result ≡ true → length name.now ≤ 80 }
 {
-    is_name(name) && !has_byte(b' ', name) && player_named(db, name).is_none()
+    is_name(name) && !has_byte(b' ', name) && db.player_named(name).is_none()
 }
 
 // Whether an object is there and is a player.

@@ -11,7 +11,7 @@ use crate::finding::{is_object, is_program, tell_not_known, tell_not_understood}
 use crate::names::is_name;
 use crate::parts::{Parts, parts_in};
 use crate::replies::{bad_name, cant_be_done, incomplete};
-use muck_match::{Found, find, player};
+use muck_match::Found;
 use muck_model::{Dbref, Line, NoMemory};
 use muck_perm::Guard;
 use spec_commands::{Argument, Arguments, Shape, Want, alike};
@@ -38,7 +38,7 @@ fn seek(guard: &mut Guard, d: u32, text: &Line) -> Result<Option<Dbref>, NoMemor
     if text.as_slice().is_empty() {
         return Ok(Some(NOTHING));
     }
-    match find(guard.db(), guard.actor().player, text) {
+    match guard.db().find(guard.actor().player, text) {
         Found::One(x) => return Ok(Some(x)),
         Found::None => tell_not_understood(guard, d, text.as_slice())?,
         Found::Many => tell_not_known(guard, d, text.as_slice())?,
@@ -51,7 +51,7 @@ fn seek(guard: &mut Guard, d: u32, text: &Line) -> Result<Option<Dbref>, NoMemor
 fn seek_player(guard: &mut Guard, d: u32, name: &Line) -> Result<Option<Dbref>, NoMemory>
     ensures { FindsFor (finding_player (over d) name.now) guard.old guard.new result }
 {
-    if let Some(x) = player(guard.db(), name) {
+    if let Some(x) = guard.db().player_named(name.as_slice()) {
         return Ok(Some(x));
     }
     tell_not_understood(guard, d, name.as_slice())?;

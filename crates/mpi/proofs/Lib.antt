@@ -1,4 +1,5 @@
 pub mod Acts
+pub mod AlikeItems
 pub mod Calls
 pub mod Evaluations
 pub mod Growing
@@ -9,6 +10,7 @@ pub mod Lengths
 pub mod Maps
 pub mod Mapped
 pub mod Numbers
+pub mod Parting
 pub mod Parts
 pub mod Pieces
 pub mod Places

@@ -9,7 +9,7 @@ use Rattle.std.specs.BTreeMap.{is_at}
 use Rattle.std.specs.FinMap.{get, insert, remove, from_entries, find, get-from_entries, get-insert, get-remove, same_map, IsAntisymmetric, slice_cmp-IsAntisymmetric, nat_cmp-IsAntisymmetric}
 use Rattle.mpi.specs.Variables.{name_cmp}
 
-name_cmp_same : IsAntisymmetric name_cmp
+pub name_cmp_same : IsAntisymmetric name_cmp
 name_cmp_same = slice_cmp-IsAntisymmetric nat_cmp-IsAntisymmetric
 
 found : (q : List ℕ) (es : List (List ℕ × List ℕ)) → find name_cmp q es ≡ lookup (is_at (name_cmp q)) es

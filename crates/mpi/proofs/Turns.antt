@@ -232,10 +232,10 @@ module _ {S : Type 0} (go : List ℕ → Thought S (List ℕ)) where
   ----------------------------------------------------------------------------------------------------------------------------
   -- The items of a list.
 
-  abbrev behind_item : Keep → List ℕ → List ℕ → Option (List ℕ) → List ℕ → List (List ℕ) → List ℕ → Thought S (List ℕ)
+  abbrev pub behind_item : Keep → List ℕ → List ℕ → Option (List ℕ) → List ℕ → List (List ℕ) → List ℕ → Thought S (List ℕ)
   behind_item keep name body list item more text = if is_long (as_text (kept_of keep list item text)) then fails TooLong else each_item keep go name body (kept_of keep list item text) more
 
-  item_first : (keep : Keep) (name body : List ℕ) (list : Option (List ℕ)) (rest more : List (List ℕ)) (item text : List ℕ) (s u : State S) → rest ≡ item ∷ more
+  pub item_first : (keep : Keep) (name body : List ℕ) (list : Option (List ℕ)) (rest more : List (List ℕ)) (item text : List ℕ) (s u : State S) → rest ≡ item ∷ more
       → text_with go name item body s ≡ (Ok text, u) → each_item keep go name body list rest s ≡ behind_item keep name body list item more text u
   unfolding each_item
   item_first keep name body list rest more item text s u e b =

@@ -1,2 +1,4 @@
 pub mod Memory
 pub mod Worked
+pub mod Alike
+pub mod Written

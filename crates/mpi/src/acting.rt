@@ -8,6 +8,7 @@ ghost use Rattle.mpi.specs.Thoughts.{Thinks, OnMind, found_or_bad};
 ghost use Rattle.mpi.specs.Hosting.{Means};
 ghost use Rattle.mpi.specs.Values.{nth};
 
+use crate::argument::Argument;
 use crate::fault::MpiFault;
 use crate::functions::{Function, Group};
 use crate::host::{Ask, Deed, Host};
@@ -45,18 +46,21 @@ fn object_at<H: Host>(
     host: &H,
     default: Dbref,
     at: usize,
-    values: &[Line],
+    values: &[Argument<'_>],
 ) -> Result<Dbref, MpiFault>
     ensures { Means (found_or_bad (object_at default at (scene_of H.powers place.this) values.now (H.seen host.now))) result }
 {
     match values.get(at) {
         None => Ok(default),
-        Some(text) => object_named(place, host, text).ok_or(MpiFault::BadValue),
+        Some(text) => {
+            let text = Line::of_text(place.alloc, text.as_slice())?;
+            object_named(place, host, &text).ok_or(MpiFault::BadValue)
+        }
     }
 }
 
 /// A copy of the argument at that place.
-pub(crate) fn own(alloc: Global, values: &[Line], at: usize) -> Result<Line, NoMemory>
+pub(crate) fn own(alloc: Global, values: &[Argument<'_>], at: usize) -> Result<Line, NoMemory>
     ensures { IfOk result (λ line. line ≡ nth at values.now) }
 {
     Line::of_text(alloc, nth(values, at))
@@ -67,7 +71,7 @@ fn ask_of<H: Host>(
     place: Place,
     host: &H,
     function: Function,
-    values: &[Line],
+    values: &[Argument<'_>],
 ) -> Result<Ask, MpiFault>
     ensures { Means (found_or_bad (ask_of function (scene_of H.powers place.this) values.now (H.seen host.now))) result }
 {
@@ -98,7 +102,7 @@ fn deed_of<H: Host>(
     place: Place,
     host: &H,
     function: Function,
-    values: &[Line],
+    values: &[Argument<'_>],
 ) -> Result<Deed, MpiFault>
     ensures { Means (found_or_bad (deed_of function (scene_of H.powers place.this) values.now (H.seen host.now))) result }
 {
@@ -146,7 +150,7 @@ fn does<H: Host>(
     host: &mut H,
     mind: &mut Mind,
     function: Function,
-    values: &[Line],
+    values: &[Argument<'_>],
 ) -> Result<Line, MpiFault>
     ensures thinks { Thinks (acted_by group.Deed function (scene_of H.powers place.this) values.now) (mind.old, H.seen host.old) (mind.new, H.seen host.new) result }
     ensures same { H.same host.old host.new }
@@ -158,7 +162,7 @@ fn does<H: Host>(
 }
 
 // The number of an object.
-fn reference_of<H: Host>(place: Place, host: &H, values: &[Line]) -> Result<Line, MpiFault>
+fn reference_of<H: Host>(place: Place, host: &H, values: &[Argument<'_>]) -> Result<Line, MpiFault>
     ensures { Means (found_or_bad (option_map reference (object_at place.this 0 (scene_of H.powers place.this) values.now (H.seen host.now)))) result }
 {
     let object = object_at(place, host, place.this, 0, values)?;
@@ -166,7 +170,7 @@ fn reference_of<H: Host>(place: Place, host: &H, values: &[Line]) -> Result<Line
 }
 
 // Whether two objects are one.
-fn same_objects<H: Host>(place: Place, host: &H, values: &[Line]) -> Result<Line, MpiFault>
+fn same_objects<H: Host>(place: Place, host: &H, values: &[Argument<'_>]) -> Result<Line, MpiFault>
     ensures { Means (found_or_bad (both same (scene_of H.powers place.this) values.now (H.seen host.now))) result }
 {
     let object = object_at(place, host, place.this, 0, values)?;
@@ -205,7 +209,7 @@ fn on_variable(
     alloc: Global,
     mind: &mut Mind,
     function: Function,
-    values: &[Line],
+    values: &[Argument<'_>],
 ) -> Result<Line, MpiFault>
     ensures { OnMind (variable_row function (nth 0 values.now) (nth 1 values.now)) mind.old mind.new result }
 {
@@ -230,7 +234,7 @@ pub(crate) fn act<H: Host>(
     mind: &mut Mind,
     group: Group,
     function: Function,
-    values: &[Line],
+    values: &[Argument<'_>],
 ) -> Result<Line, MpiFault>
     ensures thinks { Thinks (acted_by group function (scene_of H.powers place.this) values.now) (mind.old, H.seen host.old) (mind.new, H.seen host.new) result }
     ensures same { H.same host.old host.new }

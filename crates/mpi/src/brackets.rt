@@ -1,5 +1,5 @@
 // The brackets of a text: where it balances, its pieces, and the arguments of a function.
-ghost use Rattle.std.specs.Prelude.{◌≡◌, ◌+◌, ◌<◌, ◌≤◌, ◌^◌, suc, None, true, false, IfOk, length, drop, map as mapped};
+ghost use Rattle.std.specs.Prelude.{◌≡◌, ◌+◌, ◌<◌, ◌≤◌, ◌^◌, suc, None, true, false, IfOk, IfSome, length, drop, map as mapped};
 ghost use Rattle.std.specs.List.{list_all};
 ghost use Rattle.muck_model.specs.Bytes.{is_outside, text_fault, text_most};
 ghost use Rattle.mpi.specs.Made.{is_text};
@@ -70,6 +70,23 @@ pub(crate) fn balances(text: &[u8]) -> bool
     scan.deep == 0
 }
 
+// The same as `part_len` where neither a `{` nor a `\` stands before that place, and `None` where one does.
+#[tactic(auto, using(crate::proofs::Parting::parting))]
+fn plain_part_len(wanted: u8, text: &[u8]) -> Option<usize>
+    ensures { IfSome result (λ n. (n ≡ part_len wanted begun text.now) × (n ≤ length text.now)) }
+{
+    for at in 0..text.len() {
+        let byte = text[at];
+        if byte == wanted {
+            return Some(at);
+        }
+        if byte == b'{' || byte == b'\\' {
+            return None;
+        }
+    }
+    Some(text.len())
+}
+
 // How many bytes stand before the first free one like that.
 #[tactic(auto, unfolding(crate::specs::Brackets::part_len))]
 fn part_len(wanted: u8, text: &[u8]) -> usize
@@ -77,6 +94,9 @@ fn part_len(wanted: u8, text: &[u8]) -> usize
     ensures value { result ≡ part_len wanted begun text.now }
     ensures within { result ≤ length text.now }
 {
+    if let Some(at) = plain_part_len(wanted, text) {
+        return at;
+    }
     let mut scan = BEGUN;
     for at in 0..text.len() {
         if scan.is_free(wanted, text[at]) {

@@ -11,6 +11,8 @@ ghost use Rattle.mpi.specs.Thoughts.{Thinks};
 ghost use Rattle.mpi.specs.Values.{nth, items, alike, is_true, number_of};
 
 use crate::acting::{Place, act, own, value_of};
+use crate::alike::answer_alike;
+use crate::argument::Argument;
 use crate::brackets::{Piece, arguments, balances, piece_ahead};
 use crate::fault::MpiFault;
 use crate::functions::{Function, How, Keep, Scope, Way};
@@ -94,7 +96,7 @@ fn branch_at(value: &Line) -> usize
 }
 
 // Whether a value is true, or false, as it is wanted.
-fn is_alike(value: &Line, wanted: bool) -> bool
+fn is_alike(value: &Argument<'_>, wanted: bool) -> bool
     ensures { result ≡ alike (is_true value.now) wanted }
 {
     is_true(value.as_slice()) == wanted
@@ -111,7 +113,7 @@ fn before_body(scope: Scope) -> usize
 }
 
 // The numbers of a loop, behind the name of its variable.
-fn range_of(values: &[Line]) -> Range
+fn range_of(values: &[Argument<'_>]) -> Range
     ensures from { result.from ≡ number_of (nth 1 values.now) }
     ensures end { result.end ≡ number_of (nth 2 values.now) }
     ensures step { result.step ≡ number_of (nth 3 values.now) }
@@ -275,22 +277,42 @@ fn lazily<H: Host>(
     }
 }
 
-// The values of the arguments, from left to right.
+// The value of an argument; one that stands for itself takes no memory.
 #[cycle(evaluating)]
-fn values_of<H: Host>(
+fn argument<'a, H: Host>(
     place: Place,
     host: &mut H,
     mind: &mut Mind,
     deeper: u32,
-    texts: &[&[u8]],
-) -> Result<Vec<Line>, MpiFault>
+    text: &'a [u8],
+) -> Result<Argument<'a>, MpiFault>
+    requires { text_fault text.now ≡ None }
+    ensures thinks { Thinks (meaning (scene_of H.powers place.this) deeper text.now) (mind.old, H.seen host.old) (mind.new, H.seen host.new) result }
+    ensures same { H.same host.old host.new }
+{
+    if let Some(value) = Argument::written(text) {
+        return Ok(value);
+    }
+    let line = self::text(place, host, mind, deeper, text)?;
+    Ok(Argument::made(line))
+}
+
+// The values of the arguments, from left to right.
+#[cycle(evaluating)]
+fn values_of<'a, H: Host>(
+    place: Place,
+    host: &mut H,
+    mind: &mut Mind,
+    deeper: u32,
+    texts: &[&'a [u8]],
+) -> Result<Vec<Argument<'a>>, MpiFault>
     requires { list_all is_text (mapped (λ x. x.now) texts.now) ≡ true }
     ensures thinks { Thinks (each_value (meaning (scene_of H.powers place.this) deeper) [] (mapped (λ x. x.now) texts.now)) (mind.old, H.seen host.old) (mind.new, H.seen host.new) (seen_as (λ v. v.items) result) }
     ensures same { H.same host.old host.new }
 {
     let mut values = Vec::new(place.alloc);
     for each in texts {
-        let value = text(place, host, mind, deeper, each)?;
+        let value = argument(place, host, mind, deeper, each)?;
         values.push(value)?;
     }
     Ok(values)
@@ -311,7 +333,7 @@ fn until<H: Host>(
     ensures same { H.same host.old host.new }
 {
     for each in texts {
-        let value = text(place, host, mind, deeper, each)?;
+        let value = argument(place, host, mind, deeper, each)?;
         if is_alike(&value, wanted) {
             return Ok(truth(place.alloc, wanted)?);
         }
@@ -360,18 +382,14 @@ fn in_scope<H: Host>(
     ensures same { H.same host.old host.new }
 {
     let at = before_body(scope);
+    let body = text_at(texts, at);
     let values = values_of(place, host, mind, deeper, texts_before(texts, at))?;
+    if let Some(answer) = answer_alike(place.alloc, scope, &values, body)? {
+        return Ok(answer);
+    }
     let name = own(place.alloc, &values, 0)?;
     let old = mind.own_value(place.alloc, &name)?;
-    let answer = bodies(
-        place,
-        host,
-        mind,
-        deeper,
-        scope,
-        &values,
-        text_at(texts, at),
-    );
+    let answer = bodies(place, host, mind, deeper, scope, &values, body);
     mind.give_back(name, old)?;
     answer
 }
@@ -384,7 +402,7 @@ fn bodies<H: Host>(
     mind: &mut Mind,
     deeper: u32,
     scope: Scope,
-    values: &[Line],
+    values: &[Argument<'_>],
     body: &[u8],
 ) -> Result<Line, MpiFault>
     requires { text_fault body.now ≡ None }

@@ -2,6 +2,8 @@
 #![tactic(auto)]
 
 mod acting;
+mod alike;
+mod argument;
 mod brackets;
 mod evaluator;
 mod fault;

@@ -7,11 +7,12 @@ ghost use Rattle.mpi.specs.Hosting.{seen_as, Means};
 ghost use Rattle.mpi.specs.Gathering.{longer, kept_of, list_or_long};
 ghost use Rattle.mpi.specs.Values.{past_spaces, before_spaces, stripped, place_in, found_in, substituted, above, cut, items, listed, place_of_item, middle};
 
+use crate::argument::Argument;
 use crate::fault::MpiFault;
 use crate::functions::Keep;
 use crate::texts::grow;
 use crate::values::{is_true, nth, number_of};
-use memchr::memmem;
+use memchr::memmem::Finder;
 use muck_model::{Line, NoMemory};
 use std::alloc::Global;
 
@@ -53,13 +54,13 @@ pub(crate) fn stripped(text: &[u8]) -> &[u8]
     before_spaces(past_spaces(text))
 }
 
-// How many bytes stand before the first place where a text stands in another.
+// How many bytes stand before the first place where a text stands that is sought in another.
 #[tactic(auto, using(crate::proofs::Places::place_steps))]
-fn place_in(text: &[u8], part: &[u8]) -> Option<usize>
-    ensures value { result ≡ place_in text.now part.now }
+fn place_in(text: &[u8], sought: &Finder<'_>) -> Option<usize>
+    ensures value { result ≡ place_in text.now sought.now }
     ensures within { IfSome result (λ n. n ≤ length text.now) }
 {
-    memmem::find(text, part)
+    sought.find(text)
 }
 
 /// The first place of a part in a text, from 1, or 0; `None` exactly where the part is empty.
@@ -69,7 +70,7 @@ pub(crate) fn found_in(text: &[u8], part: &[u8]) -> Option<usize>
     if part.is_empty() {
         return None;
     }
-    match place_in(text, part) {
+    match place_in(text, &Finder::new(part)) {
         Some(at) => Some(at + 1),
         None => Some(0),
     }
@@ -100,9 +101,10 @@ pub(crate) fn substituted(
     if old.is_empty() {
         return Ok(Line::of_text(alloc, text)?);
     }
+    let sought = Finder::new(old);
     let mut out = Vec::new(alloc);
     let mut rest = text;
-    while let Some(at) = place_in(rest, old) {
+    while let Some(at) = place_in(rest, &sought) {
         let (front, behind) = around(rest, at, old.len());
         grow(&mut out, front)?;
         grow(&mut out, new)?;
@@ -129,7 +131,7 @@ pub(crate) fn cut<T>(p: i32, q: i32, xs: &[T]) -> &[T]
 }
 
 /// The bytes that the second and the third argument ask for; `None` exactly unless 1 <= p <= q.
-pub(crate) fn middle(values: &[Line]) -> Option<&[u8]>
+pub(crate) fn middle<'a>(values: &'a [Argument<'_>]) -> Option<&'a [u8]>
     ensures { option_copied result ≡ middle values.now }
 {
     let p = number_of(nth(values, 1));
@@ -159,9 +161,9 @@ pub(crate) fn items<'a>(alloc: Global, list: &'a [u8]) -> Result<Vec<&'a [u8]>, 
     Ok(parts)
 }
 
-// A list with an item more; `TooLong` exactly where that is too long. There may be no list yet.
+/// A list with an item more; `TooLong` exactly where that is too long. There may be no list yet.
 #[tactic(auto, using(crate::proofs::Lengths::length_steps))]
-fn longer(alloc: Global, list: Option<Vec<u8>>, item: &[u8]) -> Result<Vec<u8>, MpiFault>
+pub(crate) fn longer(alloc: Global, list: Option<Vec<u8>>, item: &[u8]) -> Result<Vec<u8>, MpiFault>
     requires list { IfSome list (λ bytes. text_fault bytes.items ≡ None) }
     requires item { text_fault item.now ≡ None }
     ensures value { Means (text_or_long (longer (option_map (λ bytes. bytes.items) list) item.now)) (seen_as (λ bytes. bytes.items) result) }

@@ -6,6 +6,7 @@ ghost use Rattle.mpi.specs.Hosting.{Means};
 ghost use Rattle.mpi.specs.Values.{text_of, sublist, listed};
 ghost use Rattle.mpi.specs.Made.{Inside, found_text};
 
+use crate::argument::Argument;
 use crate::fault::MpiFault;
 use crate::functions::Function;
 use crate::lists::{cut, found_in, items, listed, middle, place_of_item, stripped, substituted};
@@ -33,7 +34,7 @@ fn raised(alloc: Global, text: &[u8]) -> Result<Vec<u8>, NoMemory>
 }
 
 // The list of the values.
-fn list_of(alloc: Global, values: &[Line]) -> Result<Vec<u8>, NoMemory>
+fn list_of(alloc: Global, values: &[Argument<'_>]) -> Result<Vec<u8>, NoMemory>
     ensures value { IfOk result (λ bytes. bytes.items ≡ listed values.now) }
     ensures inside { IfOk result (λ bytes. Inside bytes.items) }
 {
@@ -58,7 +59,11 @@ fn sublist(alloc: Global, list: &[u8], p: i32, q: i32) -> Result<Vec<u8>, NoMemo
 /// What a function of texts makes of its arguments: `BadValue` where they aren't what it takes, and `TooLong` where that would be too
 /// long.
 #[tactic(auto, using(crate::proofs::Parts::part_steps))]
-pub(crate) fn text_of(alloc: Global, function: Function, values: &[Line]) -> Result<Line, MpiFault>
+pub(crate) fn text_of(
+    alloc: Global,
+    function: Function,
+    values: &[Argument<'_>],
+) -> Result<Line, MpiFault>
     ensures { Means (found_text (text_of function values.now)) result }
 {
     let first = nth(values, 0);

@@ -4,6 +4,7 @@ ghost use Rattle.muck_model.specs.Bytes.{text_fault};
 ghost use Rattle.muck_model.specs.Numbers.{below};
 ghost use Rattle.mpi.specs.Values.{nth, is_true, bare, number_read, number_of, lowered, order_of, test_of, quotient, remainder, number_row, sum_of, product_of, computed};
 
+use crate::argument::Argument;
 use crate::functions::Function;
 use muck_model::{Line, NoMemory, decimal};
 use std::alloc::Global;
@@ -11,7 +12,7 @@ use std::cmp::Ordering;
 
 /// The argument at a place from 0; one that is left out is empty.
 #[tactic(auto)]
-pub(crate) fn nth(values: &[Line], at: usize) -> &[u8]
+pub(crate) fn nth<'a>(values: &'a [Argument<'_>], at: usize) -> &'a [u8]
     ensures value { result.now ≡ nth at values.now }
     ensures text { text_fault result.now ≡ None }
 {
@@ -150,7 +151,7 @@ fn number_row(function: Function, i: i32, j: i32) -> i32
 }
 
 // The sum of all.
-fn sum(values: &[Line]) -> i32
+fn sum(values: &[Argument<'_>]) -> i32
     ensures { result ≡ sum_of values.now }
 {
     let mut sum = 0i32;
@@ -161,7 +162,7 @@ fn sum(values: &[Line]) -> i32
 }
 
 // The product of all.
-fn product(values: &[Line]) -> i32
+fn product(values: &[Argument<'_>]) -> i32
     ensures { result ≡ product_of values.now }
 {
     let mut product = 1i32;
@@ -172,7 +173,7 @@ fn product(values: &[Line]) -> i32
 }
 
 /// What a function of numbers gives.
-pub(crate) fn computed(function: Function, values: &[Line]) -> i32
+pub(crate) fn computed(function: Function, values: &[Argument<'_>]) -> i32
     ensures { result ≡ computed function values.now }
 {
     match function {

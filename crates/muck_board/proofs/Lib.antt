@@ -1,4 +1,6 @@
-pub mod Splits
 pub mod Outputs
+pub mod Ended
+pub mod Sending
 pub mod Numbered
 pub mod Quiet
+pub mod Splits

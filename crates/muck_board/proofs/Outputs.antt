@@ -58,7 +58,7 @@ newest_next room line lines h = cond-false _ _ _ (lt-leb _ _ h)
 -- Taking.
 
 -- behind the first of two lists
-drop_behind : (n : ℕ) (xs ys : List ℕ) → length xs ≤ n → drop n (xs ++ ys) ≡ drop (n - length xs) ys
+pub drop_behind : (n : ℕ) (xs ys : List ℕ) → length xs ≤ n → drop n (xs ++ ys) ≡ drop (n - length xs) ys
 drop_behind n xs ys h =
     let e : n ≡ length xs + (n - length xs) = omega arith in
     ap (λ k. drop k (xs ++ ys)) e ∙ drop-append-add xs ys (n - length xs)

@@ -1,7 +1,7 @@
 pub mod Sent
-pub mod Begun
+pub mod Waiting
 pub mod Bounded
-pub mod Pieces
 pub mod Lines
 pub mod Silent
 pub mod Lent
+pub mod Pieces

@@ -11,6 +11,7 @@ ghost use Rattle.muck_board.specs.inner.Lent.{LendsConnection};
 
 use crate::connection::Connection;
 use crate::places::{greater_at, place_of};
+use crate::sent::Sent;
 use muck_lock::Keys;
 use muck_model::{Dbref, EditState, Line, NoMemory, Tune};
 use rand_core::SeedableRng;
@@ -91,7 +92,7 @@ impl Board {
         Some(&mut self.connections[at])
     }
 
-    // Sends a text to each connection that hears it.
+    // Sends a text, which is cut once, to each connection that hears it.
     fn tell_where<F: Fn(&Connection) -> bool>(
         &mut self,
         hears: F,
@@ -103,9 +104,10 @@ impl Board {
         ensures ok { OnOk result (self.new ≡ on_connections (told_where test text.now) self.old) }
         ensures rest { silent self.new ≡ silent self.old }
     {
+        let sent = Sent::of_text(self.alloc, text)?;
         for c in self.connections.iter_mut() {
             if hears(c) {
-                c.tell(text)?;
+                c.tell(&sent)?;
             }
         }
         Ok(())
@@ -179,13 +181,14 @@ impl Board {
 
     /// Sends a text to the connection: the first 4,096 bytes, as one line for each piece between bytes 13. Older lines
     /// give way, and the notice stands, where there is no room.
-    #[tactic(auto, using(crate::proofs::Numbered::changes), unfolding(spec_live::specs::Boards::told_one))]
+    #[tactic(auto, using(crate::proofs::Numbered::changes, crate::proofs::Sending::told_is), unfolding(spec_live::specs::Boards::told_one))]
     pub fn tell(&mut self, d: u32, text: &[u8]) -> Result<(), NoMemory>
         ensures ok { OnOk result (self.new ≡ told_one d text.now self.old) }
         ensures rest { silent self.new ≡ silent self.old }
     {
+        let alloc = self.alloc;
         match self.connection_mut(d) {
-            Some(c) => c.tell(text),
+            Some(c) => c.tell(&Sent::of_text(alloc, text)?),
             None => Ok(()),
         }
     }
@@ -212,9 +215,10 @@ impl Board {
         ensures rest { silent self.new ≡ silent self.old }
     {
         // Not by `tell_where`: for a test that borrows no ghost value can be picked.
+        let sent = Sent::of_text(self.alloc, text)?;
         for c in self.connections.iter_mut() {
             if c.hears(keys, room, but) {
-                c.tell(text)?;
+                c.tell(&sent)?;
             }
         }
         Ok(())

@@ -4,10 +4,11 @@ ghost use Rattle.std.specs.List.{list_any};
 ghost use Rattle.std.specs.Option.{option_map_or};
 ghost use Rattle.spec_live.specs.Objects.{same};
 ghost use Rattle.spec_live.specs.Output.{bytes_of, taken};
-ghost use Rattle.spec_live.specs.Connections.{newcomer, takes_line, is_ready, told, told_where, left, left_where, seated, lined, edited, edits, edited_where, is_of, hears, has_player};
-ghost use Rattle.muck_board.specs.inner.Silent.{quiet};
+ghost use Rattle.spec_live.specs.Connections.{newcomer, takes_line, is_ready, told_where, left, left_where, seated, lined, edited, edits, edited_where, is_of, hears, has_player};
+ghost use Rattle.muck_board.specs.inner.Silent.{quiet, told_lines};
 
 use crate::output::Output;
+use crate::sent::Sent;
 use muck_lock::Keys;
 use muck_model::{Dbref, EditState, Line, NoMemory};
 use std::alloc::Global;
@@ -39,11 +40,12 @@ impl Model for Connection {
 
 impl Connection {
     /// A connection without a player, which is greeted with a text.
+    #[tactic(auto, unfolding(spec_live::specs::Output::sent))]
     pub(crate) fn new(alloc: Global, number: u32, greeting: &[u8]) -> Result<Self, NoMemory>
         ensures { IfOk result (λ c. c ≡ newcomer number greeting.now) }
     {
         let mut output = Output::new(alloc);
-        output.say(greeting)?;
+        output.send(&Sent::of_text(alloc, greeting)?)?;
         Ok(Connection {
             number,
             player: None,
@@ -144,12 +146,12 @@ impl Connection {
         self.waiting.pop_front()
     }
 
-    /// Sends a text.
-    pub(crate) fn tell(&mut self, text: &[u8]) -> Result<(), NoMemory>
-        ensures ok { OnOk result (self.new ≡ told text.now self.old) }
+    /// Sends the lines of a text.
+    pub(crate) fn tell(&mut self, sent: &Sent) -> Result<(), NoMemory>
+        ensures ok { OnOk result (self.new ≡ told_lines sent.now self.old) }
         ensures rest { quiet self.new ≡ quiet self.old }
     {
-        self.output.say(text)?;
+        self.output.send(sent)?;
         Ok(())
     }
 

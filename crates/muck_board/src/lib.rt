@@ -3,10 +3,10 @@
 
 mod board;
 mod connection;
+mod lines;
 mod output;
-mod piece;
 mod places;
-mod rest;
+mod sent;
 mod split;
 
 pub use board::Board;

@@ -1,42 +1,45 @@
 // What waits to be sent to a connection.
-ghost use Rattle.std.specs.Prelude.{◌≡◌, ℕ, ◌+◌, ◌-◌, ◌<◌, ◌≤◌, nat_le, if◌then◌else◌, true, OnOk, MatchBool, [], ◌∷◌, ◌++◌, length, take, drop, min};
-ghost use Rattle.std.specs.List.{slice_split};
-ghost use Rattle.std.specs.Option.{option_map_or};
-ghost use Rattle.spec_live.specs.Output.{no_output, sent_form, notice_of, lines_bytes, bytes_of, newest, line_sent, lines_sent, sent, taken};
-ghost use Rattle.muck_board.specs.inner.Pieces.{pieces_after};
-ghost use Rattle.muck_model.specs.Bytes.{text_most};
+ghost use Rattle.std.specs.Prelude.{◌≡◌, ℕ, ◌+◌, ◌-◌, ◌<◌, ◌≤◌, OnOk, MatchBool, [], ◌++◌, length, take, drop, min};
+ghost use Rattle.spec_live.specs.Output.{no_output, notice_of, lines_bytes, bytes_of, lines_sent, taken};
+ghost use Rattle.muck_board.specs.inner.Sent.{sent_most};
+ghost use Rattle.muck_board.specs.inner.Bounded.{kept_newest};
 
-use crate::piece::Piece;
-use crate::rest::Rest;
-use crate::split::{cut, cut_piece};
+use crate::lines::Lines;
+use crate::sent::Sent;
 use muck_model::NoMemory;
 use std::alloc::Global;
-use std::collections::VecDeque;
 use std::marker::Model;
 
 /// The most bytes that wait, without the notice.
 const QUEUE_MOST: usize = 131_072;
 
-/// The rest of a line that was taken in part, whether the notice of lost lines stands, and whole lines, with the count
-/// of their bytes.
+/// What stands before lines of which older ones were lost.
+const NOTICE: &[u8] = b"<Output Flushed>\r\n";
+
+/// What was begun to be taken: the first line, or the notice, of which so many bytes went.
+#[derive(Clone, Copy, Drop)]
+enum Begun {
+    Line,
+    Notice(usize),
+}
+
+/// The rest of a line or of the notice that was taken in part, whether the notice of lost lines stands, and whole lines.
 #[derive(Drop)]
 pub struct Output {
-    alloc: Global,
-    rest: Rest,
+    begun: Begun,
     flushed: bool,
-    lines: VecDeque<Piece>,
-    bytes: usize,
+    lines: Lines,
 }
 
 impl Model for Output {
     ghost use Rattle.spec_live.specs.Output.{Output as Queue};
-    ghost use Rattle.muck_board.specs.inner.Bounded.{IsBounded};
+    ghost use Rattle.muck_board.specs.inner.Bounded.{IsBounded, rest_of};
 
     ghost Value = { Queue };
 
-    ghost view = { λ o. record { rest = o.rest; flushed = o.flushed; lines = o.lines.items } };
+    ghost view = { λ o. record { rest = rest_of o.begun o.lines; flushed = o.flushed; lines = o.lines.lines } };
 
-    ghost invariant = { λ o. IsBounded (record { rest = o.rest; flushed = o.flushed; lines = o.lines.items }) o.bytes };
+    ghost invariant = { λ o. IsBounded o.begun (record { rest = rest_of o.begun o.lines; flushed = o.flushed; lines = o.lines.lines }) };
 }
 
 // How many bytes the notice has, where it stands.
@@ -48,23 +51,6 @@ fn notice_len(flushed: bool) -> usize
         return 18;
     }
     0
-}
-
-// Lets the oldest lines go until no more than so many bytes are left, and answers how many are left.
-fn drop_oldest(lines: &mut VecDeque<Piece>, bytes: usize, room: usize) -> usize
-    requires { bytes ≡ length (lines_bytes lines.old.items) }
-    ensures newest { lines.new.items ≡ newest room lines.old.items }
-    ensures count { result ≡ length (lines_bytes lines.new.items) }
-    ensures most { result ≤ room }
-{
-    let mut left = bytes;
-    while left > room {
-        match lines.pop_front() {
-            Some(line) => left -= line.sent().len(),
-            None => return 0,
-        }
-    }
-    left
 }
 
 // Copies bytes behind the first at of a buffer, as many as fit.
@@ -86,11 +72,21 @@ impl Output {
         ensures { result ≡ no_output }
     {
         Output {
-            alloc,
-            rest: Rest::none(),
+            begun: Begun::Line,
             flushed: false,
-            lines: VecDeque::new(alloc),
-            bytes: 0,
+            lines: Lines::new(alloc),
+        }
+    }
+
+    // What is left of what was begun.
+    #[tactic(auto, unfolding(spec_live::specs::Output::notice))]
+    fn rest(&self) -> &[u8]
+        ensures bytes { result.now ≡ self.now.rest }
+        ensures most { length result.now ≤ sent_most }
+    {
+        match self.begun {
+            Begun::Line => self.lines.begun(),
+            Begun::Notice(from) => NOTICE.split_at(from).1,
         }
     }
 
@@ -99,56 +95,37 @@ impl Output {
         ensures count { result ≡ length (bytes_of self.now) }
         ensures most { result ≤ 131090 }
     {
-        self.rest.as_slice().len() + notice_len(self.flushed) + self.bytes
+        self.rest().len() + notice_len(self.flushed) + self.lines.len()
     }
 
     // With the notice, and without the oldest lines, where more than so many bytes of lines wait.
     fn make_room(&mut self, room: usize)
         requires { length self.old.rest + room ≤ 131072 }
-        ensures room { self.new ≡ (if nat_le (length (lines_bytes self.old.lines)) room then self.old else record self.old { flushed = true; lines = newest room self.old.lines }) }
+        ensures room { self.new ≡ kept_newest room self.old }
         ensures most { length (lines_bytes self.new.lines) ≤ room }
     {
-        if self.bytes > room {
-            self.bytes = drop_oldest(&mut self.lines, self.bytes, room);
+        if self.lines.len() > room {
+            self.lines.keep_newest(room);
             self.flushed = true;
         }
     }
 
-    // Puts a line at the end, for which there is room.
-    fn push_back(&mut self, piece: Piece) -> Result<(), NoMemory>
-        requires { length self.old.rest + length (sent_form piece) + length (lines_bytes self.old.lines) ≤ 131072 }
-        ensures { OnOk result (self.new ≡ record self.old { lines = self.old.lines ++ piece ∷ [] }) }
+    // Puts lines at the end, for which there is room.
+    fn push_back(&mut self, sent: &Sent) -> Result<(), NoMemory>
+        requires { length self.old.rest + length (lines_bytes sent.now) + length (lines_bytes self.old.lines) ≤ 131072 }
+        ensures { OnOk result (self.new ≡ record self.old { lines = self.old.lines ++ sent.now }) }
     {
-        let len = piece.sent().len();
-        self.lines.push_back(piece)?;
-        self.bytes += len;
+        self.lines.push(sent)?;
         Ok(())
     }
 
-    // With a line more.
-    #[tactic(auto, unfolding(spec_live::specs::Output::line_sent, spec_live::specs::Output::queue_most))]
-    fn push_line(&mut self, line: &[u8]) -> Result<(), NoMemory>
-        requires { length line.now ≤ text_most }
-        ensures { OnOk result (self.new ≡ line_sent line.now self.old) }
+    /// Sends the lines of a text. Lines that were sent before give way: all that have to go at once.
+    pub fn send(&mut self, sent: &Sent) -> Result<(), NoMemory>
+        ensures { OnOk result (self.new ≡ lines_sent sent.now self.old) }
     {
-        let piece = Piece::new(self.alloc, line)?;
-        let room = QUEUE_MOST - (self.rest.as_slice().len() + piece.sent().len());
+        let room = QUEUE_MOST - (self.rest().len() + sent.as_slice().len());
         self.make_room(room);
-        self.push_back(piece)
-    }
-
-    /// Sends a text: its front, as one line for each piece. Lines that were sent before give way. After `NoMemory` a part
-    /// of this may be done: the first lines of the text are sent, and of the next one older lines may have given way.
-    #[tactic(auto, unfolding(spec_live::specs::Output::sent, spec_live::specs::Output::sent_lines, spec_live::specs::Output::lines_sent))]
-    pub fn say(&mut self, text: &[u8]) -> Result<(), NoMemory>
-        ensures { OnOk result (self.new ≡ sent text.now self.old) }
-    {
-        let mut rest = Some(cut(text));
-        while let Some(pieces) = rest {
-            let (piece, others) = cut_piece(pieces);
-            self.push_line(piece)?;
-            rest = others;
-        }
+        self.push_back(sent)?;
         Ok(())
     }
 
@@ -158,21 +135,29 @@ impl Output {
         ensures taken { (k : ℕ) → 0 < k → taken k self.new ≡ taken k self.old }
         ensures begun { MatchBool result (0 < length self.new.rest) ((bytes_of self.old ≡ []) × (self.new ≡ self.old)) }
     {
-        if !self.rest.is_empty() {
+        if !self.rest().is_empty() {
             return true;
         }
         if self.flushed {
-            self.rest = Rest::notice();
+            self.begun = Begun::Notice(0);
             self.flushed = false;
             return true;
         }
-        match self.lines.pop_front() {
-            Some(line) => {
-                self.bytes -= line.sent().len();
-                self.rest = Rest::whole(line);
-                true
-            }
-            None => false,
+        if !self.lines.begin() {
+            return false;
+        }
+        self.begun = Begun::Line;
+        true
+    }
+
+    // Lets the first bytes go of what was begun.
+    fn advance(&mut self, n: usize)
+        requires { n ≤ length self.old.rest }
+        ensures { self.new ≡ record self.old { rest = drop n self.old.rest } }
+    {
+        match self.begun {
+            Begun::Line => self.lines.advance(n),
+            Begun::Notice(from) => self.begun = Begun::Notice(from + n),
         }
     }
 
@@ -184,8 +169,8 @@ impl Output {
         ensures len { length buf.new ≡ length buf.old }
         ensures rest { self.new ≡ record self.old { rest = drop result self.old.rest } }
     {
-        let n = copy_at(buf, at, self.rest.as_slice());
-        self.rest.advance(n);
+        let n = copy_at(buf, at, self.rest());
+        self.advance(n);
         n
     }
 

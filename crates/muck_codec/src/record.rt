@@ -257,6 +257,7 @@ fn properties_at(
         props.push(property)?;
         rest = after;
     }
+    props.shrink_to_fit();
     Ok((props, rest))
 }
 

@@ -92,7 +92,7 @@ fn dump_beside<W: Threads + Wait + Sync, D: Disk + Send, G: Gate + Sync, R: Rest
     why
 }
 
-/// The porter beside the dumper and all workers. The porter never naps, so that links are served at once: it leaves the processor to others.
+/// The porter beside the dumper and all workers. Each waits by the rest that is handed in, the porter at its links too.
 pub fn all_beside<
     W: Threads + Wait + Sync,
     L: Links + Send,

@@ -8,7 +8,7 @@ use Rattle.spec_live.specs.declared.object.Object.{Object}
 use Rattle.spec_live.specs.declared.saving.Saving.{Saving}
 use Rattle.spec_live.specs.declared.saving.Saving.TheVariants.{Due}
 use Rattle.spec_live.specs.Chain.{walk, IsChain, Ends, Member, follower, without, put_at}
-use Rattle.spec_live.specs.Objects.{Entry, dbref_of, list_in, place_in, path_in, number_in, changed_at, is_exit, is_garbage, object_in, object_at, kind_in, fits_in, is_vehicle_in}
+use Rattle.spec_live.specs.Objects.{Entry, dbref_of, list_in, place_in, path_in, number_in, changed_at, is_exit, is_garbage, object_in, object_at, kind_in, fits_in, is_vehicle_in, is_player}
 use Rattle.spec_live.specs.Moving.{set_down, moved, with_place}
 use Rattle.spec_live.specs.Saving.{front, next_in, links_in, saving_in}
 use Rattle.spec_live.specs.Consistent.{MayMove, IsOrdered, IsConsistent, StandsIn}
@@ -226,11 +226,12 @@ unfolding object_at
 seen_some es d k h = rw h refl
 
 -- a move keeps the rule of the type
-pub kept_moved : (old new : List Slot) (d to lowest told : ℕ) → MayMove (entries_of old) d to → entries_of new ≡ moved d to (entries_of old) → HasOrder new → IsKept old lowest told → IsKept new lowest told
-kept_moved old new d to lowest told may is order kept = record {
+pub kept_moved : (old new : List Slot) (d to lowest told : ℕ) (players : List ℕ) → MayMove (entries_of old) d to → entries_of new ≡ moved d to (entries_of old) → HasOrder new → IsKept old lowest told players → IsKept new lowest told players
+kept_moved old new d to lowest told players may is order kept = record {
   sound = record { ends = order.ends; world = let P : List Entry → Type 0 = λ z. IsConsistent z in subst P (sym is) (consistent_moved (entries_of old) d to may kept.sound.world); limits = subst IsWithinLimits (sym is) (limits_moved d to (entries_of old) kept.sound.limits) };
   full = λ k lt. rw (← kind_in-entries_of new k, is, kind_moved (entries_of old) d to k, kind_in-entries_of old k) (kept.full k lt);
   unmarked = λ k lt. rw (← mark_in-entries_of new k, is, mark_moved (entries_of old) d to k, mark_in-entries_of old k) (kept.unmarked k lt);
+  listed = λ k h. kept.listed k (ap is_player (sym (kind_in-entries_of old k) ∙ sym (kind_moved (entries_of old) d to k) ∙ ap (λ (z : List Entry). kind_in z k) (sym is) ∙ kind_in-entries_of new k) ∙ h);
 }
 
 pub listed_short : (es : List Entry) (v : Bool) (d : Dbref) → IsOrdered es → length (listed_in v d es) ≤ length es

@@ -9,7 +9,8 @@ use Rattle.muck_model.specs.declared.dbref.Kind.TheVariants.{Garbage}
 use Rattle.spec_live.specs.declared.fault.DbFault.{DbFault}
 use Rattle.spec_live.specs.declared.object.Object.{Object}
 use Rattle.spec_live.specs.Chain.{Ends}
-use Rattle.spec_live.specs.Objects.{Entry, dbref_of, changed_at, with_object, is_garbage, object_in, kind_in, mark_in, is_vehicle_in}
+use Rattle.muck_match.specs.inner.Listed.{IsAmong}
+use Rattle.spec_live.specs.Objects.{Entry, dbref_of, changed_at, with_object, is_garbage, object_in, kind_in, mark_in, is_vehicle_in, is_player}
 use Rattle.spec_live.specs.Making.{grown, free_in, new_object, created, create_check, Creates}
 use Rattle.spec_live.specs.Moving.{moved}
 use Rattle.spec_live.specs.Consistent.{IsOrdered, IsConsistent, MayMove}
@@ -74,10 +75,14 @@ grown_mark n k es = elim (cases_eq n (length es)) [
   | inr e ↦ ap (λ (z : List Entry). mark_in z k) (grown_same n es e)
 ]
 
+-- more numbers may stand among those of the players
+pub kept_listed : (slots : List Slot) (lowest told : ℕ) (players more : List ℕ) → ((k : ℕ) → IsAmong players k → IsAmong more k) → IsKept slots lowest told players → IsKept slots lowest told more
+kept_listed slots lowest told players more longer kept = record { sound = kept.sound; full = kept.full; unmarked = kept.unmarked; listed = λ k h. longer k (kept.listed k h) }
+
 -- the rule of the type behind a creation
-pub kept_created : (old mid new : List Slot) (n to lowest told : ℕ) (kind : Kind) (name : List ℕ) (owner place : Dbref) → create_check kind owner place (entries_of old) ≡ Ok (n, to) → Put old mid n to kind name owner
-    → 1 ≤ length name → length name ≤ 80 → entries_of new ≡ moved n to (entries_of mid) → HasOrder new → IsKept old lowest told → IsKept new (n + 1) told
-kept_created old mid new n to lowest told kind name owner place passed put some short is order kept =
+pub kept_created : (old mid new : List Slot) (n to lowest told : ℕ) (players : List ℕ) (kind : Kind) (name : List ℕ) (owner place : Dbref) → create_check kind owner place (entries_of old) ≡ Ok (n, to) → Put old mid n to kind name owner
+    → 1 ≤ length name → length name ≤ 80 → entries_of new ≡ moved n to (entries_of mid) → HasOrder new → (is_player kind ≡ true → IsAmong players n) → IsKept old lowest told players → IsKept new (n + 1) told players
+kept_created old mid new n to lowest told players kind name owner place passed put some short is order among kept =
     let es : List Entry = entries_of old in
     let m : MayCreate es kind owner n to = may_create kind owner place es (n, to) passed in
     let b : Begins es kind owner n to = begins es kind owner n to m in
@@ -94,6 +99,10 @@ kept_created old mid new n to lowest told kind name owner place passed put some 
         | inr e ↦ ap is_garbage (kinds k ∙ other_kind (grown n es) n k o e ∙ grown_kind n k es) ∙ below_free es k (omega (arith, m.free))
       ];
       unmarked = λ k lt. marks k ∙ kept.unmarked k lt;
+      listed = λ k h. elim (cases_eq k n) [
+        | inl e ↦ subst (IsAmong players) (sym e) (among (sym (ap is_player (kinds k ∙ ap (λ z. kind_in (changed_at n (with_object o) (grown n es)) z) e ∙ named_kind (grown n es) n kind name owner b.known)) ∙ h))
+        | inr e ↦ kept.listed k (sym (ap is_player (kinds k ∙ other_kind (grown n es) n k o e ∙ grown_kind n k es ∙ kind_in-entries_of old k)) ∙ h)
+      ];
     }
 
 pub put_within : (old : List Slot) (n to : ℕ) (kind : Kind) (owner place : Dbref) → create_check kind owner place (entries_of old) ≡ Ok (n, to) → n ≤ length old

@@ -3,7 +3,7 @@ use Rattle.std.proofs.Common.{◌≡◌, ℕ, ◌<◌, List, refl, sym, ◌∙�
 use Rattle.std.proofs.lemmas.Bool.{false≢true}
 use Rattle.std.specs.List.{slice_get}
 use Rattle.spec_live.specs.declared.saving.Saving.{Saving}
-use Rattle.spec_live.specs.Objects.{Entry}
+use Rattle.spec_live.specs.Objects.{Entry, is_player, kind_in}
 use Rattle.spec_live.specs.Consistent.{IsConsistent}
 use Rattle.spec_live.specs.Saving.{is_due, saving_in, on_saving, all_saving}
 use Rattle.spec_live.proofs.Savings.{length_resaved, object_resaved, list_resaved, mark_resaved, kind_resaved}
@@ -35,8 +35,8 @@ pub entries_passed : (f : Saving → Saving) (old new : List Slot) → new ≡ m
 unfolding all_saving
 entries_passed f old new is = ap (λ (z : List Slot). entries_of z) is ∙ entries_mapped (with_saving f) (on_saving f) old (λ s. refl) (passed_entry f old)
 
-pub kept_passed : (f : Saving → Saving) (old new : List Slot) (lowest told : ℕ) → new ≡ map (with_saving f) old → IsKept old lowest told → IsKept new lowest told
-kept_passed f old new lowest told is kept =
+pub kept_passed : (f : Saving → Saving) (old new : List Slot) (lowest told : ℕ) (players : List ℕ) → new ≡ map (with_saving f) old → IsKept old lowest told players → IsKept new lowest told players
+kept_passed f old new lowest told players is kept =
     let es : List Entry = entries_of old in
     let entries : entries_of new ≡ all_saving f es = entries_passed f old new is in
     let C : List Entry → Type 0 = λ z. IsConsistent z in
@@ -48,6 +48,7 @@ kept_passed f old new lowest told is kept =
       };
       full = λ k lt. rw (← kind_in-entries_of new k, entries, kind_resaved f k es, kind_in-entries_of old k) (kept.full k lt);
       unmarked = λ k lt. rw (← mark_in-entries_of new k, entries, mark_resaved f k es, mark_in-entries_of old k) (kept.unmarked k lt);
+      listed = λ k h. kept.listed k (ap is_player (sym (kind_in-entries_of old k) ∙ sym (kind_resaved f k es) ∙ ap (λ (z : List Entry). kind_in z k) (sym entries) ∙ kind_in-entries_of new k) ∙ h);
     }
 
 -- the same, of the objects as contracts see them

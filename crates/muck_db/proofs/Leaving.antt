@@ -7,13 +7,14 @@ use Rattle.std.specs.List.{slice_get}
 use Rattle.std.specs.Option.{option_map, option_and_then, option_map_or}
 use Rattle.muck_model.specs.declared.dbref.Dbref.{Dbref}
 use Rattle.muck_model.specs.declared.dbref.Kind.{Kind}
+use Rattle.muck_model.specs.declared.dbref.Kind.TheVariants.{Garbage}
 use Rattle.spec_live.specs.declared.fault.DbFault.{DbFault}
 use Rattle.spec_live.specs.declared.object.Object.{Object}
 use Rattle.spec_live.specs.declared.mark.Mark.TheVariants.{Gone}
 use Rattle.spec_live.specs.declared.saving.Saving.{Saving}
 use Rattle.spec_live.specs.declared.saving.Saving.TheVariants.{Due}
 use Rattle.spec_live.specs.Chain.{walk, IsChain, Ends, Member, follower, without}
-use Rattle.spec_live.specs.Objects.{Entry, dbref_of, index_of, same, is_exit, may_stand, changed_at, garbage, list_of, object_in, list_in, mark_in, kind_in, place_in, fits_in, is_vehicle_in}
+use Rattle.spec_live.specs.Objects.{Entry, dbref_of, index_of, same, is_exit, is_player, may_stand, changed_at, garbage, list_of, object_in, list_in, mark_in, kind_in, place_in, fits_in, is_vehicle_in}
 use Rattle.spec_live.specs.Saving.{front, next_in, links_in, saving_in}
 use Rattle.spec_live.specs.Moving.{left_out, moved, Does}
 use Rattle.spec_live.specs.Recycling.{untie, untied, way_home, sent_home, gone_entry, is_exit_of, exit_gone, without_exits, exits_gone, vanished, taken_away, recycled, recycle_check}
@@ -23,14 +24,15 @@ use Rattle.spec_live.proofs.Lists.{length_map, length_changed, get_changed_same,
 use Rattle.spec_live.proofs.Readers.{entries_ext, kind_alike, place_alike}
 use Rattle.spec_live.proofs.KindLaws.{place_alive, only_exit, none_in_exit}
 use Rattle.spec_live.proofs.Checks.{alive_known}
-use Rattle.spec_live.proofs.HomeLaws.{IsUntied, is_untied, ordered_untied, list_untied, length_untied, length_sent_home, HomeStep, home_step}
-use Rattle.spec_live.proofs.RecyclingLaws.{is_exit_at, exit_stands, stands_exit, length_taken, object_taken, list_taken, mark_taken, consistent_recycled}
+use Rattle.spec_live.proofs.HomeLaws.{IsUntied, is_untied, ordered_untied, list_untied, length_untied, length_sent_home, kind_untied, kind_sent_home, HomeStep, home_step}
+use Rattle.spec_live.proofs.RecyclingLaws.{is_exit_at, exit_stands, stands_exit, length_taken, object_taken, list_taken, mark_taken, kind_taken, consistent_recycled}
 use Rattle.spec_live.proofs.Dues.{saving_exits, saving_vanished}
 use Rattle.muck_db.specs.declared.slot.Slot.{Slot}
-use Rattle.muck_db.specs.inner.Slots.{shown, object_at, next_at, first_of, first_at, mark_at, place_at, list_at, saving_at, untied_slot, new_slot, wiped, exit_wiped, entry_of, entries_of, LeadsTo, Stands, HasOrder, IsSound, IsKept, IsUnlinked}
+use Rattle.muck_db.specs.inner.Slots.{shown, object_at, kind_at, next_at, first_of, first_at, mark_at, place_at, list_at, saving_at, untied_slot, new_slot, wiped, exit_wiped, entry_of, entries_of, LeadsTo, Stands, HasOrder, HasPlayers, IsSound, IsKept, IsUnlinked}
 use Rattle.muck_db.specs.inner.Limits.{IsWithinLimits}
+use Rattle.muck_db.specs.inner.Exits.{exit_at}
 use Rattle.muck_db.proofs.LimitLaws.{limits_recycled}
-use Rattle.muck_db.proofs.Readers.{length-entries_of, object_in-entries_of, list_in-entries_of, mark_in-entries_of, saving_in-entries_of}
+use Rattle.muck_db.proofs.Readers.{length-entries_of, object_in-entries_of, kind_in-entries_of, list_in-entries_of, mark_in-entries_of, saving_in-entries_of}
 use Rattle.muck_db.proofs.Leads.{relinked_due, IsWithout, next_without, saving_without}
 use Rattle.muck_db.proofs.Linked.{chain_over}
 use Rattle.muck_db.proofs.Bridge.{list_is, ends_none, order_chains}
@@ -126,9 +128,6 @@ turn slots d x t s free low first home =
 unfoldable left_object : ℕ → Object → Object
 left_object d o = cond (is_exit_of d o) garbage o
 
-unfoldable exit_at : ℕ → List Slot → ℕ → Bool
-exit_at d slots k = option_map_or (is_exit_of d) (object_at slots k) false
-
 pub length_wiped : (d : ℕ) (old new : List Slot) → new ≡ map (exit_wiped d) old → length new ≡ length old
 length_wiped d old new is = ap (λ (z : List Slot). length z) is ∙ length_map (exit_wiped d) old
 
@@ -145,7 +144,7 @@ wiped_is : (d : ℕ) (s : Slot) → is_exit_of d (shown s) ≡ true → exit_wip
 unfolding exit_wiped
 wiped_is d s h = rw h refl
 
-unwiped_is : (d : ℕ) (s : Slot) → is_exit_of d (shown s) ≡ false → exit_wiped d s ≡ s
+pub unwiped_is : (d : ℕ) (s : Slot) → is_exit_of d (shown s) ≡ false → exit_wiped d s ≡ s
 unfolding exit_wiped
 unwiped_is d s h = rw h refl
 
@@ -207,11 +206,11 @@ exit_place d k slots h = by_cases (object_at slots k) refl h
         let both : (is_exit o.kind ≡ true) × (same o.place (dbref_of d) ≡ true) = and_parts (is_exit o.kind) (same o.place (dbref_of d)) q in
         rw e (ap (λ z. index_of z) (eq_same o.place (dbref_of d) both.1))
 
-exit_same : (d k : ℕ) (old mid : List Slot) → IsUnlinked d old mid → exit_at d mid k ≡ exit_at d old k
+pub exit_same : (d k : ℕ) (old mid : List Slot) → IsUnlinked d old mid → exit_at d mid k ≡ exit_at d old k
 unfolding exit_at
 exit_same d k old mid u = ap (λ (o : Option Object). option_map_or (is_exit_of d) o false) (u.same_objects k)
 
-whether : (b : Bool) (P : Type 0) → (b ≡ true → P) → (b ≡ false → P) → P
+pub whether : (b : Bool) (P : Type 0) → (b ≡ true → P) → (b ≡ false → P) → P
 whether true P so other = so refl
 whether false P so other = other refl
 
@@ -297,7 +296,7 @@ gone_list false d e true h = ap (λ (z : Entry). list_of false (left_out d z)) (
 gone_list true d e false h = ap (λ (z : Entry). list_of true (left_out d z)) (stays_is d e h)
 gone_list false d e false h = ap (λ (z : Entry). list_of false (left_out d z)) (stays_is d e h)
 
-unfoldable exit_in : ℕ → List Entry → ℕ → Bool
+unfoldable pub exit_in : ℕ → List Entry → ℕ → Bool
 exit_in d es k = option_map_or (is_exit_of d) (object_in es k) false
 
 object_left_in : (d k : ℕ) (es : List Entry) → (k ≡ d → ⊥) → object_in (vanished d (exits_gone d es)) k ≡ option_map (left_object d) (object_in es k)
@@ -329,7 +328,7 @@ list_left_in v d k es ne = ap (λ (o : Option Entry). option_map_or (list_of v) 
     by_cases (Some e) = gone_list v d e (is_exit_of d e.object) refl
 
 -- one and the same
-exit_bridge : (d k : ℕ) (slots : List Slot) → exit_in d (entries_of slots) k ≡ exit_at d slots k
+pub exit_bridge : (d k : ℕ) (slots : List Slot) → exit_in d (entries_of slots) k ≡ exit_at d slots k
 unfolding exit_in exit_at
 exit_bridge d k slots = ap (λ (o : Option Object). option_map_or (is_exit_of d) o false) (object_in-entries_of slots k)
 
@@ -363,7 +362,7 @@ saving_left : (d k : ℕ) (es : List Entry) → (k ≡ d → ⊥) → saving_in 
 unfolding exit_in is_exit_at
 saving_left d k es ne = saving_vanished (exits_gone d es) d k ∙ rw (ne_eqb k d ne) (saving_exits d k es)
 
-exit_stands_in : (d k : ℕ) (es : List Entry) → exit_in d es k ≡ true → StandsIn es true d k
+pub exit_stands_in : (d k : ℕ) (es : List Entry) → exit_in d es k ≡ true → StandsIn es true d k
 unfolding exit_in is_exit_at
 exit_stands_in d k es h = exit_stands d es k h
 
@@ -372,7 +371,7 @@ unfolding exit_in is_exit_at
 stands_exit_in d k es h = stands_exit d es k h
 
 -- nothing stands in an exit
-place_stays : (d k p : ℕ) (es : List Entry) → IsOrdered es → place_in es k ≡ Some p → exit_in d es p ≡ false
+pub place_stays : (d k p : ℕ) (es : List Entry) → IsOrdered es → place_in es k ≡ Some p → exit_in d es p ≡ false
 unfolding fits_in
 place_stays d k p es c place = whether (exit_in d es p) (exit_in d es p ≡ false)
     (λ h. let P : Kind → Type 0 = λ z. may_stand (kind_in es k) z (is_vehicle_in es p) ≡ true in
@@ -502,13 +501,44 @@ length_cleared d old mid lt e = omega (
   length_untied d (entries_of old),
 )
 
-pub kept_recycled : (d : Dbref) (n : ℕ) (old new : List Slot) → recycle_check d (entries_of old) ≡ Ok n → entries_of new ≡ recycled n (entries_of old) → ((v : Bool) (p : ℕ) → Ends (length new) (next_at new) (first_at v new p)) → IsSound old → IsKept new 0 0
-kept_recycled d n old new passed is ends sound =
+vanished_kind : (d : ℕ) (es : List Entry) → kind_in (vanished d es) d ≡ Garbage
+unfolding vanished kind_in object_in gone_entry garbage
+vanished_kind d es = rw (get_changed_same (map (left_out d) es) d (λ e. gone_entry)) (by_cases (slice_get (map (left_out d) es) d))
+  where
+    by_cases : (a : Option Entry) → option_map_or (λ (o : Object). o.kind) (option_map (λ (e : Entry). e.object) (option_map (λ e. gone_entry) a)) Garbage ≡ Garbage
+    by_cases None = refl
+    by_cases (Some e) = refl
+
+-- whoever is a player behind it was one before
+player_left : (d k : ℕ) (es : List Entry) → is_player (kind_in (vanished d (exits_gone d es)) k) ≡ true → is_player (kind_in es k) ≡ true
+unfolding kind_in left_object garbage
+player_left d k es h = elim (cases_eq k d) [
+  | inl e ↦ absurd (false≢true (sym (ap (λ z. is_player z) (ap (λ z. kind_in (vanished d (exits_gone d es)) z) e ∙ vanished_kind d (exits_gone d es))) ∙ h))
+  | inr ne ↦ at (object_in es k) (sym (ap (λ (o : Option Object). is_player (option_map_or (λ (x : Object). x.kind) o Garbage)) (object_left_in d k es ne)) ∙ h)
+]
+  where
+    here : (o : Object) (b : Bool) → is_player (cond b garbage o).kind ≡ true → is_player o.kind ≡ true
+    here o true h = absurd (false≢true h)
+    here o false h = h
+
+    at : (o : Option Object) → is_player (option_map_or (λ (x : Object). x.kind) (option_map (left_object d) o) Garbage) ≡ true → is_player (option_map_or (λ (x : Object). x.kind) o Garbage) ≡ true
+    at None h = h
+    at (Some o) h = here o (is_exit_of d o) h
+
+player_before : (d k : ℕ) (es : List Entry) → is_player (kind_in (recycled d es) k) ≡ true → is_player (kind_in es k) ≡ true
+unfolding recycled
+player_before d k es h =
+    let sent : List Entry = sent_home (list_in false es d) (untied d es) in
+    sym (ap (λ z. is_player z) (kind_sent_home (untied d es) (list_in false es d) k ∙ kind_untied d k es)) ∙ player_left d k sent (sym (ap (λ z. is_player z) (kind_taken sent d k)) ∙ h)
+
+pub kept_recycled : (d : Dbref) (n : ℕ) (old new : List Slot) (players : List ℕ) → recycle_check d (entries_of old) ≡ Ok n → entries_of new ≡ recycled n (entries_of old) → ((v : Bool) (p : ℕ) → Ends (length new) (next_at new) (first_at v new p)) → IsSound old → HasPlayers old players → IsKept new 0 0 players
+kept_recycled d n old new players passed is ends sound listed =
     let C : List Entry → Type 0 = λ z. IsConsistent z in
     record {
       sound = record { ends = ends; world = subst C (sym is) (consistent_recycled d (entries_of old) n passed sound.world); limits = subst IsWithinLimits (sym is) (limits_recycled n (entries_of old) sound.limits) };
       full = λ k lt. absurd (omega arith);
       unmarked = λ k lt. absurd (omega arith);
+      listed = λ k h. listed k (ap is_player (sym (kind_in-entries_of old k)) ∙ player_before n k (entries_of old) (sym (ap is_player (sym (kind_in-entries_of new k) ∙ ap (λ (z : List Entry). kind_in z k) is)) ∙ h));
     }
 
 pub does_recycled : (check : Result ℕ DbFault) (n : ℕ) (old new : List Entry) → check ≡ Ok n → new ≡ recycled n old → Does recycled check old new (Ok tt)

@@ -12,6 +12,8 @@ pub mod Holding
 pub mod Fields
 pub mod Tellings
 pub mod Leaving
+pub mod Exiting
+pub mod Tying
 pub mod Showing
 pub mod Counting
 pub mod Settings
@@ -21,3 +23,7 @@ pub mod Keeping
 pub mod Dumping
 pub mod Stocking
 pub mod Loading
+pub mod Listing
+pub mod Bounds
+pub mod Blocked
+pub mod Passing

@@ -24,7 +24,7 @@ use Rattle.spec_live.proofs.Readers.{entries_ext}
 use Rattle.muck_db.specs.declared.slot.Slot.{Slot}
 use Rattle.muck_db.specs.inner.Limits.{IsDigest, FitsLimits, IsWithinLimits}
 use Rattle.muck_db.specs.inner.Loading.{object_kept, slot_of, slots_of}
-use Rattle.muck_db.specs.inner.Slots.{shown, object_at, next_at, first_of, first_at, mark_at, saving_at, list_at, entries_of, IsKept}
+use Rattle.muck_db.specs.inner.Slots.{shown, object_at, next_at, first_of, first_at, mark_at, saving_at, list_at, entries_of, HasPlayers, IsKept}
 use Rattle.muck_db.proofs.Bridge.{walk_same}
 use Rattle.muck_db.proofs.Linked.{chain_over}
 use Rattle.muck_db.proofs.Readers.{length-entries_of, object_in-entries_of, list_in-entries_of, mark_in-entries_of, saving_in-entries_of}
@@ -213,13 +213,17 @@ limits-loaded os h k o e = by_record (slice_get os k) refl (sym (object-loaded o
 
 -- The rule of the type.
 
-pub slots_kept : (os : List Stored) (slots : List Slot) → slots ≡ slots_of os → IsHung os → list_all fits os ≡ true → IsKept slots 0 0
-slots_kept os slots is hung fine =
-    let K : List Slot → Type 0 = λ z. IsKept z 0 0 in
+pub slots_few : (os : List Stored) (slots : List Slot) → slots ≡ slots_of os → length os ≤ 100000 → length slots ≤ 100000
+slots_few os slots is few = omega (arith, few, length-slots_of os, ap (λ (z : List Slot). length z) is)
+
+pub slots_kept : (os : List Stored) (slots : List Slot) (players : List ℕ) → slots ≡ slots_of os → HasPlayers slots players → IsHung os → list_all fits os ≡ true → IsKept slots 0 0 players
+slots_kept os slots players is listed hung fine =
+    let K : List Slot → Type 0 = λ z. IsKept z 0 0 players in
     let C : List Entry → Type 0 = λ z. IsConsistent z in
     let same : entries_of (slots_of os) ≡ loaded os = entries-slots_of os hung.world in
     subst K (sym is) (record {
       sound = record { ends = ends-slots_of os hung; world = subst C (sym same) hung.world; limits = subst IsWithinLimits (sym same) (limits-loaded os fine) };
       full = λ k lt. absurd (omega arith);
       unmarked = λ k lt. absurd (omega arith);
+      listed = subst (λ (z : List Slot). HasPlayers z players) is listed;
     })

@@ -42,9 +42,9 @@ set_known f n slots can = omega (arith, length-entries_of slots, alive_known (en
 slot_alive : (f : Object → Object) (n : ℕ) (slots : List Slot) → CanSet f n (entries_of slots) → is_garbage (kind_at slots n) ≡ false
 slot_alive f n slots can = ap (λ k. is_garbage k) (sym (kind_in-entries_of slots n)) ∙ can.alive
 
-pub set_kept : (setting : Setting) (n : ℕ) (old new : List Slot) (lowest told : ℕ) → CanSet (with_setting setting) n (entries_of old) → new ≡ changed_at n (on_slot (with_setting setting)) old → IsKept old lowest told → IsKept new lowest told
-set_kept setting n old new lowest told can is kept =
-    kept_set n (with_setting setting) old new lowest told (setting_kind setting) (slot_alive (with_setting setting) n old can) is can.world can.limits kept
+pub set_kept : (setting : Setting) (n : ℕ) (old new : List Slot) (lowest told : ℕ) (players : List ℕ) → CanSet (with_setting setting) n (entries_of old) → new ≡ changed_at n (on_slot (with_setting setting)) old → IsKept old lowest told players → IsKept new lowest told players
+set_kept setting n old new lowest told players can is kept =
+    kept_set n (with_setting setting) old new lowest told players (setting_kind setting) (slot_alive (with_setting setting) n old can) is can.world can.limits kept
 
 pub set_does : (check : Result ℕ DbFault) (f : Object → Object) (n : ℕ) (old new : List Slot) (es : List Entry) → entries_of old ≡ es → check ≡ Ok n → CanSet f n (entries_of old) → new ≡ changed_at n (on_slot f) old
     → Does (set_at f) check es (entries_of new) (Ok tt)

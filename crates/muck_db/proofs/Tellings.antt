@@ -7,7 +7,7 @@ use Rattle.muck_model.specs.declared.dbref.Kind.TheVariants.{Garbage}
 use Rattle.spec_live.specs.declared.object.Object.{Object}
 use Rattle.spec_live.specs.declared.mark.Mark.{Mark}
 use Rattle.spec_live.specs.declared.fault.DbFault.{DbFault}
-use Rattle.spec_live.specs.Objects.{Entry, changed_at, is_garbage, garbage, mark_in}
+use Rattle.spec_live.specs.Objects.{Entry, changed_at, is_garbage, garbage, mark_in, is_player}
 use Rattle.spec_live.specs.Marks.{unmarked, marked_from, told_of, next_change, change_told}
 use Rattle.spec_live.specs.Moving.{Does}
 use Rattle.spec_live.specs.Setting.{with_lines, lines_set}
@@ -82,9 +82,9 @@ kind_kept n k f slots h = elim (cases_eq k n) [
     by_cases None = refl
     by_cases (Some s) = h s
 
-pub kept_told : (old new : List Slot) (n lowest told : ℕ) (mark : Mark) → marked_from 0 (entries_of old) ≡ Some (n, mark) → ((k : ℕ) → k < n → mark_at old k ≡ None) → new ≡ changed_at n (with_mark None) old
-    → IsKept old lowest told → IsKept new lowest (n + 1)
-kept_told old new n lowest told mark h below is kept =
+pub kept_told : (old new : List Slot) (n lowest told : ℕ) (players : List ℕ) (mark : Mark) → marked_from 0 (entries_of old) ≡ Some (n, mark) → ((k : ℕ) → k < n → mark_at old k ≡ None) → new ≡ changed_at n (with_mark None) old
+    → IsKept old lowest told players → IsKept new lowest (n + 1) players
+kept_told old new n lowest told players mark h below is kept =
     let C : List Entry → Type 0 = λ z. IsConsistent z in
     record {
       sound = record { ends = ends_with_mark n None old new is kept.sound.ends; world = subst C (sym (entries_told old new n mark h is)) (consistent_told (entries_of old) kept.sound.world); limits = subst IsWithinLimits (sym (entries_told old new n mark h is)) (limits_told (entries_of old) kept.sound.limits) };
@@ -93,6 +93,7 @@ kept_told old new n lowest told mark h below is kept =
         | inl e ↦ ap (λ (z : List Slot). mark_at z k) is ∙ ap (λ z. mark_at (changed_at n (with_mark None) old) z) e ∙ mark_cleared n old
         | inr e ↦ ap (λ (z : List Slot). mark_at z k) is ∙ mark_other n k (with_mark None) old e ∙ below k (omega arith)
       ];
+      listed = λ k h. kept.listed k (ap is_player (sym (kind_kept n k (with_mark None) old (λ s. refl)) ∙ ap (λ (z : List Slot). kind_at z k) (sym is)) ∙ h);
     }
 
 -- lines
@@ -115,14 +116,15 @@ lines_kind lines s = by_cases s.object refl
 pub entries_lined : (old new : List Slot) (n : ℕ) (lines : List (List ℕ)) → is_garbage (kind_at old n) ≡ false → new ≡ changed_at n (with_slot_lines lines) old → entries_of new ≡ lines_set lines n (entries_of old)
 entries_lined old new n lines alive is = ap (λ (z : List Slot). entries_of z) is ∙ entries_changed n (with_slot_lines lines) (with_lines lines) old (λ s. refl) (λ s e. lines_entry lines old s (alive_slot old n s e alive))
 
-pub kept_lined : (old new : List Slot) (n lowest told less : ℕ) (lines : List (List ℕ)) → is_garbage (kind_at old n) ≡ false → new ≡ changed_at n (with_slot_lines lines) old → less ≤ told → less ≤ n
-    → IsConsistent (lines_set lines n (entries_of old)) → IsWithinLimits (lines_set lines n (entries_of old)) → IsKept old lowest told → IsKept new lowest less
-kept_lined old new n lowest told less lines alive is le below world limits kept =
+pub kept_lined : (old new : List Slot) (n lowest told less : ℕ) (players : List ℕ) (lines : List (List ℕ)) → is_garbage (kind_at old n) ≡ false → new ≡ changed_at n (with_slot_lines lines) old → less ≤ told → less ≤ n
+    → IsConsistent (lines_set lines n (entries_of old)) → IsWithinLimits (lines_set lines n (entries_of old)) → IsKept old lowest told players → IsKept new lowest less players
+kept_lined old new n lowest told less players lines alive is le below world limits kept =
     let C : List Entry → Type 0 = λ z. IsConsistent z in
     record {
       sound = record { ends = ends_changed n (with_slot_lines lines) old new is (λ s. refl) (lines_first lines) kept.sound.ends; world = subst C (sym (entries_lined old new n lines alive is)) world; limits = subst IsWithinLimits (sym (entries_lined old new n lines alive is)) limits };
       full = λ k lt. rw (is, kind_kept n k (with_slot_lines lines) old (lines_kind lines)) (kept.full k lt);
       unmarked = λ k lt. ap (λ (z : List Slot). mark_at z k) is ∙ mark_other n k (with_slot_lines lines) old (λ e. omega (arith, e)) ∙ kept.unmarked k (omega arith);
+      listed = λ k h. kept.listed k (ap is_player (sym (kind_kept n k (with_slot_lines lines) old (lines_kind lines)) ∙ ap (λ (z : List Slot). kind_at z k) (sym is)) ∙ h);
     }
 
 pub lined : (lines : List (List ℕ)) (check : Result ℕ DbFault) (n : ℕ) (old new : List Entry) → check ≡ Ok n → new ≡ lines_set lines n old → Does (lines_set lines) check old new (Ok tt)

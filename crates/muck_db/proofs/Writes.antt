@@ -23,7 +23,7 @@ use Rattle.muck_db.proofs.Readers.{length-entries_of, object_in-entries_of, list
 use Rattle.muck_db.proofs.Linked.{chain_over}
 use Rattle.muck_db.proofs.Bridge.{list_is, walk_same}
 
-get_ext : {X : Type 0} (xs ys : List X) → ((k : ℕ) → slice_get xs k ≡ slice_get ys k) → xs ≡ ys
+pub get_ext : {X : Type 0} (xs ys : List X) → ((k : ℕ) → slice_get xs k ≡ slice_get ys k) → xs ≡ ys
 get_ext [] [] h = refl
 get_ext [] (y ∷ ys) h = absurd (cc (h 0))
 get_ext (x ∷ xs) [] h = absurd (cc (h 0))

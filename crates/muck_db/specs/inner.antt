@@ -5,3 +5,8 @@ pub mod Settings
 pub mod Loading
 pub mod Kept
 pub mod Dumps
+pub mod Exits
+pub mod Ties
+pub mod Table
+pub mod Lent
+pub mod Blocks

@@ -2,14 +2,14 @@
 ghost use Rattle.std.specs.Iterator.{YieldsFirst, item_count};
 
 use crate::links::{dbref_of, next_of};
-use crate::slot::Slot;
+use crate::slots::Slots;
 use muck_model::Dbref;
 use std::marker::Model;
 
 /// What is left of a list of contents or of exits, which contracts see as its numbers from the front on.
 #[derive(Drop)]
 pub struct Chain<'a> {
-    slots: &'a Vec<Slot>,
+    slots: &'a Slots,
     at: Option<u32>,
 }
 
@@ -32,7 +32,7 @@ impl<'a> Chain<'a> {
     ghost use Rattle.muck_db.specs.inner.Slots.{next_at, dbrefs_from};
 
     // From that number on.
-    pub(crate) fn new(slots: &'a Vec<Slot>, at: Option<u32>) -> Self
+    pub(crate) fn new(slots: &'a Slots, at: Option<u32>) -> Self
         requires ends { Ends (length slots.now.items) (next_at slots.now.items) at }
         requires few { length slots.now.items ≤ 100000 }
         ensures { result ≡ dbrefs_from slots.now.items at }

@@ -1,43 +1,51 @@
 // A new object: at the lowest number of garbage, or at the next number.
-ghost use Rattle.std.specs.Prelude.{◌≡◌, ◌<◌, ◌≤◌, ◌^◌, ℕ, [], length, false, OnOk, OnErr, IfOk, Err, if◌then◌else◌};
+ghost use Rattle.std.specs.Prelude.{◌≡◌, ◌<◌, ◌≤◌, ◌^◌, ℕ, [], length, false, true, OnOk, OnErr, IfOk, Err, if◌then◌else◌};
 ghost use Rattle.spec_live.specs.Objects.{dbref_of, is_garbage, is_player, nothing};
 ghost use Rattle.spec_live.specs.Making.{free_in, may_make, owner_judged, create_check, has_home, new_object};
+ghost use Rattle.muck_match.specs.inner.Listed.{IsAmong};
 ghost use Rattle.muck_db.specs.inner.Slots.{kind_at, entries_of, object_put};
+ghost use Rattle.muck_db.specs.inner.Ties.{IsNoted};
 
+use crate::blocks::Flag;
 use crate::links::dbref_of;
 use crate::moves::{is_vehicle, kind_of, may_stand, number_of};
+use crate::players::list_player;
 use crate::slot::Slot;
-use muck_model::{Dbref, Flags, Kind, Line, LineList};
+use crate::slots::Slots;
+use crate::ties::Ties;
+use muck_model::{Dbref, Flags, Kind, Line, LineList, NoMemory};
 use muck_prop::Props;
 use spec_live::{DbFault, Object, Saving};
 use std::alloc::Global;
 
 const OBJECTS_MOST: u32 = 100_000;
 
-fn is_free(slots: &Vec<Slot>, k: u32) -> bool
+fn is_free(slots: &Slots, k: u32) -> bool
     ensures { result ≡ is_garbage (kind_at slots.now.items k) }
 {
     matches!(kind_of(slots, k), Kind::Garbage)
 }
 
-// The lowest number of garbage, else the next number, where no garbage stands below `lowest`.
-fn free_number(slots: &Vec<Slot>, lowest: u32) -> u32
+// The lowest number of garbage, else the next number, where no garbage stands below `lowest`. The blocks in which none may be are passed over.
+fn free_number(slots: &Slots, lowest: u32) -> u32
     requires few { length slots.now.items ≤ 100000 }
     requires full { (k : ℕ) → k < lowest → is_garbage (kind_at slots.now.items k) ≡ false }
     ensures { result ≡ free_in (entries_of slots.now.items) }
 {
     let n = slots.len() as u32;
-    for k in lowest..n {
+    let mut k = slots.next_flagged(Flag::Garbage, lowest);
+    while k < n {
         if is_free(slots, k) {
             return k;
         }
+        k = slots.next_flagged(Flag::Garbage, k + 1);
     }
     n
 }
 
 // Whether the owner is a player; none where it isn't there. The owner of a player isn't looked at.
 #[tactic(auto, using(crate::proofs::Bridge::kinds), unfolding(spec_live::specs::Making::owner_judged))]
-fn is_owned(slots: &Vec<Slot>, kind: Kind, owner: Dbref) -> Option<bool>
+fn is_owned(slots: &Slots, kind: Kind, owner: Dbref) -> Option<bool>
     ensures { result ≡ owner_judged kind owner (entries_of slots.now.items) }
 {
     if matches!(kind, Kind::Player) {
@@ -49,7 +57,7 @@ fn is_owned(slots: &Vec<Slot>, kind: Kind, owner: Dbref) -> Option<bool>
 
 // Whether the kind may be there, and its owner is a player.
 #[tactic(auto, using(crate::proofs::Bridge::kinds), unfolding(spec_live::specs::Making::may_make, spec_live::specs::Objects::is_vehicle_in))]
-fn may_make(slots: &Vec<Slot>, kind: Kind, owned: bool, to: u32) -> bool
+fn may_make(slots: &Slots, kind: Kind, owned: bool, to: u32) -> bool
     ensures { result ≡ may_make kind owned to (entries_of slots.now.items) }
 {
     may_stand(kind, kind_of(slots, to), is_vehicle(slots, to)) && owned
@@ -58,7 +66,7 @@ fn may_make(slots: &Vec<Slot>, kind: Kind, owned: bool, to: u32) -> bool
 // The number and the place of a creation that is allowed, or the first refusal.
 #[tactic(auto, unfolding(spec_live::specs::Making::create_check, spec_live::specs::Making::make_judged, spec_live::specs::Making::objects_most))]
 pub fn check_create(
-    slots: &Vec<Slot>,
+    slots: &Slots,
     lowest: u32,
     kind: Kind,
     owner: Dbref,
@@ -138,9 +146,28 @@ pub fn new_object(
     })
 }
 
+// Makes room for a number of that kind: among the players, where it is one, and for what will be tied to it.
+pub fn make_room(
+    alloc: Global,
+    players: &mut Vec<u32>,
+    ties: &mut Ties,
+    kind: Kind,
+    n: u32,
+) -> Result<(), NoMemory>
+    requires { n ≤ length ties.old.of.items }
+    ensures more { (k : ℕ) → IsAmong players.old.items k → IsAmong players.new.items k }
+    ensures listed { OnOk result (is_player kind ≡ true → IsAmong players.new.items n) }
+    ensures others { (d j : ℕ) → d < length ties.old.of.items → IsNoted ties.old.of.items d j → IsNoted ties.new.of.items d j }
+    ensures long { length ties.old.of.items ≤ length ties.new.of.items }
+    ensures known { OnOk result (n < length ties.new.of.items) }
+{
+    ties.make_room(alloc, n)?;
+    list_player(players, kind, n)
+}
+
 // Puts an object at a number of garbage, or at the next one.
 #[tactic(auto, unfolding(crate::specs::inner::Slots::object_put, spec_live::specs::Objects::changed_at))]
-pub fn put_object(slots: &mut Vec<Slot>, n: u32, object: Object) -> Result<(), DbFault>
+pub fn put_object(slots: &mut Slots, n: u32, object: Object) -> Result<(), DbFault>
     requires { n ≤ length slots.old.items }
     ensures put { OnOk result (slots.new.items ≡ object_put n object slots.old.items) }
     ensures memory { OnErr result (result ≡ Err DbFault.NoMemory) }
@@ -160,7 +187,7 @@ pub fn put_object(slots: &mut Vec<Slot>, n: u32, object: Object) -> Result<(), D
             Err(_) => Err(DbFault::NoMemory),
         };
     }
-    let slot = &mut slots[n as usize];
+    let slot = slots.at_mut(n);
     slot.object = Some(object);
     slot.saving = Saving::Due;
     Ok(())

@@ -1,5 +1,5 @@
 // What a dump hands to the log: the stored form of each object that isn't kept so.
-ghost use Rattle.std.specs.Prelude.{◌≡◌, ◌<◌, ◌≤◌, length, map, All, IfOk, OnOk, Some, true, slice_get};
+ghost use Rattle.std.specs.Prelude.{◌≡◌, ◌<◌, ◌≤◌, ℕ, length, map, All, IfOk, OnOk, Some, true, slice_get};
 ghost use Rattle.std.specs.FinMap.{entries};
 ghost use Rattle.std.specs.List.{AllByRecursion};
 ghost use Rattle.muck_model.specs.Bytes.{lines_most};
@@ -13,11 +13,12 @@ ghost use Rattle.muck_db.specs.inner.Dumps.{MayLook, passes};
 ghost use Rattle.muck_db.specs.inner.Limits.{IsWithinLimits};
 ghost use Rattle.muck_db.specs.inner.Slots.{saving_at, entries_of, HasOrder};
 
+use crate::blocks::Flag;
 use crate::kept::is_kept;
 use crate::links::{dbref_of, first_of, next_of, place_of};
 use crate::marking::is_due;
 use crate::moves::object_of;
-use crate::slot::Slot;
+use crate::slots::Slots;
 use crate::typed::{see_count, see_lists, see_numbers, see_text, see_ties, see_value};
 use crate::walks::dbref_at;
 use muck_codec::{Property, Stored};
@@ -45,14 +46,14 @@ fn copy_properties(alloc: Global, props: &Props) -> Result<Row<Property>, NoMemo
     ensures held { IfOk result (λ list. All MayHold list) }
     ensures kept { OnOk result (AllByRecursion IsKept (entries props.now)) }
 {
-    let all = props.all(alloc)?;
-    let mut list = Row::new(alloc)?;
-    for listed in all.into_vec() {
+    let all = props.all(alloc)?.into_vec();
+    let mut list = Vec::with_capacity(alloc, all.len())?;
+    for listed in all {
         let Listed { rest, value } = listed;
         see_value(&value);
         list.push(Property { path: rest, value })?;
     }
-    Ok(list)
+    Ok(Row::of(list))
 }
 
 // The properties, by rising path. They have a spelling.
@@ -66,7 +67,7 @@ fn properties_of(alloc: Global, props: &Props) -> Result<Row<Property>, NoMemory
 }
 
 // The first of a list of exits, or of contents, or `#-1`.
-pub fn first_link(slots: &Vec<Slot>, exits: bool, k: u32) -> Dbref
+pub fn first_link(slots: &Slots, exits: bool, k: u32) -> Dbref
     requires order { HasOrder slots.now.items }
     requires known { k < length slots.now.items }
     ensures { result ≡ first_of (list_in exits (entries_of slots.now.items) k) }
@@ -75,7 +76,7 @@ pub fn first_link(slots: &Vec<Slot>, exits: bool, k: u32) -> Dbref
 }
 
 // What stands behind an object in the list that it is in, or `#-1`.
-pub fn next_link(slots: &Vec<Slot>, k: u32) -> Dbref
+pub fn next_link(slots: &Slots, k: u32) -> Dbref
     requires order { HasOrder slots.now.items }
     requires known { k < length slots.now.items }
     ensures { result ≡ link_of (next_in (entries_of slots.now.items) k) }
@@ -87,7 +88,7 @@ pub fn next_link(slots: &Vec<Slot>, k: u32) -> Dbref
 }
 
 // What is stored of an object, with its chain fields.
-fn record_of(alloc: Global, slots: &Vec<Slot>, k: u32, object: &Object) -> Result<Stored, NoMemory>
+fn record_of(alloc: Global, slots: &Slots, k: u32, object: &Object) -> Result<Stored, NoMemory>
     requires order { HasOrder slots.now.items }
     requires known { k < length slots.now.items }
     requires object { object_in (entries_of slots.now.items) k ≡ Some object.now }
@@ -146,7 +147,7 @@ fn garbage(alloc: Global) -> Result<Object, NoMemory>
 
 // What is stored at a number: its object, or what is kept of one that was recycled.
 #[tactic(auto, using(crate::proofs::Cutting::object_stored))]
-fn object_at<'a>(slots: &'a Vec<Slot>, k: u32, blank: &'a Object) -> &'a Object
+fn object_at<'a>(slots: &'a Slots, k: u32, blank: &'a Object) -> &'a Object
     requires known { k < length slots.now.items }
     requires blank { blank.now ≡ garbage }
     ensures { object_in (entries_of slots.now.items) k ≡ Some result.now }
@@ -167,7 +168,7 @@ pub enum Extent {
 }
 
 // Whether a dump may leave out a number without a look at its object.
-fn is_passed(extent: Extent, slots: &Vec<Slot>, k: u32) -> bool
+fn is_passed(extent: Extent, slots: &Slots, k: u32) -> bool
     requires { k < length slots.now.items }
     ensures { result ≡ passes extent (saving_at slots.now.items k) }
 {
@@ -178,7 +179,7 @@ fn is_passed(extent: Extent, slots: &Vec<Slot>, k: u32) -> bool
 }
 
 // Whether a number is left out: it isn't looked at, or its object is kept so. It is compared in place with what is kept, which takes no memory.
-fn is_left_out(extent: Extent, base: &[Stored], slots: &Vec<Slot>, k: u32, object: &Object) -> bool
+fn is_left_out(extent: Extent, base: &[Stored], slots: &Slots, k: u32, object: &Object) -> bool
     requires order { HasOrder slots.now.items }
     requires known { k < length slots.now.items }
     requires object { object_in (entries_of slots.now.items) k ≡ Some object.now }
@@ -188,13 +189,25 @@ fn is_left_out(extent: Extent, base: &[Stored], slots: &Vec<Slot>, k: u32, objec
     is_passed(extent, slots, k) || is_kept(base, slots, k, object)
 }
 
-// What is stored of each object that is looked at and isn't kept so; only what differs is copied. It passes over all slots, and reads the change mark
-// of each, which is a byte: a list of what is due would have to be kept with each change, and want memory there.
+// The next number that a dump may have to look at, from `from` on, or one past all.
+fn next_look(extent: Extent, slots: &Slots, from: u32) -> u32
+    requires { length slots.now.items ≤ 100000 }
+    ensures later { from ≤ result }
+    ensures passed { (i : ℕ) → from ≤ i → i < result → i < length slots.now.items → passes extent (saving_at slots.now.items i) ≡ true }
+{
+    match extent {
+        Extent::WhatIsDue => slots.next_flagged(Flag::Unsaved, from),
+        Extent::Everything => from,
+    }
+}
+
+// What is stored of each object that is looked at and isn't kept so; only what differs is copied. A dump that looks at what
+// is due alone passes over the blocks in which all is done.
 pub fn records_of(
     alloc: Global,
     extent: Extent,
     base: &[Stored],
-    slots: &Vec<Slot>,
+    slots: &Slots,
 ) -> Result<Row<Stored>, NoMemory>
     requires order { HasOrder slots.now.items }
     requires limits { IsWithinLimits (entries_of slots.now.items) }
@@ -205,11 +218,13 @@ pub fn records_of(
     let blank = garbage(alloc)?;
     let n = slots.len() as u32;
     let mut records = Row::new(alloc)?;
-    for k in 0..n {
+    let mut k = next_look(extent, slots, 0);
+    while k < n {
         let object = object_at(slots, k, &blank);
         if !is_left_out(extent, base, slots, k, object) {
             records.push(record_of(alloc, slots, k, object)?)?;
         }
+        k = next_look(extent, slots, k + 1);
     }
     Ok(records)
 }

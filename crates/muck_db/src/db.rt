@@ -12,6 +12,7 @@ ghost use Rattle.spec_live.specs.Marks.{next_change, change_told};
 ghost use Rattle.spec_live.specs.Consistent.{IsConsistent};
 ghost use Rattle.spec_live.specs.Saving.{all_saving, pending, done, due_again};
 ghost use Rattle.spec_live.specs.Seen.{listed_in, places_of, scenery_of};
+ghost use Rattle.muck_match.specs.Naming.{found, player_named};
 ghost use Rattle.muck_match.specs.Scenery.{chain, upward};
 ghost use Rattle.muck_lock.specs.inner.Chain.{IsChain};
 ghost use Rattle.muck_codec.specs.inner.Stored.{AreProperties, IsStored};
@@ -25,7 +26,7 @@ ghost use Rattle.muck_db.specs.inner.Shown.{is_there, after_in, first_in, next_i
 ghost use Rattle.muck_model.specs.Bytes.{lines_most};
 
 use crate::chain::Chain;
-use crate::creation::{check_create, new_object, put_object};
+use crate::creation::{check_create, make_room, new_object, put_object};
 use crate::cut::{Extent, records_of};
 use crate::links::dbref_of;
 use crate::load::slots_of;
@@ -33,16 +34,19 @@ use crate::marking::{Moment, pass};
 use crate::moves::{check_move, count_there, found, list_of, relocate};
 use crate::password::{digest_word, is_digest_of};
 use crate::paths::KnownPaths;
+use crate::players::players_of;
 use crate::recycling::{check_recycle, clear_out, vanish};
 use crate::setting::{
     Setting, check_any, check_flags, check_home, check_level, check_link, check_owner,
     check_player, check_program, put_prop, remove_prop, set_at, set_lines,
 };
-use crate::slot::Slot;
+use crate::slots::Slots;
 use crate::start::first_slots;
 use crate::telling::{clear_mark, marked, told_of};
+use crate::ties::{Ties, tether_of};
 use crate::walks::{first_listed, next_listed};
 use muck_codec::{Batch, Stored};
+use muck_match::{Found, find_among, player_among};
 use muck_model::{Dbref, Flags, Kind, Line, LineList, NoMemory, Tune};
 use muck_prop::{Path, PropValue};
 use spec_live::{Changed, DbFault, Object};
@@ -57,18 +61,23 @@ use std::marker::Model;
 /// fourteenth and at most 4,096 lines, and its digest is empty or 80 hex digits.
 #[derive(Drop)]
 pub struct Db {
-    slots: Vec<Slot>,
+    slots: Slots,
     // no garbage stands below this number
     lowest: u32,
     // nothing below this number is to be told of
     told: u32,
+    // each player is among these numbers
+    players: Vec<u32>,
+    // who has its home in a number, or a link to it, is noted there
+    ties: Ties,
     paths: KnownPaths,
 }
 
 impl Model for Db {
     ghost use Rattle.std.specs.Prelude.{List};
     ghost use Rattle.spec_live.specs.Objects.{Entry};
-    ghost use Rattle.muck_db.specs.inner.Slots.{entries_of, IsKept};
+    ghost use Rattle.muck_db.specs.inner.Slots.{entries_of};
+    ghost use Rattle.muck_db.specs.inner.Ties.{IsHeld};
 
     ghost Value = { List Entry };
 
@@ -79,7 +88,7 @@ impl Model for Db {
 
     ghost view = { λ a. entries_of a.slots.items };
 
-    ghost invariant = { λ a. IsKept a.slots.items a.lowest a.told };
+    ghost invariant = { λ a. IsHeld a.slots.items a.lowest a.told a.players.items a.ties.of.items };
 }
 
 impl Db {
@@ -88,11 +97,15 @@ impl Db {
         ensures { IfOk result (λ db. db ≡ first_objects) }
     {
         let slots = first_slots(alloc)?;
+        let players = players_of(alloc, &slots)?;
+        let ties = Ties::of_slots(alloc, &slots)?;
         let paths = KnownPaths::new(alloc)?;
         Ok(Db {
             slots,
             lowest: 0,
             told: 0,
+            players,
+            ties,
             paths,
         })
     }
@@ -106,11 +119,15 @@ impl Db {
         ensures { IfOk result (λ db. db ≡ loaded records.now) }
     {
         let slots = slots_of(alloc, records)?;
+        let players = players_of(alloc, &slots)?;
+        let ties = Ties::of_slots(alloc, &slots)?;
         let paths = KnownPaths::new(alloc)?;
         Ok(Db {
             slots,
             lowest: 0,
             told: 0,
+            players,
+            ties,
             paths,
         })
     }
@@ -163,6 +180,21 @@ impl Db {
         }
     }
 
+    /// The player of that name, given by its bytes, as matching finds it: compared without regard to case, and of several the one with the lowest number. It looks at the
+    /// players alone, and takes no memory.
+    pub fn player_named(&self, name: &[u8]) -> Option<Dbref>
+        ensures { result ≡ player_named (scenery_of self.now) name.now }
+    {
+        player_among(self, &self.players, name)
+    }
+
+    /// What a text names for the player, as matching finds it. For `*player` it looks at the players alone.
+    pub fn find(&self, player: Dbref, text: &Line) -> Found
+        ensures { result ≡ found (scenery_of self.now) player text.now }
+    {
+        find_among(self, &self.players, player, text)
+    }
+
     /// The contents of an object, the newest first; none of what isn't there.
     pub fn contents(&self, d: Dbref) -> Chain<'_>
         ensures list { result ≡ listed_in false d self.now }
@@ -182,7 +214,8 @@ impl Db {
     /// What a dump hands to the log, over what is kept already: the stored form of each object that isn't kept so, and
     /// what is tuned. Each record has a spelling. What isn't due has to be kept as it is, and isn't looked at; what is due
     /// is compared with what is kept, and copied where it differs. Then it is pending, until the dump was stored or
-    /// failed. Where memory is wanted nothing changes.
+    /// failed. Where memory is wanted nothing changes. It costs what is due and its neighbours, and a look at each block
+    /// of 16 numbers.
     pub fn cut(&mut self, alloc: Global, base: &[Stored], tune: &Tune) -> Result<Batch, NoMemory>
         requires kept { KeepsUndue base.now self.old }
         ensures records { IfOk result (λ batch. LeavesOut base.now (persist self.old) batch.records) }
@@ -248,6 +281,9 @@ impl Db {
     {
         let (n, to) = check_create(&self.slots, self.lowest, kind, owner, place)?;
         let object = new_object(alloc, n, kind, name, owner)?;
+        let Ok(()) = make_room(alloc, &mut self.players, &mut self.ties, kind, n) else {
+            return Err(DbFault::NoMemory);
+        };
         put_object(&mut self.slots, n, object)?;
         relocate(&mut self.slots, n, to);
         self.lowest = n + 1;
@@ -381,15 +417,16 @@ impl Db {
 
     /// Recycles an object: homes in it become `#0` and links to it nothing, its contents go home in the order of their
     /// list, its exits become garbage, and then so does it. `NoSuchObject` comes where it isn't there, `WrongKind` for
-    /// `#0` and for a player; nothing has changed then. It takes no memory, and goes over all objects twice.
+    /// `#0` and for a player; nothing has changed then. It takes no memory, and looks at what is tied to the
+    /// object, what it holds and its exits alone, unless memory was wanted when something was tied to it.
     pub fn recycle(&mut self, d: Dbref) -> Result<(), DbFault>
         ensures { Does recycled (recycle_check d self.old) self.old self.new result }
     {
         let k = check_recycle(&self.slots, d)?;
-        clear_out(&mut self.slots, k);
-        vanish(&mut self.slots, k);
-        self.lowest = 0;
-        self.told = 0;
+        clear_out(&mut self.slots, &mut self.ties, k);
+        let least = vanish(&mut self.slots, &mut self.ties, k);
+        self.lowest = self.lowest.min(least);
+        self.told = self.told.min(least);
         Ok(())
     }
 
@@ -416,7 +453,9 @@ impl Db {
         ensures { Does (set_at (with_setting setting)) checked self.old self.new result }
     {
         let k = checked?;
+        let before = tether_of(&self.slots, k);
         set_at(&mut self.slots, k, setting);
+        self.ties.retie(k, before, tether_of(&self.slots, k));
         Ok(())
     }
 }

@@ -7,7 +7,7 @@ ghost use Rattle.muck_db.specs.inner.Kept.{stored_at, HasFields, HasLinks, HasTe
 
 use crate::cut::{first_link, next_link};
 use crate::links::dbref_of;
-use crate::slot::Slot;
+use crate::slots::Slots;
 use muck_codec::{Property, Stored};
 use muck_model::{LineList, Row};
 use muck_prop::Props;
@@ -27,7 +27,7 @@ fn has_fields(object: &Object, record: &Stored) -> bool
 }
 
 // The number, and the chain fields.
-fn has_links(slots: &Vec<Slot>, k: u32, record: &Stored) -> bool
+fn has_links(slots: &Slots, k: u32, record: &Stored) -> bool
     requires order { HasOrder slots.now.items }
     requires known { k < length slots.now.items }
     ensures { result ≡ true → HasLinks (entries_of slots.now.items) k record.now }
@@ -71,7 +71,7 @@ fn has_texts(object: &Object, record: &Stored) -> bool
 }
 
 // Whether a record is what is stored of an object.
-fn is_stored(slots: &Vec<Slot>, k: u32, object: &Object, record: &Stored) -> bool
+fn is_stored(slots: &Slots, k: u32, object: &Object, record: &Stored) -> bool
     requires order { HasOrder slots.now.items }
     requires known { k < length slots.now.items }
     requires object { object_in (entries_of slots.now.items) k ≡ Some object.now }
@@ -81,7 +81,7 @@ fn is_stored(slots: &Vec<Slot>, k: u32, object: &Object, record: &Stored) -> boo
 }
 
 // Whether what is kept at the number of an object is what is stored of it. Nothing is said where it isn't.
-pub fn is_kept(base: &[Stored], slots: &Vec<Slot>, k: u32, object: &Object) -> bool
+pub fn is_kept(base: &[Stored], slots: &Slots, k: u32, object: &Object) -> bool
     requires order { HasOrder slots.now.items }
     requires known { k < length slots.now.items }
     requires object { object_in (entries_of slots.now.items) k ≡ Some object.now }

@@ -2,6 +2,7 @@
 //! see it as the entries of `spec_live`, and nothing of the chains.
 #![tactic(auto)]
 
+mod blocks;
 mod chain;
 mod creation;
 mod cut;
@@ -14,12 +15,15 @@ mod moves;
 mod password;
 mod paths;
 mod persisted;
+mod players;
 mod recycling;
 mod seen;
 mod setting;
 mod slot;
+mod slots;
 mod start;
 mod telling;
+mod ties;
 mod typed;
 mod walks;
 

@@ -7,6 +7,7 @@ ghost use Rattle.muck_db.specs.inner.Loading.{object_kept, slot_of, slots_of};
 
 use crate::links::index_of;
 use crate::slot::Slot;
+use crate::slots::Slots;
 use muck_codec::{Property, Stored};
 use muck_model::{Kind, Line, LineList, NoMemory};
 use muck_prop::Props;
@@ -87,11 +88,11 @@ fn slot_of(alloc: Global, record: &Stored) -> Result<Slot, NoMemory>
 
 // The slots of records, in their order.
 #[tactic(auto, unfolding(crate::specs::inner::Loading::slots_of))]
-pub fn slots_of(alloc: Global, records: &[Stored]) -> Result<Vec<Slot>, NoMemory>
+pub fn slots_of(alloc: Global, records: &[Stored]) -> Result<Slots, NoMemory>
     requires { All (λ s. AreProperties s.props) records.now }
     ensures { IfOk result (λ slots. slots.items ≡ slots_of records.now) }
 {
-    let mut slots = Vec::new(alloc);
+    let mut slots = Slots::new(alloc);
     for record in records {
         slots.push(slot_of(alloc, record)?)?;
     }

@@ -13,6 +13,7 @@ ghost use Rattle.muck_db.specs.inner.Shown.{is_there};
 use crate::chain::Chain;
 use crate::links::{first_of, index_of, is_exit_of, leads_to, link, set_place, take_out};
 use crate::slot::Slot;
+use crate::slots::Slots;
 use muck_model::{Dbref, Kind};
 use spec_live::{DbFault, Object, VEHICLE, has_flag};
 
@@ -35,11 +36,11 @@ pub fn may_stand(kind: Kind, place: Kind, seats: bool) -> bool
 }
 
 #[tactic(auto, unfolding(crate::specs::inner::Slots::kind_at, crate::specs::inner::Slots::object_at, spec_live::specs::Objects::garbage))]
-pub fn kind_of(slots: &Vec<Slot>, k: u32) -> Kind
+pub fn kind_of(slots: &Slots, k: u32) -> Kind
     ensures value { result ≡ kind_at slots.now.items k }
     ensures within { is_garbage result ≡ false → k < length slots.now.items }
 {
-    match slots.get(k as usize) {
+    match slots.get(k) {
         Some(
             Slot {
                 object: Some(object),
@@ -51,10 +52,10 @@ pub fn kind_of(slots: &Vec<Slot>, k: u32) -> Kind
 }
 
 #[tactic(auto, unfolding(crate::specs::inner::Slots::flags_at, crate::specs::inner::Slots::object_at, spec_live::specs::Objects::garbage, spec_live::specs::Flags::has_flag))]
-pub fn is_vehicle(slots: &Vec<Slot>, k: u32) -> bool
+pub fn is_vehicle(slots: &Slots, k: u32) -> bool
     ensures { result ≡ has_flag vehicle (flags_at slots.now.items k) }
 {
-    match slots.get(k as usize) {
+    match slots.get(k) {
         Some(
             Slot {
                 object: Some(object),
@@ -67,7 +68,7 @@ pub fn is_vehicle(slots: &Vec<Slot>, k: u32) -> bool
 
 // Whether `d` may be in `to`.
 #[tactic(auto, using(crate::proofs::Bridge::kinds), unfolding(spec_live::specs::Objects::fits_in, spec_live::specs::Objects::is_vehicle_in))]
-pub fn fits(slots: &Vec<Slot>, d: u32, to: u32) -> bool
+pub fn fits(slots: &Slots, d: u32, to: u32) -> bool
     ensures { result ≡ fits_in (entries_of slots.now.items) d to }
 {
     may_stand(kind_of(slots, d), kind_of(slots, to), is_vehicle(slots, to))
@@ -75,7 +76,7 @@ pub fn fits(slots: &Vec<Slot>, d: u32, to: u32) -> bool
 
 // The number of an object that is there.
 #[tactic(auto, using(crate::proofs::Bridge::kinds), unfolding(spec_live::specs::Objects::number_in))]
-pub fn number_of(slots: &Vec<Slot>, d: Dbref) -> Option<u32>
+pub fn number_of(slots: &Slots, d: Dbref) -> Option<u32>
     ensures value { result ≡ number_in (entries_of slots.now.items) d }
     ensures within { IfSome result (λ k. k < length slots.now.items) }
     ensures alive { IfSome result (λ k. is_garbage (kind_at slots.now.items k) ≡ false) }
@@ -89,15 +90,15 @@ pub fn number_of(slots: &Vec<Slot>, d: Dbref) -> Option<u32>
 
 // The object at a place, which is none where it is garbage.
 #[tactic(auto, unfolding(crate::specs::inner::Slots::kept_at))]
-pub fn object_of(slots: &Vec<Slot>, k: u32) -> Option<&Object>
+pub fn object_of(slots: &Slots, k: u32) -> Option<&Object>
     requires { k < length slots.now.items }
     ensures { option_copied result ≡ kept_at slots.now.items k }
 {
-    slots[k as usize].object.as_ref()
+    slots.at(k).object.as_ref()
 }
 
 // The object of a number.
-pub fn found(slots: &Vec<Slot>, d: Dbref) -> Option<&Object>
+pub fn found(slots: &Slots, d: Dbref) -> Option<&Object>
     ensures { option_copied result ≡ object_at d (entries_of slots.now.items) }
 {
     match number_of(slots, d) {
@@ -124,18 +125,18 @@ fn one_there(slot: &Slot) -> usize
     if is_there(slot) { 1 } else { 0 }
 }
 
-fn count_slots(slots: &Vec<Slot>) -> usize
+fn count_slots(slots: &Slots) -> usize
     ensures { result ≡ count_by (λ s. not (is_garbage (shown s).kind)) slots.now.items }
 {
     let mut n = 0;
-    for slot in slots.iter() {
+    for slot in slots.as_slice() {
         n += one_there(slot);
     }
     n
 }
 
 // How many objects there are, without garbage.
-pub fn count_there(slots: &Vec<Slot>) -> usize
+pub fn count_there(slots: &Slots) -> usize
     ensures { result ≡ count_by is_there (entries_of slots.now.items) }
 {
     count_slots(slots)
@@ -143,7 +144,7 @@ pub fn count_there(slots: &Vec<Slot>) -> usize
 
 // The numbers of a move that is allowed, or the first refusal.
 #[tactic(auto, using(crate::proofs::Bridge::kinds), unfolding(spec_live::specs::Moving::move_check, spec_live::specs::Moving::judged))]
-pub fn check_move(slots: &Vec<Slot>, d: Dbref, to: Dbref) -> Result<(u32, u32), DbFault>
+pub fn check_move(slots: &Slots, d: Dbref, to: Dbref) -> Result<(u32, u32), DbFault>
     requires { HasOrder slots.now.items }
     ensures { result ≡ move_check d to (entries_of slots.now.items) }
 {
@@ -166,7 +167,7 @@ pub fn check_move(slots: &Vec<Slot>, d: Dbref, to: Dbref) -> Result<(u32, u32), 
 }
 
 // The list of exits, or of contents.
-pub fn list_of(slots: &Vec<Slot>, exits: bool, d: Dbref) -> Chain<'_>
+pub fn list_of(slots: &Slots, exits: bool, d: Dbref) -> Chain<'_>
     requires { HasOrder slots.now.items }
     ensures { result ≡ listed_in exits d (entries_of slots.now.items) }
 {
@@ -177,7 +178,7 @@ pub fn list_of(slots: &Vec<Slot>, exits: bool, d: Dbref) -> Chain<'_>
 }
 
 // Moves `d` to the front of a list of `to`.
-pub fn relocate(slots: &mut Vec<Slot>, d: u32, to: u32)
+pub fn relocate(slots: &mut Slots, d: u32, to: u32)
     requires order { HasOrder slots.old.items }
     requires may { MayMove (entries_of slots.old.items) d to }
     ensures moved { entries_of slots.new.items ≡ moved d to (entries_of slots.old.items) }

@@ -8,13 +8,14 @@ ghost use Rattle.muck_db.specs.inner.Settings.{with_setting};
 use crate::links::{first_of, next_of};
 use crate::moves::{is_vehicle, kind_of, number_of};
 use crate::slot::Slot;
+use crate::slots::Slots;
 use muck_model::{Dbref, Flags, Kind, Line, LineList};
 use muck_prop::{Path, PropValue};
 use spec_live::{DbFault, Mark, Object, Saving, VEHICLE, has_flag};
 
 // The number of an object.
 #[tactic(auto, unfolding(spec_live::specs::Setting::checked))]
-pub fn check_any(slots: &Vec<Slot>, d: Dbref) -> Result<u32, DbFault>
+pub fn check_any(slots: &Slots, d: Dbref) -> Result<u32, DbFault>
     ensures is { result ≡ checked any d (entries_of slots.now.items) }
     ensures within { IfOk result (λ k. k < length slots.now.items) }
     ensures alive { IfOk result (λ k. is_garbage (kind_at slots.now.items k) ≡ false) }
@@ -25,7 +26,7 @@ pub fn check_any(slots: &Vec<Slot>, d: Dbref) -> Result<u32, DbFault>
     }
 }
 
-fn is_player(slots: &Vec<Slot>, k: u32) -> bool
+fn is_player(slots: &Slots, k: u32) -> bool
     ensures { result ≡ is_player (kind_at slots.now.items k) }
 {
     matches!(kind_of(slots, k), Kind::Player)
@@ -33,7 +34,7 @@ fn is_player(slots: &Vec<Slot>, k: u32) -> bool
 
 // The number of an object that isn't a player, where the owner is one.
 #[tactic(auto, using(crate::proofs::Bridge::kinds), unfolding(spec_live::specs::Setting::owner_check, spec_live::specs::Setting::checked_both))]
-pub fn check_owner(slots: &Vec<Slot>, d: Dbref, owner: Dbref) -> Result<u32, DbFault>
+pub fn check_owner(slots: &Slots, d: Dbref, owner: Dbref) -> Result<u32, DbFault>
     ensures is { result ≡ owner_check d owner (entries_of slots.now.items) }
     ensures within { IfOk result (λ k. k < length slots.now.items) }
     ensures alive { IfOk result (λ k. is_garbage (kind_at slots.now.items k) ≡ false) }
@@ -62,7 +63,7 @@ fn may_link(kind: Kind, to: Kind) -> bool
 
 // The number of an object whose link may be nothing.
 #[tactic(auto, using(crate::proofs::Bridge::kinds), unfolding(spec_live::specs::Setting::checked))]
-fn check_unlinked(slots: &Vec<Slot>, d: Dbref) -> Result<u32, DbFault>
+fn check_unlinked(slots: &Slots, d: Dbref) -> Result<u32, DbFault>
     ensures is { result ≡ checked (λ n. has_link (kind_in (entries_of slots.now.items) n)) d (entries_of slots.now.items) }
     ensures within { IfOk result (λ k. k < length slots.now.items) }
     ensures alive { IfOk result (λ k. is_garbage (kind_at slots.now.items k) ≡ false) }
@@ -78,7 +79,7 @@ fn check_unlinked(slots: &Vec<Slot>, d: Dbref) -> Result<u32, DbFault>
 
 // The number of an exit.
 #[tactic(auto, using(crate::proofs::Bridge::kinds), unfolding(spec_live::specs::Setting::checked))]
-fn check_exit(slots: &Vec<Slot>, d: Dbref) -> Result<u32, DbFault>
+fn check_exit(slots: &Slots, d: Dbref) -> Result<u32, DbFault>
     ensures is { result ≡ checked (λ n. is_exit (kind_in (entries_of slots.now.items) n)) d (entries_of slots.now.items) }
     ensures within { IfOk result (λ k. k < length slots.now.items) }
     ensures alive { IfOk result (λ k. is_garbage (kind_at slots.now.items k) ≡ false) }
@@ -94,7 +95,7 @@ fn check_exit(slots: &Vec<Slot>, d: Dbref) -> Result<u32, DbFault>
 
 // The number of an object that may be linked to that one.
 #[tactic(auto, using(crate::proofs::Bridge::kinds), unfolding(spec_live::specs::Setting::checked_both))]
-fn check_target(slots: &Vec<Slot>, d: Dbref, to: Dbref) -> Result<u32, DbFault>
+fn check_target(slots: &Slots, d: Dbref, to: Dbref) -> Result<u32, DbFault>
     ensures is { result ≡ checked_both (λ n t. may_link (kind_in (entries_of slots.now.items) n) (kind_in (entries_of slots.now.items) t)) d to (entries_of slots.now.items) }
     ensures within { IfOk result (λ k. k < length slots.now.items) }
     ensures alive { IfOk result (λ k. is_garbage (kind_at slots.now.items k) ≡ false) }
@@ -113,7 +114,7 @@ fn check_target(slots: &Vec<Slot>, d: Dbref, to: Dbref) -> Result<u32, DbFault>
 
 // The number of an object whose link may be that.
 #[tactic(auto, unfolding(spec_live::specs::Setting::link_check))]
-pub fn check_link(slots: &Vec<Slot>, d: Dbref, to: Dbref) -> Result<u32, DbFault>
+pub fn check_link(slots: &Slots, d: Dbref, to: Dbref) -> Result<u32, DbFault>
     ensures is { result ≡ link_check d to (entries_of slots.now.items) }
     ensures within { IfOk result (λ k. k < length slots.now.items) }
     ensures alive { IfOk result (λ k. is_garbage (kind_at slots.now.items k) ≡ false) }
@@ -139,7 +140,7 @@ fn may_live(kind: Kind, to: Kind) -> bool
 
 // The number of an object that may live there.
 #[tactic(auto, using(crate::proofs::Bridge::kinds), unfolding(spec_live::specs::Setting::home_check, spec_live::specs::Setting::checked_both))]
-pub fn check_home(slots: &Vec<Slot>, d: Dbref, to: Dbref) -> Result<u32, DbFault>
+pub fn check_home(slots: &Slots, d: Dbref, to: Dbref) -> Result<u32, DbFault>
     ensures is { result ≡ home_check d to (entries_of slots.now.items) }
     ensures within { IfOk result (λ k. k < length slots.now.items) }
     ensures alive { IfOk result (λ k. is_garbage (kind_at slots.now.items k) ≡ false) }
@@ -157,7 +158,7 @@ pub fn check_home(slots: &Vec<Slot>, d: Dbref, to: Dbref) -> Result<u32, DbFault
 }
 
 // Whether a player is in it.
-fn holds_player(slots: &Vec<Slot>, n: u32) -> bool
+fn holds_player(slots: &Slots, n: u32) -> bool
     requires order { HasOrder slots.now.items }
     requires known { n < length slots.now.items }
     ensures { result ≡ holds_player (entries_of slots.now.items) n }
@@ -174,7 +175,7 @@ fn holds_player(slots: &Vec<Slot>, n: u32) -> bool
 
 // Whether all that sit on it may stay.
 #[tactic(auto, using(crate::proofs::Bridge::kinds), unfolding(spec_live::specs::Setting::keeps_seats, spec_live::specs::Objects::is_vehicle_in))]
-fn keeps_seats(slots: &Vec<Slot>, flags: Flags, n: u32) -> bool
+fn keeps_seats(slots: &Slots, flags: Flags, n: u32) -> bool
     requires order { HasOrder slots.now.items }
     requires known { n < length slots.now.items }
     ensures { result ≡ keeps_seats (entries_of slots.now.items) flags n }
@@ -187,7 +188,7 @@ fn keeps_seats(slots: &Vec<Slot>, flags: Flags, n: u32) -> bool
 
 // The number of an object that may have these flags.
 #[tactic(auto, unfolding(spec_live::specs::Setting::flags_check, spec_live::specs::Setting::checked))]
-pub fn check_flags(slots: &Vec<Slot>, d: Dbref, flags: Flags) -> Result<u32, DbFault>
+pub fn check_flags(slots: &Slots, d: Dbref, flags: Flags) -> Result<u32, DbFault>
     requires order { HasOrder slots.now.items }
     ensures is { result ≡ flags_check d flags (entries_of slots.now.items) }
     ensures within { IfOk result (λ k. k < length slots.now.items) }
@@ -204,7 +205,7 @@ pub fn check_flags(slots: &Vec<Slot>, d: Dbref, flags: Flags) -> Result<u32, DbF
 
 // The number of a program or a player, for a level that there is.
 #[tactic(auto, using(crate::proofs::Bridge::kinds), unfolding(spec_live::specs::Setting::level_check, spec_live::specs::Setting::checked))]
-pub fn check_level(slots: &Vec<Slot>, d: Dbref, level: u8) -> Result<u32, DbFault>
+pub fn check_level(slots: &Slots, d: Dbref, level: u8) -> Result<u32, DbFault>
     ensures is { result ≡ level_check d level (entries_of slots.now.items) }
     ensures within { IfOk result (λ k. k < length slots.now.items) }
     ensures alive { IfOk result (λ k. is_garbage (kind_at slots.now.items k) ≡ false) }
@@ -221,7 +222,7 @@ pub fn check_level(slots: &Vec<Slot>, d: Dbref, level: u8) -> Result<u32, DbFaul
 
 // The number of a program.
 #[tactic(auto, using(crate::proofs::Bridge::kinds), unfolding(spec_live::specs::Setting::lines_check, spec_live::specs::Setting::checked))]
-pub fn check_program(slots: &Vec<Slot>, d: Dbref) -> Result<u32, DbFault>
+pub fn check_program(slots: &Slots, d: Dbref) -> Result<u32, DbFault>
     ensures is { result ≡ lines_check d (entries_of slots.now.items) }
     ensures within { IfOk result (λ k. k < length slots.now.items) }
     ensures alive { IfOk result (λ k. is_garbage (kind_at slots.now.items k) ≡ false) }
@@ -237,7 +238,7 @@ pub fn check_program(slots: &Vec<Slot>, d: Dbref) -> Result<u32, DbFault>
 
 // The number of a player.
 #[tactic(auto, using(crate::proofs::Bridge::kinds), unfolding(spec_live::specs::Setting::password_check, spec_live::specs::Setting::checked))]
-pub fn check_player(slots: &Vec<Slot>, d: Dbref) -> Result<u32, DbFault>
+pub fn check_player(slots: &Slots, d: Dbref) -> Result<u32, DbFault>
     ensures is { result ≡ password_check d (entries_of slots.now.items) }
     ensures within { IfOk result (λ k. k < length slots.now.items) }
     ensures alive { IfOk result (λ k. is_garbage (kind_at slots.now.items k) ≡ false) }
@@ -289,11 +290,11 @@ fn set_in(object: &mut Object, setting: Setting)
 
 // Sets a field of an object, where it isn't garbage.
 #[tactic(auto, unfolding(spec_live::specs::Objects::changed_at))]
-pub fn set_at(slots: &mut Vec<Slot>, k: u32, setting: Setting)
+pub fn set_at(slots: &mut Slots, k: u32, setting: Setting)
     requires { k < length slots.old.items }
     ensures { slots.new.items ≡ changed_at k (on_slot (with_setting setting)) slots.old.items }
 {
-    let slot = &mut slots[k as usize];
+    let slot = slots.at_mut(k);
     if let Some(object) = &mut slot.object {
         set_in(object, setting);
     }
@@ -301,11 +302,11 @@ pub fn set_at(slots: &mut Vec<Slot>, k: u32, setting: Setting)
 }
 
 #[tactic(auto, unfolding(spec_live::specs::Objects::changed_at))]
-pub fn set_lines(slots: &mut Vec<Slot>, k: u32, lines: LineList)
+pub fn set_lines(slots: &mut Slots, k: u32, lines: LineList)
     requires { k < length slots.old.items }
     ensures { slots.new.items ≡ changed_at k (with_slot_lines lines) slots.old.items }
 {
-    let slot = &mut slots[k as usize];
+    let slot = slots.at_mut(k);
     if let Some(object) = &mut slot.object {
         object.lines = lines;
     }
@@ -315,11 +316,11 @@ pub fn set_lines(slots: &mut Vec<Slot>, k: u32, lines: LineList)
 
 // Removes a property of an object.
 #[tactic(auto, unfolding(spec_live::specs::Objects::changed_at))]
-pub fn remove_prop(slots: &mut Vec<Slot>, k: u32, path: &Path)
+pub fn remove_prop(slots: &mut Slots, k: u32, path: &Path)
     requires { k < length slots.old.items }
     ensures { slots.new.items ≡ changed_at k (on_slot (without_prop path.now)) slots.old.items }
 {
-    let slot = &mut slots[k as usize];
+    let slot = slots.at_mut(k);
     if let Some(object) = &mut slot.object {
         object.props.remove(path);
     }
@@ -353,11 +354,11 @@ fn put_at(slot: &mut Slot, path: Path, value: PropValue) -> Result<(), DbFault>
 
 // The same in the table.
 #[tactic(auto, using(crate::proofs::Writes::set_back), unfolding(spec_live::specs::Objects::changed_at))]
-pub fn put_prop(slots: &mut Vec<Slot>, k: u32, path: Path, value: PropValue) -> Result<(), DbFault>
+pub fn put_prop(slots: &mut Slots, k: u32, path: Path, value: PropValue) -> Result<(), DbFault>
     requires { k < length slots.old.items }
     ensures ok { OnOk result (slots.new.items ≡ changed_at k (on_slot (with_prop path value)) slots.old.items) }
     ensures memory { OnErr result (result ≡ Err DbFault.NoMemory) }
     ensures err { OnErr result (slots.new.items ≡ slots.old.items) }
 {
-    put_at(&mut slots[k as usize], path, value)
+    put_at(slots.at_mut(k), path, value)
 }

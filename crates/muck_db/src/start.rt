@@ -7,6 +7,7 @@ ghost use Rattle.muck_db.specs.inner.Slots.{first_slots};
 
 use crate::password::digest_text;
 use crate::slot::Slot;
+use crate::slots::Slots;
 use muck_model::{Dbref, Flags, Kind, Line, LineList, NoMemory};
 use muck_prop::Props;
 use spec_live::{Object, Saving, WIZARD};
@@ -60,10 +61,10 @@ fn player_one(alloc: Global) -> Result<Object, NoMemory>
 
 // Room Zero, and One in it.
 #[tactic(auto, unfolding(crate::specs::inner::Slots::first_slots))]
-pub fn first_slots(alloc: Global) -> Result<Vec<Slot>, NoMemory>
+pub fn first_slots(alloc: Global) -> Result<Slots, NoMemory>
     ensures { IfOk result (λ slots. slots.items ≡ first_slots) }
 {
-    let mut slots = Vec::new(alloc);
+    let mut slots = Slots::new(alloc);
     slots.push(Slot {
         object: Some(room_zero(alloc)?),
         first_content: Some(1),

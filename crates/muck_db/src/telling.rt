@@ -4,20 +4,21 @@ ghost use Rattle.spec_live.specs.Objects.{changed_at};
 ghost use Rattle.spec_live.specs.Marks.{marked_from, told_of};
 ghost use Rattle.muck_db.specs.inner.Slots.{mark_at, entries_of, with_mark};
 
+use crate::blocks::Flag;
 use crate::links::dbref_of;
-use crate::slot::Slot;
+use crate::slots::Slots;
 use spec_live::{Changed, Mark};
 
 #[tactic(auto, unfolding(crate::specs::inner::Slots::mark_at))]
-fn mark_of(slots: &Vec<Slot>, k: u32) -> Option<Mark>
+fn mark_of(slots: &Slots, k: u32) -> Option<Mark>
     requires { k < length slots.now.items }
     ensures { result ≡ mark_at slots.now.items k }
 {
-    slots[k as usize].mark
+    slots.at(k).mark
 }
 
-// The lowest number with a mark, where none stands below `told`.
-pub fn marked(slots: &Vec<Slot>, told: u32) -> Option<(u32, Mark)>
+// The lowest number with a mark, where none stands below `told`. The blocks in which none may be are passed over.
+pub fn marked(slots: &Slots, told: u32) -> Option<(u32, Mark)>
     requires few { length slots.now.items ≤ 100000 }
     requires unmarked { (k : ℕ) → k < told → mark_at slots.now.items k ≡ None }
     ensures is { result ≡ marked_from 0 (entries_of slots.now.items) }
@@ -26,20 +27,22 @@ pub fn marked(slots: &Vec<Slot>, told: u32) -> Option<(u32, Mark)>
     ensures none { IfNone result ((k : ℕ) → k < length slots.now.items → mark_at slots.now.items k ≡ None) }
 {
     let n = slots.len() as u32;
-    for k in told..n {
+    let mut k = slots.next_flagged(Flag::Marked, told);
+    while k < n {
         if let Some(mark) = mark_of(slots, k) {
             return Some((k, mark));
         }
+        k = slots.next_flagged(Flag::Marked, k + 1);
     }
     None
 }
 
 #[tactic(auto, unfolding(spec_live::specs::Objects::changed_at))]
-pub fn clear_mark(slots: &mut Vec<Slot>, k: u32)
+pub fn clear_mark(slots: &mut Slots, k: u32)
     requires { k < length slots.old.items }
     ensures { slots.new.items ≡ changed_at k (with_mark None) slots.old.items }
 {
-    let slot = &mut slots[k as usize];
+    let slot = slots.at_mut(k);
     slot.mark = None;
 }
 

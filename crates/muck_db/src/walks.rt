@@ -8,7 +8,7 @@ ghost use Rattle.muck_db.specs.inner.Shown.{after_in, first_in, next_in, dbref_a
 
 use crate::links::{dbref_of, first_of, next_of, place_of};
 use crate::moves::number_of;
-use crate::slot::Slot;
+use crate::slots::Slots;
 use muck_model::Dbref;
 
 const NOTHING: Dbref = Dbref(-1);
@@ -25,7 +25,7 @@ pub fn dbref_at(at: Option<u32>) -> Dbref
 }
 
 // The first of a list of exits, or of contents, or `#-1`.
-pub fn first_listed(slots: &Vec<Slot>, exits: bool, d: Dbref) -> Dbref
+pub fn first_listed(slots: &Slots, exits: bool, d: Dbref) -> Dbref
     requires { HasOrder slots.now.items }
     ensures listed { listed_in exits d (entries_of slots.now.items) ≡ chain (after_in (entries_of slots.now.items)) result }
     ensures first { exits ≡ false → result ≡ first_in (entries_of slots.now.items) d }
@@ -38,7 +38,7 @@ pub fn first_listed(slots: &Vec<Slot>, exits: bool, d: Dbref) -> Dbref
 }
 
 // What stands behind an object in its list, or `#-1`.
-pub fn next_listed(slots: &Vec<Slot>, d: Dbref) -> Dbref
+pub fn next_listed(slots: &Slots, d: Dbref) -> Dbref
     requires { HasOrder slots.now.items }
     ensures after { after_in (entries_of slots.now.items) d ≡ chain (after_in (entries_of slots.now.items)) result }
     ensures next { result ≡ next_in (entries_of slots.now.items) d }

@@ -3,7 +3,7 @@ ghost use Rattle.std.specs.Prelude.{◌≡◌, ℕ, true};
 ghost use Rattle.muck_dumping.specs.inner.Between.{IsReady, Knows};
 ghost use Rattle.muck_dumper.specs.inner.Dumping.{history_seen, DumperReady, DumperDone};
 
-use crate::deeds::{Did, Task};
+use crate::deeds::{DUMPER, Did, Task};
 use crate::holds::{Fault, makes, watch_turn};
 use muck_disk::Disk;
 use muck_dumping::Store;
@@ -51,11 +51,11 @@ pub fn dumper<W: Wait, D: Disk, G: Gate, R: Rest>(
     let mut task = Task::Watch;
     for _ in rt.forever() {
         match watch_turn(rt, turn, seat, task, store, first, second, gate, rest) {
-            Ok(Did::Idled) => rest.rest(),
+            Ok(Did::Idled) => rest.rest(DUMPER),
             Ok(Did::Began(pending)) => {
                 gate.pass(place::BEFORE_DUMP);
                 match makes(rt, alloc, turn, seat, store, first, second, rest, pending) {
-                    Ok(()) => {}
+                    Ok(()) => rest.did(DUMPER),
                     Err(Fault::NoMemory) => return Why::NoMemory,
                     Err(Fault::Spent) => return Why::Spent,
                 }
@@ -64,8 +64,14 @@ pub fn dumper<W: Wait, D: Disk, G: Gate, R: Rest>(
                 gate.pass(place::BEFORE_END);
                 task = Task::End;
             }
-            Ok(Did::Over) => return Why::Fine,
-            Ok(Did::Failed) => return Why::NoMemory,
+            Ok(Did::Over) => {
+                rest.ended(DUMPER);
+                return Why::Fine;
+            }
+            Ok(Did::Failed) => {
+                rest.ended(DUMPER);
+                return Why::NoMemory;
+            }
             Err(_) => return Why::Spent,
         }
     }

@@ -56,7 +56,7 @@ pub(crate) fn watch_turn<W: Wait, D: Disk, G: Gate, R: Rest>(
     // For contracts alone: each note stands in its place.
     let _dead = held.state.is_dead();
     let did = watches(&mut held.state, task, store, first, second, gate);
-    turn.give(seat, held);
+    turn.give(seat, held, rest);
     Ok(did)
 }
 
@@ -88,7 +88,7 @@ fn finish_turn<W: Wait, D: Disk, R: Rest>(
     let mut held = held;
     let _dead = held.state.is_dead();
     let told = finishes(&mut held.state, first, second, number, stored);
-    turn.give(seat, held);
+    turn.give(seat, held, rest);
     Ok(told)
 }
 
@@ -109,7 +109,7 @@ fn die_turn<W: Wait, R: Rest>(
     let mut held = held;
     let _dead = held.state.is_dead();
     held.state.died(DUMPER);
-    turn.give(seat, held);
+    turn.give(seat, held, rest);
     Ok(())
 }
 

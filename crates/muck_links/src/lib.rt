@@ -2,12 +2,14 @@
 //! memory, and `MioLinks` are the system's sockets.
 #![tactic(auto)]
 
+mod bell;
 mod cutter;
 mod links;
 mod script;
 mod session;
 mod sockets;
 
+pub use bell::{Bell, BellRest};
 pub use cutter::{LineCutter, Mode};
 pub use links::{Accepted, LinkRead, LinkWrite, Links, Listened};
 pub use script::{LinkStep, LinkWhat, ScriptLinks};

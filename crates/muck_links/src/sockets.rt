@@ -2,6 +2,7 @@
 ghost use Rattle.std.specs.Prelude.{◌≡◌, ◌≢◌, ◌<◌, ◌^◌, ℕ, false};
 ghost use Rattle.muck_links.specs.declared.links.Accepted.TheVariants.{Got as Came, Fault as AcceptFault};
 
+use crate::bell::Bell;
 use crate::links::{Accepted, LinkRead, LinkWrite, Links, Listened};
 use mio::net::{TcpListener, TcpStream};
 use mio::{Events, Interest, Poll, Token};
@@ -10,19 +11,15 @@ use std::alloc::Global;
 use std::io;
 use std::io::{ErrorKind, Read, Write};
 use std::net::{Ipv4Addr, Net, Shutdown, SocketAddr};
-use std::time::Duration;
 
 // The name of the listener among what may be ready; the links have their numbers.
 const DOOR: usize = usize::MAX;
 
+// That of the bell.
+const BELL: usize = usize::MAX - 1;
+
 // How many events one look at the sockets tells.
 const EVENTS_MOST: usize = 1024;
-
-// How many rounds in which nothing happened are looked through before a round waits.
-const ROUNDS_AWAKE: u32 = 64;
-
-// How many milliseconds a round waits in which nothing happens.
-const NAP_MILLIS: u64 = 1;
 
 // The most links that are open at once; further ones wait at the door.
 const LINKS_MOST: usize = 256;
@@ -38,6 +35,8 @@ struct Door {
     events: Events,
     // Whether links may wait there.
     pending: bool,
+    // Whether the last look found something, which is seen to before the next one.
+    found: bool,
 }
 
 // An open link.
@@ -46,19 +45,20 @@ struct Socket {
     stream: TcpStream,
     // Whether a read may find something.
     readable: bool,
+    // Whether its end, or that it failed, stands behind what a read finds.
+    ends: bool,
 }
 
 /// Links over the system's sockets, by TCP, at all IPv4 addresses of the machine. They tell nothing of what they carry. What is
-/// written goes out at once, in one call of the system. Where nothing happens for some rounds, `accept` waits for a millisecond, or until something does.
+/// written goes out at once, in one call of the system. `accept` waits for as long as the bell lets it, until a link is ready or the bell rings.
 #[derive(Drop)]
-pub struct MioLinks<N: Net> {
+pub struct MioLinks<'b, N: Net> {
     net: N,
     alloc: Global,
     door: Option<Door>,
     sockets: Slab<Socket>,
     listening: u64,
-    // How many rounds nothing happened.
-    quiet: u32,
+    bell: &'b Bell,
 }
 
 // Opens a door at the port, on all addresses.
@@ -73,6 +73,7 @@ fn open<N: Net>(net: &N, port: u16, events: Events) -> io::Result<Door> {
         poll,
         events,
         pending: true,
+        found: false,
     })
 }
 
@@ -93,16 +94,16 @@ fn is_passing(error: &io::Error) -> bool {
     }
 }
 
-impl<N: Net> MioLinks<N> {
-    /// No link so far.
-    pub fn new(alloc: Global, net: N) -> Self {
+impl<'b, N: Net> MioLinks<'b, N> {
+    /// No link so far. Whoever rings this bell ends a wait.
+    pub fn new(alloc: Global, net: N, bell: &'b Bell) -> Self {
         MioLinks {
             net,
             alloc,
             door: None,
             sockets: Slab::new(alloc),
             listening: 0,
-            quiet: 0,
+            bell,
         }
     }
 
@@ -115,33 +116,35 @@ impl<N: Net> MioLinks<N> {
         }
     }
 
-    // Looks which sockets are ready, and waits a moment where none is and none was for some rounds.
+    // Looks which sockets are ready, and waits for as long as the bell lets it where none is. Behind a look that found something it may leave one out.
     fn look(&mut self)
         ensures { self.new.listening ≡ self.old.listening }
     {
         let MioLinks {
             door,
             sockets,
-            quiet,
+            bell,
             ..
         } = self;
         let Some(door) = door else { return };
-        let time = if *quiet < ROUNDS_AWAKE {
-            Duration::ZERO
-        } else {
-            Duration::from_millis(NAP_MILLIS)
-        };
-        *quiet = quiet.saturating_add(1);
+        let time = bell.takes_nap(door.pending && sockets.len() < LINKS_MOST);
+        let found = door.found;
+        door.found = false;
+        if found && time.is_zero() {
+            return;
+        }
         if door.poll.poll(&mut door.events, Some(time)).is_err() {
             return;
         }
         for event in door.events.iter() {
-            *quiet = 0;
+            bell.came();
+            door.found = true;
             let token = usize::from(event.token());
             if token == DOOR {
                 door.pending = true;
             } else if let Some(socket) = sockets.get_mut(token) {
                 socket.readable = true;
+                socket.ends = socket.ends || event.is_read_closed() || event.is_error();
             }
         }
     }
@@ -164,7 +167,11 @@ impl<N: Net> MioLinks<N> {
         let _ = stream.set_nodelay(true);
         if d >= 1 << 31
             || registry
-                .register(&mut stream, Token(d), Interest::READABLE)
+                .register(
+                    &mut stream,
+                    Token(d),
+                    Interest::READABLE | Interest::WRITABLE,
+                )
                 .is_err()
         {
             return Accepted::NotYet;
@@ -172,12 +179,13 @@ impl<N: Net> MioLinks<N> {
         self.sockets.insert_reserved(Socket {
             stream,
             readable: true,
+            ends: false,
         });
         Accepted::Got(d as u32)
     }
 }
 
-impl<N: Net> Links for MioLinks<N> {
+impl<'b, N: Net> Links for MioLinks<'b, N> {
     ghost use Rattle.std.specs.Prelude.{false, []};
 
     ghost tells = { λ _. false };
@@ -192,6 +200,7 @@ impl<N: Net> Links for MioLinks<N> {
         };
         match open(&self.net, port, events) {
             Ok(door) => {
+                self.bell.joins(door.poll.registry(), Token(BELL));
                 self.door = Some(door);
                 Listened::Ready
             }
@@ -233,7 +242,8 @@ impl<N: Net> Links for MioLinks<N> {
         match socket.stream.read(buf) {
             Ok(n) if n == 0 && !buf.is_empty() => LinkRead::End,
             Ok(n) => {
-                self.quiet = 0;
+                // Where less came than there was room for nothing is left, and what comes later is told.
+                socket.readable = socket.ends || n == buf.len();
                 LinkRead::Got(n)
             }
             Err(e) if is_passing(&e) => {
@@ -249,10 +259,7 @@ impl<N: Net> Links for MioLinks<N> {
             return LinkWrite::Fault;
         };
         match socket.stream.write(bytes) {
-            Ok(n) => {
-                self.quiet = 0;
-                LinkWrite::Put(n)
-            }
+            Ok(n) => LinkWrite::Put(n),
             Err(e) if is_passing(&e) => LinkWrite::NotYet,
             Err(_) => LinkWrite::Fault,
         }

@@ -9,7 +9,7 @@ use muck_model::{Dbref, Line, Lock};
 
 const NOTHING: Dbref = Dbref(-1);
 
-/// The objects that keys are tried on. No call takes memory.
+/// The objects that keys are tried on. No call wants memory: what it takes to be quick it does without where there is none.
 pub trait Keys {
     ghost owners: { Self → Dbref → Option Dbref };
 

@@ -4,3 +4,5 @@ pub mod Aliases
 pub mod Order
 pub mod Candidates
 pub mod Walks
+pub mod Listed
+pub mod Looks

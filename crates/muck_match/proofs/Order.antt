@@ -1,5 +1,5 @@
 -- Exit order, list by list.
-use Rattle.std.proofs.Common.{◌≡◌, ℕ, Bool, List, ◌++◌, Option, sym, ◌∙◌, ap}
+use Rattle.std.proofs.Common.{◌≡◌, ℕ, Bool, false, List, ◌++◌, Option, None, Some, refl, sym, ◌∙◌, ap}
 use Rattle.std.specs.List.{flat_map}
 use Rattle.std.specs.Option.{option_or}
 use Rattle.muck_model.specs.declared.dbref.Dbref.{Dbref}
@@ -37,3 +37,18 @@ five_here w typed line player =
 
 pub first_of_five : (w : Scenery) (typed : Bool) (line : List ℕ) (player place : Dbref) → place ≡ place_in w player → first (hits w typed line player) ≡ five w typed line player place
 first_of_five w typed line player place e = five_here w typed line player ∙ ap (five w typed line player) (sym e)
+
+or_three : (a b c r : Option ExitHit) → option_or a (option_or b (option_or c r)) ≡ option_or (option_or a (option_or b c)) r
+or_three None None c r = refl
+or_three None (Some h) c r = refl
+or_three (Some h) b c r = refl
+
+-- the same where what stands on things is known
+pub besides : (w : Scenery) (line : List ℕ) (player place : Dbref) (here carried beside things found : Option ExitHit) → place ≡ place_in w player → here ≡ first (hits_on w false line place)
+    → carried ≡ first (flat_map (hits_on w false line) (things_in w player)) → beside ≡ first (flat_map (hits_on w false line) (things_in w (place_in w player))) → things ≡ option_or carried beside → found ≡ option_or here things
+    → first (hits w false line player) ≡ option_or found (option_or (first (hits_on w false line player)) (first (flat_map (hits_on w false line) (w.places place))))
+besides w line player place here carried beside things found e of_here of_carried of_beside of_things of_found =
+    let last : beside ≡ first (flat_map (hits_on w false line) (things_in w place)) = of_beside ∙ ap (λ d. first (flat_map (hits_on w false line) (things_in w d))) (sym e) in
+    let whole : found ≡ option_or (first (hits_on w false line place)) (option_or (first (flat_map (hits_on w false line) (things_in w player))) (first (flat_map (hits_on w false line) (things_in w place)))) =
+    of_found ∙ (λ i. option_or (of_here i) (of_things i)) ∙ (λ i. option_or (first (hits_on w false line place)) (option_or (of_carried i) (last i))) in
+    first_of_five w false line player place e ∙ or_three (first (hits_on w false line place)) (first (flat_map (hits_on w false line) (things_in w player))) (first (flat_map (hits_on w false line) (things_in w place))) (option_or (first (hits_on w false line player)) (first (flat_map (hits_on w false line) (w.places place)))) ∙ ap (λ f. option_or f (option_or (first (hits_on w false line player)) (first (flat_map (hits_on w false line) (w.places place))))) (sym whole)

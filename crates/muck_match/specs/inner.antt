@@ -1,2 +1,4 @@
 pub mod Memory
 pub mod Rows
+pub mod Listed
+pub mod Glances

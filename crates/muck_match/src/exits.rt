@@ -2,7 +2,7 @@
 ghost use Rattle.std.specs.Prelude.{◌≡◌, ◌≤◌, ◌<◌, ◌^◌, ◌+◌, ◌==◌, length, false, slice_index};
 ghost use Rattle.std.specs.Option.{option_map_or};
 ghost use Rattle.std.specs.List.{flat_map};
-ghost use Rattle.muck_match.specs.Scenery.{things_in};
+ghost use Rattle.muck_match.specs.Scenery.{things_in, place_in};
 ghost use Rattle.muck_match.specs.Exits.{first, takes, rest_behind, hit_of, hits_in, runs, hits_at, hits_on, hits, exit_for};
 
 use crate::Scene;
@@ -101,7 +101,7 @@ fn hit_at<S: Scene>(scene: &S, typed: bool, line: &[u8], exit: Dbref) -> Option<
 }
 
 // The first of the exits on an object that takes the line.
-fn hit_on<S: Scene>(scene: &S, typed: bool, line: &[u8], owner: Dbref) -> Option<ExitHit>
+pub fn hit_on<S: Scene>(scene: &S, typed: bool, line: &[u8], owner: Dbref) -> Option<ExitHit>
     ensures { result ≡ first (hits_on (S.shown scene.now) typed line.now owner) }
 {
     let mut at = scene.first_exit(owner);
@@ -162,6 +162,30 @@ pub fn first_hit<S: Scene>(scene: &S, typed: bool, line: &[u8], player: Dbref) -
         return Some(hit);
     }
     hit_above(scene, typed, line, place)
+}
+
+/// The first exit in exit order that the text names, where those on carried things and on things in the place are known.
+pub fn hit_besides<S: Scene>(
+    scene: &S,
+    text: &[u8],
+    player: Dbref,
+    carried: Option<ExitHit>,
+    beside: Option<ExitHit>,
+) -> Option<ExitHit>
+    requires carried { carried ≡ first (flat_map (hits_on (S.shown scene.now) false text.now) (things_in (S.shown scene.now) player)) }
+    requires beside { beside ≡ first (flat_map (hits_on (S.shown scene.now) false text.now) (things_in (S.shown scene.now) (place_in (S.shown scene.now) player))) }
+    ensures { result ≡ first (hits (S.shown scene.now) false text.now player) }
+{
+    let place = place_in(scene, player);
+    let here = hit_on(scene, false, text, place);
+    let things = carried.or(beside);
+    if let Some(hit) = here.or(things) {
+        return Some(hit);
+    }
+    if let Some(hit) = hit_on(scene, false, text, player) {
+        return Some(hit);
+    }
+    hit_above(scene, false, text, place)
 }
 
 /// The exit that a typed line takes: the first in exit order of which an alias takes it, with its first such alias.

@@ -3,6 +3,7 @@
 #![tactic(auto)]
 
 mod exits;
+mod glances;
 mod memory;
 mod naming;
 mod scene;
@@ -11,5 +12,5 @@ mod words;
 
 pub use exits::{ExitHit, exit_for};
 pub use memory::{MemObject, MemScene};
-pub use naming::{Found, find, player, player_named};
+pub use naming::{Found, find, find_among, player, player_among, player_named};
 pub use scene::{HOME, NOTHING, Scene};

@@ -1,11 +1,12 @@
 // What a text names.
 ghost use Rattle.std.specs.Prelude.{◌≡◌, ◌<◌, ◌^◌, pos};
-ghost use Rattle.std.specs.List.{filter};
+ghost use Rattle.std.specs.Option.{option_copied};
 ghost use Rattle.muck_model.specs.Numbers.{numbered};
-ghost use Rattle.muck_match.specs.Naming.{chosen, joined, one_of, is_nobody, answers, near, named, fits, is_player_named, player_named, if_there, found_by_sign, found};
+ghost use Rattle.muck_match.specs.inner.Listed.{AreListed};
+ghost use Rattle.muck_match.specs.Naming.{joined, one_of, is_nobody, answers, fits, is_player_named, player_named, if_there, starred, found_by_sign, found};
 
-use crate::exits::first_hit;
-use crate::sights::{is_nothing, is_player, is_there, place_in};
+use crate::glances::named;
+use crate::sights::{is_player, is_there, place_in};
 use crate::words::{has_word, is_same};
 use crate::{HOME, Scene};
 use muck_model::{Dbref, Line};
@@ -41,7 +42,7 @@ fn fits(fit: Fit, text: &[u8], name: &[u8]) -> bool
 
 // Whether the object answers to the text.
 #[tactic(auto, unfolding(crate::specs::Naming::answers))]
-fn answers<S: Scene>(scene: &S, fit: Fit, text: &[u8], d: Dbref) -> bool
+pub fn answers<S: Scene>(scene: &S, fit: Fit, text: &[u8], d: Dbref) -> bool
     ensures { result ≡ answers fit text.now (S.shown scene.now) d }
 {
     match scene.name(d) {
@@ -61,7 +62,7 @@ fn one_of(d: Option<Dbref>) -> Found
 }
 
 // What two lists of candidates make together.
-fn joined(before: Found, behind: Found) -> Found
+pub fn joined(before: Found, behind: Found) -> Found
     ensures { result ≡ joined before behind }
 {
     match (before, behind) {
@@ -71,53 +72,11 @@ fn joined(before: Found, behind: Found) -> Found
     }
 }
 
-// Those in an object that answer to the text.
-fn among<S: Scene>(scene: &S, fit: Fit, text: &[u8], owner: Dbref) -> Found
-    ensures { result ≡ chosen (filter (answers fit text.now (S.shown scene.now)) ((S.shown scene.now).contents owner)) }
-{
-    let mut found = None;
-    let mut at = scene.first_content(owner);
-    while !is_nothing(at) {
-        if answers(scene, fit, text, at) {
-            if found.is_some() {
-                return Found::Many;
-            }
-            found = Some(at);
-        }
-        at = scene.next(at);
-    }
-    one_of(found)
-}
-
-// Those that the player carries or that are in its place, and that answer to the text.
-fn near<S: Scene>(scene: &S, fit: Fit, text: &[u8], player: Dbref) -> Found
-    ensures { result ≡ near (S.shown scene.now) fit text.now player }
-{
-    let carried = among(scene, fit, text, player);
-    let beside = among(scene, fit, text, place_in(scene, player));
-    joined(carried, beside)
-}
-
 // Whether nothing was found.
-fn is_nobody(found: Found) -> bool
+pub fn is_nobody(found: Found) -> bool
     ensures { result ≡ is_nobody found }
 {
     matches!(found, Found::None)
-}
-
-// What the text names by a name: equal names of objects come first, then exits, then parts of names of objects.
-#[tactic(auto, unfolding(crate::specs::Naming::named))]
-fn named<S: Scene>(scene: &S, text: &[u8], player: Dbref) -> Found
-    ensures { result ≡ named (S.shown scene.now) player text.now }
-{
-    let whole = near(scene, Fit::Whole, text, player);
-    if !is_nobody(whole) {
-        return whole;
-    }
-    if let Some(hit) = first_hit(scene, false, text, player) {
-        return Found::One(hit.exit);
-    }
-    near(scene, Fit::Part, text, player)
 }
 
 // Whether it is a player of that name.
@@ -152,8 +111,27 @@ pub fn player_named<S: Scene>(scene: &S, name: &[u8]) -> Option<Dbref>
     None
 }
 
+/// The player of that name, as `player_named` finds it, where each player is among these numbers. It looks at no others, and takes no memory.
+pub fn player_among<S: Scene>(scene: &S, numbers: &[u32], name: &[u8]) -> Option<Dbref>
+    requires { AreListed (S.shown scene.now) numbers.now }
+    ensures { result ≡ player_named (S.shown scene.now) name.now }
+{
+    let count = scene.objects();
+    let mut least = count;
+    for n in numbers {
+        if *n < least && is_player_named(scene, name, numbered(*n)) {
+            least = *n;
+        }
+    }
+    if least < count {
+        Some(numbered(least))
+    } else {
+        None
+    }
+}
+
 /// The player of that name, compared without regard to case; of several, the one with the lowest number. A scene shows
-/// no list of its players, so this goes over all numbers of objects. It takes no memory.
+/// no list of its players, so this goes over all numbers of objects; `player_among` doesn't. It takes no memory.
 pub fn player<S: Scene>(scene: &S, name: &Line) -> Option<Dbref>
     ensures { result ≡ player_named (S.shown scene.now) name.now }
 {
@@ -205,4 +183,23 @@ pub fn find<S: Scene>(scene: &S, player: Dbref, text: &Line) -> Found
         return Found::One(HOME);
     }
     found_by_sign(scene, player, bytes)
+}
+
+// What stands behind a `*`.
+fn behind_star(text: &[u8]) -> Option<&[u8]>
+    ensures { option_copied result ≡ starred text.now }
+{
+    let (first, name) = text.split_first()?;
+    if *first == b'*' { Some(name) } else { None }
+}
+
+/// What the text names for the player, as `find` finds it, where each player is among these numbers: for `*player` it looks at them alone.
+pub fn find_among<S: Scene>(scene: &S, numbers: &[u32], player: Dbref, text: &Line) -> Found
+    requires { AreListed (S.shown scene.now) numbers.now }
+    ensures { result ≡ found (S.shown scene.now) player text.now }
+{
+    match behind_star(text.as_slice()) {
+        Some(name) => one_of(player_among(scene, numbers, name)),
+        None => find(scene, player, text),
+    }
 }

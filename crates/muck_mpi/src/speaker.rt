@@ -12,7 +12,7 @@ ghost use Rattle.muck_mpi.specs.inner.Plain.{is_plain};
 use crate::answers::answer;
 use crate::deeds::does;
 use mpi::{Ask, Deed, Host, MpiFault, VarMap, eval};
-use muck_match::{Found, find};
+use muck_match::Found;
 use muck_model::{Dbref, Line, NoMemory};
 use muck_perm::Guard;
 use spec_mpi::Seen;
@@ -62,7 +62,7 @@ impl<'g, 'a> Host for Speaker<'g, 'a> {
 
     #[tactic(auto, unfolding(spec_mpi::specs::Telling::finds_in))]
     fn find(&self, text: &Line) -> Option<Dbref> {
-        match find(self.guard.db(), self.guard.actor().player, text) {
+        match self.guard.db().find(self.guard.actor().player, text) {
             Found::One(d) => Some(d),
             _ => None,
         }

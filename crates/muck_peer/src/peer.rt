@@ -9,17 +9,20 @@ use muck_model::NoMemory;
 use std::alloc::Global;
 use std::marker::Model;
 
-/// As many bytes as a connection's queue has at most: so what was taken at once goes out in one write.
-const ROOM: usize = 131_090;
+/// As many bytes as are kept of a connection whose output was written: most that it is sent at once fits.
+const ROOM_LEAST: usize = 256;
 
 /// A link that is open: its cutter, the bytes that were taken and not written yet, and what it answered.
 #[derive(Drop)]
 pub struct Peer {
+    alloc: Global,
     pub(crate) number: u32,
     pub(crate) cutter: LineCutter,
     pub(crate) buffer: Vec<u8>,
     pub(crate) at: usize,
     pub(crate) len: usize,
+    // How many lines were entered since bytes were taken.
+    pub(crate) entered: usize,
     // Whether a read answered the end.
     pub(crate) ended: bool,
     // Whether a read or a write failed.
@@ -41,10 +44,22 @@ impl Model for Peer {
     ghost invariant = { λ p. (p.at ≤ p.len) × (p.len ≤ length p.buffer.items) × (0 < length p.buffer.items) };
 }
 
-fn room(alloc: Global) -> Result<Vec<u8>, NoMemory>
+// So many bytes, or the least.
+fn at_least(bytes: usize) -> usize
+    ensures { 0 < result }
+{
+    if bytes < ROOM_LEAST {
+        ROOM_LEAST
+    } else {
+        bytes
+    }
+}
+
+// Room for so many bytes, or the least.
+fn room(alloc: Global, bytes: usize) -> Result<Vec<u8>, NoMemory>
     ensures { IfOk result (λ v. 0 < length v.items) }
 {
-    let v = vec![in alloc; 0u8; ROOM]?;
+    let v = vec![in alloc; 0u8; at_least(bytes)]?;
     Ok(v)
 }
 
@@ -53,13 +68,15 @@ impl Peer {
     pub fn new(alloc: Global, number: u32) -> Result<Peer, NoMemory>
         ensures { IfOk result (λ p. p ≡ new_peer number) }
     {
-        let buffer = room(alloc)?;
+        let buffer = room(alloc, ROOM_LEAST)?;
         Ok(Peer {
+            alloc,
             number,
             cutter: LineCutter::new(alloc)?,
             buffer,
             at: 0,
             len: 0,
+            entered: 0,
             ended: false,
             faulted: false,
             refused: false,
@@ -79,6 +96,37 @@ impl Peer {
         ensures { IsTrue result ↔ (self.now.unsent ≢ []) }
     {
         self.at < self.len
+    }
+
+    // There is room for so many bytes, where there is memory for it.
+    fn has_room(&mut self, bytes: usize)
+        requires { self.old.unsent ≡ [] }
+        ensures { self.new ≡ self.old }
+    {
+        if let Ok(buffer) = room(self.alloc, bytes) {
+            self.at = 0;
+            self.len = 0;
+            self.buffer = buffer;
+        }
+    }
+
+    /// There is room for all that is queued, so that it goes out in one write; where memory is wanted for that, in several.
+    pub(crate) fn widens(&mut self, queued: usize)
+        requires { self.old.unsent ≡ [] }
+        ensures { self.new ≡ self.old }
+    {
+        if queued > self.buffer.len() {
+            self.has_room(queued);
+        }
+    }
+
+    // What was written takes no room any more.
+    fn narrows(&mut self)
+        ensures { self.new ≡ self.old }
+    {
+        if !self.has_unsent() && self.buffer.len() > ROOM_LEAST {
+            self.has_room(ROOM_LEAST);
+        }
     }
 
     // Reads once; answers whether anything came. After `NoMemory` what was read is lost.
@@ -162,6 +210,8 @@ impl Peer {
         if self.faulted || !self.has_unsent() {
             return false;
         }
-        self.sends(links, noted)
+        let went = self.sends(links, noted);
+        self.narrows();
+        went
     }
 }

@@ -11,6 +11,11 @@ use muck_io::Clock;
 use muck_machine::World;
 use muck_model::NoMemory;
 
+// So many bytes that wait are taken before the next line is entered, and any behind so many lines.
+const BYTES_MANY: usize = 4096;
+
+const LINES_MANY: usize = 16;
+
 /// What was entered for a connection.
 #[derive(Drop)]
 pub enum Chose {
@@ -48,8 +53,8 @@ impl Peer {
         }
     }
 
-    // Bytes are taken.
-    fn takes(&mut self, world: &mut World) -> Chose
+    // Bytes are taken, as many as there is room for.
+    fn takes_some(&mut self, world: &mut World) -> Chose
         requires alive { (now world.old).dead ≡ false }
         requires none { self.old.unsent ≡ [] }
         requires some { 0 < length (queue_of self.old.number (now world.old)) }
@@ -58,7 +63,20 @@ impl Peer {
         let n = world.take(self.number, self.buffer.as_mut_slice());
         self.at = 0;
         self.len = n;
+        self.entered = 0;
         Chose::Went
+    }
+
+    // Bytes are taken.
+    fn takes(&mut self, world: &mut World) -> Chose
+        requires alive { (now world.old).dead ≡ false }
+        requires none { self.old.unsent ≡ [] }
+        requires some { 0 < length (queue_of self.old.number (now world.old)) }
+        ensures { (event : Event) × (world.new ≡ entered world.old (by_porter event)) × ChoseAs result self.old self.new (now world.old) event × IsUntimed event }
+    {
+        let queued = world.queued(self.number);
+        self.widens(queued);
+        self.takes_some(world)
     }
 
     // A line is entered.
@@ -70,6 +88,7 @@ impl Peer {
         let Some(line) = self.cutter.next_line() else {
             unreachable!()
         };
+        self.entered = self.entered.saturating_add(1);
         match world.input(self.number, line) {
             Ok(yes) => {
                 if yes {
@@ -81,6 +100,18 @@ impl Peer {
         }
     }
 
+    // Whether bytes are taken before a line is entered: where many wait, or no line may be entered. So what comes of many lines goes out in one write.
+    fn takes_first(&self, world: &World, may_hear: bool) -> bool
+        requires { (now world.now).dead ≡ false }
+        ensures { result ≡ true → (self.now.unsent ≡ []) × (0 < length (queue_of self.now.number (now world.now))) }
+    {
+        if self.has_unsent() {
+            return false;
+        }
+        let queued = world.queued(self.number);
+        queued > 0 && (!may_hear || queued >= BYTES_MANY || self.entered >= LINES_MANY)
+    }
+
     /// Makes one entry for the connection: it is closed where there is a cause, bytes are taken where none are kept, a line is
     /// entered, or else a moment.
     pub fn chooses<C: Clock>(&mut self, world: &mut World, clock: &mut C) -> Chose
@@ -90,10 +121,11 @@ impl Peer {
         if self.may_close(world) && world.may_close(self.number) {
             return self.closes(world);
         }
-        if !self.has_unsent() && world.queued(self.number) > 0 {
+        let may_hear = self.cutter.has_line() && world.may_hear(self.number);
+        if self.takes_first(world, may_hear) {
             return self.takes(world);
         }
-        if self.cutter.has_line() && world.may_hear(self.number) {
+        if may_hear {
             return self.enters(world);
         }
         tells_time(world, clock);

@@ -30,7 +30,7 @@ fn kept_opens(db: &Db, x: Dbref, kept: &PropValue) -> bool
 }
 
 /// Whether the lock of an object opens for x; without a lock it does, and what isn't the text of a lock opens for
-/// nobody. It takes no memory.
+/// nobody. It wants no memory.
 #[tactic(auto, unfolding(spec_live::specs::Worth::opens_at))]
 pub fn opens_at(db: &Db, x: Dbref, d: Dbref) -> bool
     ensures { result ≡ opens_at db.now x d }

@@ -90,7 +90,7 @@ pub fn serve_turn<W: Wait, L: Links, C: Clock, R: Rest>(
         Ok(held) => {
             let mut held = held;
             let served = serves(&mut held.state, clock, peers, from);
-            turn.give(seat, held);
+            turn.give(seat, held, rest);
             Ok(served)
         }
         Err(spent) => Err(spent),
@@ -121,7 +121,7 @@ pub fn work_turn<W: Wait, L: Links, C: Clock, R: Rest>(
         Ok(held) => {
             let mut held = held;
             let worked = works(&mut held.state, clock, peers);
-            turn.give(seat, held);
+            turn.give(seat, held, rest);
             Ok(worked)
         }
         Err(spent) => Err(spent),
@@ -154,7 +154,7 @@ pub fn deed_turn<W: Wait, L: Links, C: Clock, R: Rest>(
         Ok(held) => {
             let mut held = held;
             let did = does(deed, &mut held.state, clock, peers, *noted);
-            turn.give(seat, held);
+            turn.give(seat, held, rest);
             Ok(did)
         }
         Err(spent) => Err(spent),

@@ -63,16 +63,21 @@ fn has_left(round: &Round) -> bool
     }
 }
 
-// Rests behind a round that did nothing.
-fn pauses<R: Rest>(rest: &R, round: &Round, moved: bool) {
+// The first party.
+const PORTER: u8 = 0;
+
+// Rests behind a round that did nothing; else those who rest are told.
+fn rests<R: Rest>(rest: &R, round: &Round, moved: bool) {
     match *round {
         Round::Idle => {
-            if !moved {
-                rest.pause();
+            if moved {
+                rest.did(PORTER);
+            } else {
+                rest.rest(PORTER);
             }
         }
-        Round::Busy => {}
-        Round::Left => {}
+        Round::Busy => rest.did(PORTER),
+        Round::Left => rest.ended(PORTER),
     }
 }
 
@@ -159,13 +164,13 @@ fn goes_on<W: Wait, L: Links, C: Clock, G: Gate, R: Rest>(
                     moved,
                 } = gone;
                 broke = either(broke, fell);
+                rests(rest, &round, moved);
                 if has_left(&round) {
                     if broke {
                         return Why::ListenFault;
                     }
                     return Why::Fine;
                 }
-                pauses(rest, &round, moved);
                 coming = next;
             }
             Err(Fault::NoMemory) => return Why::NoMemory,
@@ -199,7 +204,8 @@ fn gives_up<W: Wait, L: Links, C: Clock, R: Rest>(
 }
 
 /// Serves all links until the run is stopped and each connection that is open is worked off. `ListenFault` where listening failed.
-/// `gate` is passed before the porter ends; `rest` is taken where a round did nothing, and while it waits for a turn.
+/// `gate` is passed before the porter ends; `rest` is taken where a round did nothing, and while it waits for a turn; it
+/// is told of each round that did something, and of the end.
 pub fn porter<W: Wait, L: Links, C: Clock, G: Gate, R: Rest>(
     rt: &W,
     alloc: Global,

@@ -10,7 +10,7 @@ ghost use Rattle.muck_porter.specs.Times.{ByClock};
 
 use crate::deeds::{Deed, Did, Worked};
 use crate::holds::{deed_turn, work_turn};
-use crate::serving::{Fault, dies, serve_all};
+use crate::serving::{Fault, dies, serve_all, times};
 use crate::tending::tends_all;
 use muck_io::{Clock, Gate, Rest, place};
 use muck_links::{Accepted, Links};
@@ -249,8 +249,13 @@ pub fn welcomes<W: Wait, L: Links, C: Clock, R: Rest>(
 /// What a turn of work left.
 #[derive(Drop)]
 pub enum Work {
+    /// A line was done.
+    Line,
+    /// A process ran for a slice.
     Busy,
+    /// Nothing was done.
     Idle,
+    /// The run is stopping, and all is worked off.
     Ready,
 }
 
@@ -277,7 +282,7 @@ fn works_once<W: Wait, L: Links, C: Clock, R: Rest>(
     ensures spent { IfErr result (λ fault. EndsEarly fault seat.new.me.0) }
 {
     match work_turn(rt, turn, seat, links, clock, rest, noted, peers) {
-        Ok(Worked::Done) => Ok(Work::Busy),
+        Ok(Worked::Done) => Ok(Work::Line),
         Ok(Worked::Claimed(pid)) => {
             match runs(rt, turn, seat, links, clock, rest, noted, peers, pid) {
                 Ok(()) => Ok(Work::Busy),
@@ -323,6 +328,45 @@ fn runs<W: Wait, L: Links, C: Clock, R: Rest>(
         Ok(Did::Dead) => Err(Fault::NoMemory),
         Err(_) => Err(Fault::Spent),
     }
+}
+
+// Turns of work: as many lines are done as links are open, and one more, or a process runs for a slice. So lines are done as fast as they are entered,
+// and who sends many keeps nobody else from being served.
+fn works_some<W: Wait, L: Links, C: Clock, R: Rest>(
+    rt: &W,
+    turn: &Turn<World>,
+    seat: &mut TurnSeat<World>,
+    links: &L,
+    clock: &mut C,
+    rest: &R,
+    noted: &mut bool,
+    peers: &Vec<Peer>,
+) -> Result<Work, Fault>
+    requires own { seat.old.table_id ≡ turn.now.table.shared.table_id }
+    requires ready { ReadyTimed noted.old seat.old.me }
+    ensures own { (seat.new.table_id ≡ seat.old.table_id) × (seat.new.id ≡ seat.old.id) }
+    ensures lists { SameLists seat.old.me.0 seat.new.me.0 }
+    ensures time { ByClock seat.old.me.0 seat.new.me.0 (C.answers clock.old) (C.answers clock.new) }
+    ensures ready { OnOk result (Ready noted.new seat.new.me) }
+    ensures ok { OnOk result ((n : ℕ) → CarriesOn seat.old.me.0 seat.new.me.0 (tally (L.told links.now) n) (tally (L.told links.now) n) peers.now.items peers.now.items) }
+    ensures err { OnErr result ((n : ℕ) → EndsAll seat.old.me.0 seat.new.me.0 (tally (L.told links.now) n) (tally (L.told links.now) n) peers.now.items) }
+    ensures over { Over seat.new.me }
+    ensures spent { IfErr result (λ fault. EndsEarly fault seat.new.me.0) }
+{
+    let mut left = peers.len();
+    while left > 0 {
+        match works_once(rt, turn, seat, links, clock, rest, noted, peers) {
+            Ok(Work::Line) => {}
+            Ok(work) => return Ok(work),
+            Err(fault) => return Err(fault),
+        }
+        match times(rt, turn, seat, links, clock, rest, noted, peers) {
+            Ok(()) => {}
+            Err(fault) => return Err(fault),
+        }
+        left -= 1;
+    }
+    works_once(rt, turn, seat, links, clock, rest, noted, peers)
 }
 
 // The porter has seen the stop, where all is worked off.
@@ -400,7 +444,8 @@ fn ends_round<W: Wait, L: Links, C: Clock, G: Gate, R: Rest>(
     ensures over { Over seat.new.me }
     ensures spent { IfErr result (λ fault. EndsEarly fault seat.new.me.0) }
 {
-    match works_once(rt, turn, seat, links, clock, rest, noted, peers) {
+    match works_some(rt, turn, seat, links, clock, rest, noted, peers) {
+        Ok(Work::Line) => Ok(Round::Busy),
         Ok(Work::Busy) => Ok(Round::Busy),
         Ok(Work::Idle) => Ok(Round::Idle),
         Ok(Work::Ready) => {

@@ -122,8 +122,8 @@ fn serve_one<W: Wait, L: Links, C: Clock, R: Rest>(
     }
 }
 
-// Time goes on.
-fn times<W: Wait, L: Links, C: Clock, R: Rest>(
+/// Time goes on.
+pub fn times<W: Wait, L: Links, C: Clock, R: Rest>(
     rt: &W,
     turn: &Turn<World>,
     seat: &mut TurnSeat<World>,

@@ -10,7 +10,7 @@ use Rattle.std.specs.declared.ops.Bound.{Bound}
 use Rattle.std.specs.declared.ops.Bound.TheVariants.{Unbounded}
 use Rattle.std.specs.List.Sorted.{IsStrictlySortedBy}
 use Rattle.std.specs.Option.{option_map}
-use Rattle.std.specs.Map.{keys_of, lookup, remove_entry}
+use Rattle.std.specs.Map.{keys_of, lookup, remove_entry, set_value}
 use Rattle.std.specs.BTreeMap.{is_at, insert_entry}
 use Rattle.std.specs.FinMap.{get, insert, remove, entries, keys, from_entries, find, put, get-from_entries, get-insert, get-remove, entries-insert, len-entries, len-empty, same_map, IsAntisymmetric, slice_cmp-IsAntisymmetric, nat_cmp-IsAntisymmetric}
 use Rattle.std.specs.FinMap.Entries.{by_order}
@@ -82,6 +82,14 @@ kept_inserted k v (e ∷ es) new old =
 pub kept_removed : (test : List (List ℕ) → Bool) (es : List (List (List ℕ) × PropValue)) → AllByRecursion IsKept es → AllByRecursion IsKept (remove_entry test es)
 kept_removed test [] old = tt
 kept_removed test (e ∷ es) old = elim (test e.0) as (λ b. AllByRecursion IsKept (cond b es (e ∷ remove_entry test es))) [ true ↦ old.1 | false ↦ (old.0, kept_removed test es old.1) ]
+
+pub kept_set : (test : List (List ℕ) → Bool) (v : PropValue) (es : List (List (List ℕ) × PropValue)) → is_nothing v ≡ false → AllByRecursion IsKept es → AllByRecursion IsKept (set_value test es v)
+kept_set test v [] new old = tt
+kept_set test v (e ∷ es) new old =
+    elim (test e.0) as (λ b. AllByRecursion IsKept (cond b ((e.0, v) ∷ es) (e ∷ set_value test es v))) [
+      | true ↦ (record { path = old.0.path; value = new }, old.1)
+      | false ↦ (old.0, kept_set test v es new old.1)
+    ]
 
 pub on_err : {X E : Type 0} (r : Result X E) (P : Type 0) → P → OnErr r P
 on_err (Ok x) P h = tt

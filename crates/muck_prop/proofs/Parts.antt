@@ -78,8 +78,15 @@ lookup_same : {X : Type 0} (f g : List (List ℕ) → Bool) (es : List (List (Li
 lookup_same {X} f g [] h = refl
 lookup_same {X} f g (e ∷ es) h = ap (λ b. cond b (Some e.1) (lookup f es)) (h e.0) ∙ ap (λ (r : Option X). cond (g e.0) (Some e.1) r) (lookup_same f g es h)
 
+lookup_at : (q : List (List ℕ)) (es : List (List (List ℕ) × PropValue)) → lookup (is_at (path_cmp q)) es ≡ lookup (λ path. path_eq path q) es
+lookup_at q es = sym (lookup_same (λ path. path_eq path q) (is_at (path_cmp q)) es (λ path. path_ties path q ∙ sym (turned q path)))
+
+-- what a search finds at a path is what a walk finds there
+pub found_by : (p q : List (List ℕ)) (es : List (List (List ℕ) × PropValue)) (found : Option PropValue) → found ≡ lookup (is_at (path_cmp p)) es → p ≡ q → found ≡ lookup (λ path. path_eq path q) es
+found_by p q es found e same = e ∙ lookup_at p es ∙ ap (λ r. lookup (λ path. path_eq path r) es) same
+
 lookup_get : (q : List (List ℕ)) (es : List (List (List ℕ) × PropValue)) → lookup (λ path. path_eq path q) es ≡ get (from_entries {R = path_cmp} es) q
-lookup_get q es = lookup_same (λ path. path_eq path q) (is_at (path_cmp q)) es (λ path. path_ties path q ∙ sym (turned q path)) ∙ sym (get_is q es)
+lookup_get q es = sym (lookup_at q es) ∙ sym (get_is q es)
 
 no_fault_of : (text : List ℕ) (q : List (List ℕ)) → list_any is_barred text ≡ false → IsPath q → fault_of text q ≡ None
 no_fault_of text q free path =

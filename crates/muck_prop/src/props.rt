@@ -1,25 +1,28 @@
 // The properties of one object.
-ghost use Rattle.std.specs.Prelude.{◌≡◌, ◌<◌, map as mapped, [], Some, None, IfOk, IfSome, OnOk, OnErr, is_some, is_ok, true, false, length, ◌≤◌, Ok, Err};
+ghost use Rattle.std.specs.Prelude.{◌≡◌, ◌<◌, map as mapped, [], Some, None, IfOk, IfSome, OnOk, OnErr, is_some, is_ok, true, false, length, ◌≤◌, Ok, Err, List, ℕ, if◌then◌else◌};
 ghost use Rattle.std.specs.Option.{option_copied, option_map_or, unwrap_or};
 ghost use Rattle.std.specs.FinMap as map;
 ghost use Rattle.std.specs.Range.Bound.{bound_map};
 ghost use Rattle.std.specs.List.{AllByRecursion, find, filter};
 ghost use Rattle.muck_prop.specs.Paths.{IsPath, segments_of, path_fault};
 ghost use Rattle.std.specs.Map.{keys_of, lookup};
-ghost use Rattle.std.specs.BTreeMap.{IsOrdered};
+ghost use Rattle.std.specs.BTreeMap.{IsOrdered, is_at};
 ghost use Rattle.std.specs.BTreeMap.Range.{is_from_start};
 ghost use Rattle.muck_prop.specs.Order.{path_cmp, path_eq, is_below};
 ghost use Rattle.muck_prop.specs.Store.{stored, is_dir, next_child, found_child, path_or_top, is_nothing, IsKept, IsLeastChild, behind, listed_below};
 
 use crate::path::{Path, has_barred};
 use crate::segments::Segments;
-use crate::value::PropValue;
+use crate::value::{Kept, PropValue};
 use crate::walk::Walk;
 use muck_model::{Line, NoMemory, Row};
 use std::alloc::Global;
 use std::collections::BTreeMap;
 use std::marker::Model;
 use std::ops::Bound;
+
+// So many properties are gone over as quickly as one is searched for.
+const FEW: usize = 8;
 
 /// A property below a directory: the rest of its path behind the directory, and what it holds.
 #[derive(Drop)]
@@ -34,7 +37,8 @@ pub struct Listed {
 /// or 0.
 #[derive(Drop)]
 pub struct Props {
-    values: BTreeMap<Segments, PropValue>,
+    alloc: Global,
+    values: BTreeMap<Segments, Kept>,
 }
 
 impl Model for Props {
@@ -57,7 +61,7 @@ impl Model for Props {
 
 // The first path within a start.
 fn first_from<'a>(
-    values: &'a BTreeMap<Segments, PropValue>,
+    values: &'a BTreeMap<Segments, Kept>,
     start: Bound<&Segments>,
 ) -> Option<&'a Segments>
     ensures first { option_copied result ≡ find (is_from_start path_cmp (bound_map (λ x. x.now) start.entry)) (keys_of values.now.entries) }
@@ -75,7 +79,7 @@ fn first_from<'a>(
 // on the way to `after`, or the first right after `dir` where no child of it is up to `after`.
 fn first_past<'a>(
     alloc: Global,
-    values: &'a BTreeMap<Segments, PropValue>,
+    values: &'a BTreeMap<Segments, Kept>,
     dir: &Segments,
     after: Option<&Path>,
 ) -> Result<Option<&'a Segments>, NoMemory>
@@ -92,17 +96,81 @@ fn first_past<'a>(
     }
 }
 
-// The value at the path that a text holds.
-fn found_at<'a>(values: &'a BTreeMap<Segments, PropValue>, text: &[u8]) -> Option<&'a PropValue>
+// The value at the path that a text holds, by going over all properties. It takes no memory.
+fn walked_to<'a>(values: &'a BTreeMap<Segments, Kept>, text: &[u8]) -> Option<&'a PropValue>
     ensures { option_copied result ≡ lookup (λ path. path_eq path (segments_of text.now)) values.now.entries }
 {
     let mut left = values.iter();
     while let Some((path, value)) = left.next() {
         if path.is_text(text) {
-            return Some(value);
+            return Some(value.value());
         }
     }
     None
+}
+
+// The value at a path.
+fn searched<'a>(values: &'a BTreeMap<Segments, Kept>, path: &Segments) -> Option<&'a PropValue>
+    ensures { option_copied result ≡ lookup (is_at (path_cmp path.now)) values.now.entries }
+{
+    match values.get(path) {
+        Some(kept) => Some(kept.value()),
+        None => None,
+    }
+}
+
+// The value at the path that a text holds, by one search.
+fn found_at<'a>(
+    alloc: Global,
+    values: &'a BTreeMap<Segments, Kept>,
+    text: &[u8],
+) -> Option<&'a PropValue>
+    ensures { option_copied result ≡ lookup (λ path. path_eq path (segments_of text.now)) values.now.entries }
+{
+    if values.len() <= FEW {
+        return walked_to(values, text);
+    }
+    match Segments::of_text(alloc, text) {
+        Ok(path) => searched(values, &path),
+        Err(_) => walked_to(values, text),
+    }
+}
+
+// Puts a value at a path that has none.
+fn put_new(
+    alloc: Global,
+    values: &mut BTreeMap<Segments, Kept>,
+    path: Segments,
+    value: PropValue,
+) -> Result<(), NoMemory>
+    ensures kept { AllByRecursion IsKept values.old.entries → IsKept (path, value) → AllByRecursion IsKept values.new.entries }
+    ensures updates { OnOk result ((q : List (List ℕ)) → lookup (is_at (path_cmp q)) values.new.entries ≡ if is_at (path_cmp path) q then Some value else lookup (is_at (path_cmp q)) values.old.entries) }
+    ensures unchanged { OnErr result (values.new.entries ≡ values.old.entries) }
+{
+    let kept = Kept::new(alloc, value)?;
+    values.insert(path, kept)?;
+    Ok(())
+}
+
+// Puts a value at a path, without memory where the path has one.
+fn put_at(
+    alloc: Global,
+    values: &mut BTreeMap<Segments, Kept>,
+    path: Segments,
+    value: PropValue,
+) -> Result<(), NoMemory>
+    ensures updates { OnOk result ((q : List (List ℕ)) → lookup (is_at (path_cmp q)) values.new.entries ≡ if is_at (path_cmp path) q then Some value else lookup (is_at (path_cmp q)) values.old.entries) }
+    ensures kept { AllByRecursion IsKept values.old.entries → IsKept (path, value) → AllByRecursion IsKept values.new.entries }
+    ensures unchanged { OnErr result (values.new.entries ≡ values.old.entries) }
+    ensures absent { OnErr result (lookup (is_at (path_cmp path)) values.old.entries ≡ None) }
+{
+    match values.get_mut(&path) {
+        Some(kept) => {
+            kept.set(value);
+            Ok(())
+        }
+        None => put_new(alloc, values, path, value),
+    }
 }
 
 // A property, behind the first `depth` segments of its path.
@@ -125,7 +193,7 @@ fn behind(
 // The properties below a directory, in the order of their paths. They stand together, right after the directory.
 fn all_below(
     alloc: Global,
-    values: &BTreeMap<Segments, PropValue>,
+    values: &BTreeMap<Segments, Kept>,
     dir: &Segments,
 ) -> Result<Row<Listed>, NoMemory>
     requires kept { AllByRecursion IsKept values.now.entries }
@@ -139,7 +207,7 @@ fn all_below(
         if !path.is_below(dir) {
             return Ok(list);
         }
-        list.push(behind(alloc, path, depth, value)?)?;
+        list.push(behind(alloc, path, depth, value.value())?)?;
     }
     Ok(list)
 }
@@ -150,6 +218,7 @@ impl Props {
         ensures { IfOk result (λ p. p ≡ map.empty) }
     {
         Ok(Props {
+            alloc,
             values: BTreeMap::new(alloc),
         })
     }
@@ -159,10 +228,11 @@ impl Props {
         ensures value { option_copied result ≡ map.get self.now path.now }
         ensures something { IfSome result (λ value. is_nothing value.now ≡ false) }
     {
-        self.values.get(&path.segments)
+        searched(&self.values, &path.segments)
     }
 
-    /// The value at the path that a text holds; `None` also where the text is no path. It takes no memory.
+    /// The value at the path that a text holds; `None` also where the text is no path. It is one search, and wants no
+    /// memory: where there is none for the path, it goes over all properties.
     pub fn get_at(&self, text: &Line) -> Option<&PropValue>
         ensures { option_copied result ≡ option_map_or (λ fault. None) (path_fault text.now) (map.get self.now (segments_of text.now)) }
     {
@@ -176,7 +246,7 @@ impl Props {
         if has_barred(text) {
             return None;
         }
-        found_at(&self.values, text)
+        found_at(self.alloc, &self.values, text)
     }
 
     /// Whether some stored path continues this one.
@@ -203,7 +273,7 @@ impl Props {
         ensures list { IfOk result (λ list. list ≡ mapped (behind 0) (map.entries self.now)) }
         ensures kept { OnOk result (AllByRecursion IsKept (map.entries self.now)) }
     {
-        let top = Segments::new(alloc);
+        let top = Segments::new(alloc)?;
         let list = all_below(alloc, &self.values, &top)?;
         Ok(list)
     }
@@ -236,7 +306,7 @@ impl Props {
             return Ok(());
         }
         let Path { segments } = path;
-        self.values.insert(segments, value)?;
+        put_at(self.alloc, &mut self.values, segments, value)?;
         Ok(())
     }
 
@@ -263,7 +333,7 @@ impl Props {
     ) -> Result<Option<Path>, NoMemory>
         ensures { IfOk result (λ child. child ≡ next_child (path_or_top (option_copied dir.entry)) (option_copied after.entry) self.now) }
     {
-        let top = Segments::new(alloc);
+        let top = Segments::new(alloc)?;
         let dir = match dir {
             Some(path) => &path.segments,
             None => &top,

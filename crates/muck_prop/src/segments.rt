@@ -6,15 +6,16 @@ ghost use Rattle.muck_prop.specs.Order.{path_cmp, path_eq, path_cmp_total, path_
 ghost use Rattle.muck_prop.specs.Paths.{segments_of, path_text, begins_with, with_part};
 
 use crate::segment::Segment;
-use muck_model::{NoMemory, count_before};
+use muck_model::{Boxed, NoMemory, count_before};
 use std::alloc::Global;
 use std::cmp::Ordering;
 use std::marker::Model;
 
-// Some segments, which contracts see as their list. A path keeps more than this type does.
+// Some segments, which contracts see as their list. A path keeps more than this type does. It is one word, so that a node of the map, which has room for
+// many, is small.
 #[derive(Drop)]
 pub(crate) struct Segments {
-    items: Vec<Segment>,
+    items: Boxed<Vec<Segment>>,
 }
 
 impl Model for Segments {
@@ -68,40 +69,47 @@ impl Segments {
     }
 
     // No segment.
-    pub(crate) fn new(alloc: Global) -> Segments
-        ensures { result ≡ [] }
+    pub(crate) fn new(alloc: Global) -> Result<Segments, NoMemory>
+        ensures { IfOk result (λ s. s ≡ []) }
     {
-        Segments {
-            items: Vec::new(alloc),
-        }
+        Segments::of_items(alloc, Vec::new(alloc))
+    }
+
+    // These segments.
+    fn of_items(alloc: Global, items: Vec<Segment>) -> Result<Segments, NoMemory>
+        ensures { IfOk result (λ s. s ≡ items.items) }
+    {
+        let items = Boxed::new(alloc, items)?;
+        Ok(Segments { items })
     }
 
     // What stands between the slashes of a text, without empty parts, in lower case.
     pub(crate) fn of_text(alloc: Global, text: &[u8]) -> Result<Segments, NoMemory>
         ensures { IfOk result (λ s. s ≡ segments_of text.now) }
     {
-        let mut items = Vec::new(alloc);
+        let mut items = Vec::with_capacity(alloc, 1)?;
         for part in text.split(|b| *b == b'/') {
             if !part.is_empty() {
                 items.push(Segment::lowered(alloc, part)?)?;
             }
         }
         items.shrink_to_fit();
-        Ok(Segments { items })
+        let segments = Segments::of_items(alloc, items)?;
+        Ok(segments)
     }
 
     // All segments.
     pub(crate) fn as_slice(&self) -> &[Segment]
         ensures { result.now ≡ self.now }
     {
-        &self.items
+        self.items.get()
     }
 
     // How many there are.
     pub(crate) fn len(&self) -> usize
         ensures { result ≡ length self.now }
     {
-        self.items.len()
+        self.as_slice().len()
     }
 
     // The segments, joined by single slashes.
@@ -109,7 +117,8 @@ impl Segments {
         ensures { IfOk result (λ text. text.items ≡ path_text self.now) }
     {
         let mut text = Vec::new(alloc);
-        for (i, segment) in self.items.iter().enumerate() {
+        let kept = self.as_slice();
+        for (i, segment) in kept.iter().enumerate() {
             if i > 0 {
                 text.push(b'/')?;
             }
@@ -122,12 +131,14 @@ impl Segments {
     pub(crate) fn first(&self, alloc: Global, count: usize) -> Result<Segments, NoMemory>
         ensures { IfOk result (λ s. s ≡ take count self.now) }
     {
-        let count = count.min(self.items.len());
+        let kept = self.as_slice();
+        let count = count.min(kept.len());
         let mut items = Vec::with_capacity(alloc, count)?;
-        for segment in &self.items[..count] {
+        for segment in &kept[..count] {
             items.push(segment.copy(alloc)?)?;
         }
-        Ok(Segments { items })
+        let copy = Segments::of_items(alloc, items)?;
+        Ok(copy)
     }
 
     // A copy of those behind the first `count`.
@@ -135,19 +146,20 @@ impl Segments {
         requires { count ≤ length self.now }
         ensures { IfOk result (λ s. s ≡ drop count self.now) }
     {
-        let (_, rest) = self.items.split_at(count);
+        let (_, rest) = self.as_slice().split_at(count);
         let mut items = Vec::with_capacity(alloc, rest.len())?;
         for segment in rest {
             items.push(segment.copy(alloc)?)?;
         }
-        Ok(Segments { items })
+        let copy = Segments::of_items(alloc, items)?;
+        Ok(copy)
     }
 
     // All of them, as a copy.
     pub(crate) fn copy(&self, alloc: Global) -> Result<Segments, NoMemory>
         ensures { IfOk result (λ s. s ≡ self.now) }
     {
-        self.first(alloc, self.items.len())
+        self.first(alloc, self.len())
     }
 
     // The least list of segments above all that continue the first `count` of these.
@@ -155,26 +167,29 @@ impl Segments {
     pub(crate) fn past(&self, alloc: Global, count: usize) -> Result<Segments, NoMemory>
         ensures { IfOk result (λ s. s ≡ past (take count self.now)) }
     {
-        let Segments { mut items } = self.first(alloc, count)?;
-        let Some(last) = items.pop() else {
-            return Ok(Segments { items });
-        };
-        items.push(last.successor()?)?;
-        Ok(Segments { items })
+        let Segments { items } = self.first(alloc, count)?;
+        let mut items = items.into_inner();
+        if let Some(last) = items.pop() {
+            items.push(last.successor()?)?;
+        }
+        let past = Segments::of_items(alloc, items)?;
+        Ok(past)
     }
 
     // Whether any of them begins with a byte.
     pub(crate) fn any_begins_with(&self, first: u8) -> bool
         ensures { result ≡ list_any (begins_with first) self.now }
     {
-        self.items.iter().any(|segment| segment.begins_with(first))
+        self.as_slice()
+            .iter()
+            .any(|segment| segment.begins_with(first))
     }
 
     // Whether these segments continue those by at least one.
     pub(crate) fn is_below(&self, above: &Segments) -> bool
         ensures { result ≡ is_below above.now self.now }
     {
-        above.len() < self.len() && self.items.starts_with(&above.items)
+        above.len() < self.len() && self.as_slice().starts_with(above.as_slice())
     }
 }
 

@@ -4,6 +4,7 @@ ghost use Rattle.muck_prop.specs.Store.{is_nothing};
 
 use muck_model::{Line, NoMemory};
 use std::alloc::Global;
+use std::marker::Model;
 
 /// What a property holds.
 #[derive(Drop)]
@@ -47,5 +48,47 @@ impl PropValue {
             PropValue::Text(text) => Ok(PropValue::Text(text.copy(alloc)?)),
             PropValue::Number(number) => Ok(PropValue::Number(*number)),
         }
+    }
+}
+
+// A value on the heap, which contracts see as the value itself: a node of the map, which has room for many, keeps one word of each.
+#[derive(Drop)]
+pub(crate) struct Kept {
+    inner: Box<PropValue>,
+}
+
+impl Model for Kept {
+    ghost use Rattle.muck_prop.specs.declared.value.PropValue.{PropValue};
+    ghost use Rattle.muck_prop.specs.contracts.value.PropValue as value;
+
+    ghost Value = { PropValue };
+
+    ghost coded = { value.the_row.coded };
+
+    ghost view = { λ k. k.inner.value };
+}
+
+impl Kept {
+    // Puts a value on the heap.
+    pub(crate) fn new(alloc: Global, value: PropValue) -> Result<Kept, NoMemory>
+        ensures { IfOk result (λ kept. kept ≡ value) }
+    {
+        Ok(Kept {
+            inner: Box::new(alloc, value)?,
+        })
+    }
+
+    // The value.
+    pub(crate) fn value(&self) -> &PropValue
+        ensures { result.now ≡ self.now }
+    {
+        &self.inner
+    }
+
+    // Puts another value into its place.
+    pub(crate) fn set(&mut self, value: PropValue)
+        ensures { self.new ≡ value }
+    {
+        *self.inner = value;
     }
 }

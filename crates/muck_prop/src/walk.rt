@@ -5,7 +5,7 @@ ghost use Rattle.muck_prop.specs.Order.{path_cmp};
 
 use crate::path::Path;
 use crate::segments::Segments;
-use crate::value::PropValue;
+use crate::value::{Kept, PropValue};
 use std::collections::BTreeMap;
 use std::collections::btree_map::Iter;
 use std::marker::Model;
@@ -14,7 +14,7 @@ use std::marker::Model;
 /// the list of paths and values. It takes no memory.
 #[derive(Drop)]
 pub struct Walk<'a> {
-    entries: Iter<'a, Segments, PropValue>,
+    entries: Iter<'a, Segments, Kept>,
 }
 
 impl<'a> Model for Walk<'a> {
@@ -35,7 +35,7 @@ fn is_entry(segments: &Segments, kept: &PropValue, path: &Path, value: &PropValu
 
 impl<'a> Walk<'a> {
     // All entries.
-    pub(crate) fn new(values: &'a BTreeMap<Segments, PropValue>) -> Walk<'a>
+    pub(crate) fn new(values: &'a BTreeMap<Segments, Kept>) -> Walk<'a>
         ensures all { result ≡ values.now.entries }
         ensures ordered { IsOrdered path_cmp values.now }
     {
@@ -60,6 +60,6 @@ impl<'a> Walk<'a> {
         let Some((segments, kept)) = self.entries.next() else {
             return false;
         };
-        is_entry(segments, kept, path, value)
+        is_entry(segments, kept.value(), path, value)
     }
 }

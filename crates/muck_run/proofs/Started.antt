@@ -28,6 +28,14 @@ use Rattle.spec_events.specs.World.{booted}
 use Rattle.spec_events.specs.Histories.{History, now, AllLawful, AllLicensed}
 use Rattle.spec_events.specs.Passwords.{AllKnown}
 use Rattle.spec_events.specs.Sourced.{AllSourced}
+use Rattle.spec_denials.specs.Denials.{AllDenialsNamed}
+use Rattle.spec_denials.proofs.Histories.{all_denials_named}
+use Rattle.spec_origins.specs.Origins.{AllOrigins}
+use Rattle.spec_origins.specs.Seats.{AllSeated}
+use Rattle.spec_origins.specs.Stops.{AllStops}
+use Rattle.spec_origins.proofs.Histories.{all_origins_booted}
+use Rattle.spec_origins.proofs.Waiting.{all_seated_booted}
+use Rattle.spec_origins.proofs.Stopping.{all_stops}
 use Rattle.spec_events.proofs.Passwords.{all_known_booted}
 use Rattle.spec_events.proofs.SourcedEvents.{all_sourced_booted}
 use Rattle.spec_events.proofs.Turns.{all_licensed_booted}
@@ -89,12 +97,24 @@ unmarked os n = ap (λ (o : Option Entry). option_and_then (λ (e : Entry). e.ma
     by_cases None = refl
     by_cases (Some s) = refl
 
--- a run of such a world keeps to its licences, what runs in it is of its source, and its players are known
+-- a run of such a world keeps to its licences, what runs in it is of its source, each denial names its rule, others keep theirs, and its players are known
 pub licensed_from : (began : ℕ) (kept : Kept) (es : List Happened) → AllLicensed (booted_at began kept) es
 licensed_from began kept es = all_licensed_booted (loaded kept.objects) kept.tune began began (unmarked kept.objects) es
 
 pub sourced_from : (began : ℕ) (kept : Kept) (es : List Happened) → AllSourced (booted_at began kept) es
 sourced_from began kept es = all_sourced_booted (loaded kept.objects) kept.tune began began es
+
+pub denials_from : (began : ℕ) (kept : Kept) (es : List Happened) → AllDenialsNamed (booted_at began kept) es
+denials_from began kept es = all_denials_named (booted_at began kept) es
+
+pub origins_from : (began : ℕ) (kept : Kept) (es : List Happened) → AllOrigins (booted_at began kept) es
+origins_from began kept es = all_origins_booted (loaded kept.objects) kept.tune began began (unmarked kept.objects) es
+
+pub seats_from : (began : ℕ) (kept : Kept) (es : List Happened) → AllLawful (booted_at began kept) es → AllSeated (booted_at began kept) es
+seats_from began kept es lawful = all_seated_booted (loaded kept.objects) kept.tune began began (unmarked kept.objects) es lawful
+
+pub stops_from : (began : ℕ) (kept : Kept) (es : List Happened) → AllStops (booted_at began kept) es
+stops_from began kept es = all_stops (booted_at began kept) es
 
 pub known_from : (began : ℕ) (kept : Kept) (es : List Happened) → AllLawful (booted_at began kept) es → AllKnown (booted_at began kept) es
 known_from began kept es lawful = all_known_booted (loaded kept.objects) kept.tune began began (unmarked kept.objects) es lawful

@@ -45,7 +45,7 @@ fn worker_turn<W: Wait, R: Rest>(
     // For contracts alone: each entry so far is lawful where it stands.
     let _dead = held.state.is_dead();
     let did = works(&mut held.state, party, task);
-    turn.give(seat, held);
+    turn.give(seat, held, rest);
     Ok(did)
 }
 
@@ -68,9 +68,12 @@ pub fn worker<W: Wait, G: Gate, R: Rest>(
     let mut task = Task::Work;
     for _ in rt.forever() {
         match worker_turn(rt, turn, seat, party, task, rest) {
-            Ok(Did::Went) => task = Task::Work,
+            Ok(Did::Went) => {
+                rest.did(party);
+                task = Task::Work;
+            }
             Ok(Did::Idled) => {
-                rest.rest();
+                rest.rest(party);
                 task = Task::Work;
             }
             Ok(Did::Claimed(next)) => task = next,
@@ -78,8 +81,14 @@ pub fn worker<W: Wait, G: Gate, R: Rest>(
                 gate.pass(place::BEFORE_END);
                 task = Task::End;
             }
-            Ok(Did::Over) => return Why::Fine,
-            Ok(Did::Failed) => return Why::NoMemory,
+            Ok(Did::Over) => {
+                rest.ended(party);
+                return Why::Fine;
+            }
+            Ok(Did::Failed) => {
+                rest.ended(party);
+                return Why::NoMemory;
+            }
             Err(_) => return Why::Spent,
         }
     }

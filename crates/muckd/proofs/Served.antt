@@ -30,7 +30,7 @@ use Rattle.muck_run.specs.inner.Ends.{IsBootable, IsNoteOf, booted_at, unbegun_a
 use Rattle.muck_run.specs.declared.why.Why.{Why}
 use Rattle.muck_run.specs.declared.why.Why.TheVariants.{Fine, Usage, NoMemory, DiskFault, Damaged, ListenFault, StoreFull, Spent}
 use Rattle.muck_run.proofs.Called.{holds_still, either_since}
-use Rattle.muck_run.proofs.Started.{rests_started, licensed_from, sourced_from, known_from}
+use Rattle.muck_run.proofs.Started.{rests_started, licensed_from, sourced_from, denials_from, origins_from, seats_from, stops_from, known_from}
 use Rattle.muck_run.proofs.Untouched.{untouched_still, untouched_on}
 
 -- The answers of the server, as the call gives them.
@@ -162,6 +162,10 @@ module _ {L C D : Type 0} (shows : Bool) (told : L → Told) (listening : L → 
     lawful = s.lawful;
     licensed = licensed_from began log.chosen.held.world tale;
     sourced = sourced_from began log.chosen.held.world tale;
+    denials = denials_from began log.chosen.held.world tale;
+    origins = origins_from began log.chosen.held.world tale;
+    seats = seats_from began log.chosen.held.world tale s.lawful;
+    stops = stops_from began log.chosen.held.world tale;
     passwords = known_from began log.chosen.held.world tale s.lawful;
     shared = s.shared;
     over = s.over;

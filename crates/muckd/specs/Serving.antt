@@ -11,6 +11,10 @@ use Rattle.spec_events.specs.World.{World}
 use Rattle.spec_events.specs.Histories.{AllLawful, AllLicensed}
 use Rattle.spec_events.specs.Passwords.{AllKnown}
 use Rattle.spec_events.specs.Sourced.{AllSourced}
+use Rattle.spec_denials.specs.Denials.{AllDenialsNamed}
+use Rattle.spec_origins.specs.Origins.{AllOrigins}
+use Rattle.spec_origins.specs.Seats.{AllSeated}
+use Rattle.spec_origins.specs.Stops.{AllStops}
 use Rattle.spec_serve.specs.Marks.{counts_in, IsLinksNote}
 use Rattle.spec_serve.specs.Promises.{Tally}
 use Rattle.muck_porter.specs.Times.{Timely}
@@ -59,7 +63,9 @@ pub record IsUnserved {L C D : Type 0} (shows : Bool) (told : L → Told) (answe
   pub second_file : tells ≡ true → IsUntouched seen moment images second second'
 
 -- A server began, on the world that the two files held, at the second that the clock answered first. One history happened, to which all
--- parties added: each entry was lawful where it stands, and changed only what is open there; what was built and what ran was of the source that its program had there; and whoever has a player gave its password.
+-- parties added: each entry was lawful where it stands, and changed only what is open there; what was built and what ran was of the source that its program had there; what a unit
+-- was denied, it was by the rule that denies an act that it asked for, and where it went on each of these was allowed; each process was whose it should be, and others kept theirs, and so
+-- the lines that wait and the editors of connections; only the porter and who may had it stop; and whoever has a player gave its password.
 -- Each party did what it may, and that is over, but where all turns were had. The note of the links (`counted`) stands where it belongs. The links were asked to listen once, on this port, and what they carried is what
 -- that history says of each connection. Each moment is the greater of what the clock, which had the answers `coming` from then on, answers next, and of the second before
 -- it. Of the disks is kept what is kept of a run.
@@ -78,6 +84,10 @@ pub record HasServed {L C D : Type 0} (shows : Bool) (told : L → Told) (listen
   pub lawful : AllLawful start tale
   pub licensed : AllLicensed start tale
   pub sourced : AllSourced start tale
+  pub denials : AllDenialsNamed start tale
+  pub origins : AllOrigins start tale
+  pub seats : AllSeated start tale
+  pub stops : AllStops start tale
   pub passwords : AllKnown start tale
   pub shared : IsShared workers tale
   pub over : ¬ (HasRunOut cause tale) → AllOver workers tale

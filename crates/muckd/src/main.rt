@@ -4,19 +4,18 @@
 #![tactic(auto)]
 
 mod command;
-mod napping;
 mod serving;
 mod top;
 
 use muck_disk::FileDisk;
 use muck_io::{OpenGate, ReaderSource, SystemClock, WriterSink};
-use muck_links::{Links, MioLinks};
+use muck_links::{Bell, BellRest, Links, MioLinks};
 use muck_run::Why;
-use napping::NapRest;
 use std::fs::File;
 use std::os::fd::{AsRawFd, RawFd};
 use std::process::ExitCode;
-use std::{env, io};
+use std::thread::Threads;
+use std::{env, io, thread};
 use top::muckd;
 
 // Links have lower numbers than this.
@@ -50,6 +49,14 @@ fn words(rt: HostRuntime) -> io::Result<Vec<String>> {
     Ok(words)
 }
 
+// How many threads may run at once.
+fn processors(rt: &impl Threads) -> usize {
+    match thread::available_parallelism(rt) {
+        Ok(count) => count.get(),
+        Err(_) => 1,
+    }
+}
+
 // Why a call ends whose words couldn't be had.
 fn wordless(error: &io::Error) -> Why {
     if error.kind() == io::ErrorKind::OutOfMemory {
@@ -81,7 +88,8 @@ fn main(rt: HostRuntime) -> ExitCode {
     let mut out = WriterSink::new(io::writer(&rt));
     let mut first = FileDisk::new(rt);
     let mut second = FileDisk::new(rt);
-    let mut links = MioLinks::new(rt.alloc(), rt);
+    let bell = Bell::new();
+    let mut links = MioLinks::new(rt.alloc(), rt, &bell);
     let mut clock = SystemClock::new(rt);
     let done = muckd(
         &rt,
@@ -94,7 +102,7 @@ fn main(rt: HostRuntime) -> ExitCode {
         &mut first,
         &mut second,
         &OpenGate,
-        &NapRest::new(rt),
+        &BellRest::new(&bell, rt, processors(&rt)),
     );
     // So that nothing that was written is lost.
     for d in 0..LINKS_MOST {

@@ -5,3 +5,4 @@ pub mod Taking
 pub mod Counting
 pub mod Texts
 pub mod Opening
+mod Wide

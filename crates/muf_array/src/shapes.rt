@@ -1,21 +1,43 @@
 // The shapes of the primitives of lists and dictionaries: what each takes, and that its answer takes its place.
-ghost use Rattle.std.specs.Prelude.{◌≡◌, ◌∷◌, [], ◌≤◌, Some, None, length, drop, slice_get};
+ghost use Rattle.std.specs.Prelude.{◌≡◌, ◌∷◌, [], ◌≤◌, Some, None, length, drop, slice_get, IsTrue};
+ghost use Rattle.muf_model.specs.Answer.{put, refuses};
+ghost use Rattle.muf_model.specs.declared.fault.MufFault.TheVariants.{StackFull};
+ghost use Rattle.muf_model.specs.inner.View.{view};
 ghost use Rattle.muf_model.specs.Needs.{takes, any, a_text, a_key, a_list, a_collection};
 ghost use Rattle.muf_model.specs.ArrayRows as row;
 ghost use Rattle.muf_model.specs.declared.prims.Primitive.TheVariants.{ArrayGetItem, ArrayAppendItem, ArrayDelItem, ArrayNext, ArrayJoin};
 ghost use Rattle.muf_frame.specs.inner.Shown.{Shown, flat};
 ghost use Rattle.muf_frame.specs.inner.Answers.{UsedOr, AppliedOr};
-ghost use Rattle.muf_array.specs.inner.Shapes.{changed, row_of_held};
+ghost use Rattle.muf_array.specs.inner.Shapes.{Spreads, changed, of_held, row_of_held};
 ghost use Rattle.muf_array.specs.inner.Taken.{held_read, held_refused, item_read, item_refused, append_read, append_refused};
 
 use crate::changes::{Change, append_fault, appended, change_fault, changed, gone, gone_fault};
+use crate::entries::count;
 use crate::joining::joined;
 use crate::rows;
 use crate::tops::{item_at, key_at};
 use muf_frame::{Frame, PrimFault};
-use muf_model::{MapKey, MufFault, Prim};
+use muf_model::{MapKey, MufFault, Prim, STACK_MOST, Value};
 use prim_text::give;
 use std::alloc::Global;
+
+// Whether a primitive puts all entries of a list or dictionary on the stack.
+fn spreads(prim: Prim) -> bool
+    ensures { IsTrue result → Spreads prim }
+{
+    matches!(prim, Prim::ArrayKeys | Prim::ArrayVals | Prim::ArrayExplode)
+}
+
+// Whether a primitive would put more entries of the list or dictionary on the top there than the stack has room for.
+fn overflows(prim: Prim, frame: &Frame, held: &Value) -> bool
+    requires { 1 ≤ length frame.now.stack }
+    ensures { IsTrue result → put 1 (of_held (row_of_held prim) (view held.now)) (drop 1 (flat frame.now).stack) ≡ refuses StackFull }
+{
+    if !spreads(prim) {
+        return false;
+    }
+    count(held) + frame.len() > STACK_MOST
+}
 
 /// The primitives of a list or dictionary alone.
 #[tactic(auto, using(crate::proofs::Taking::held_steps))]
@@ -25,6 +47,9 @@ pub(crate) fn one_held(alloc: Global, prim: Prim, frame: &mut Frame) -> Result<(
     frame.need(1)?;
     match item_at(frame, 0) {
         Some(held) => {
+            if overflows(prim, frame, held) {
+                return Err(PrimFault::Fault(MufFault::StackFull));
+            }
             let made = rows::of_held(alloc, prim, held)?;
             give(frame, 1, made)
         }

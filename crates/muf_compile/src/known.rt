@@ -50,11 +50,7 @@ fn part_of(alloc: Global, bytes: &[u8]) -> Result<Line, NoMemory>
     requires { text_fault bytes.now ≡ None }
     ensures { IfOk result (λ line. line ≡ bytes.now) }
 {
-    let bytes = bytes.to_vec(alloc)?;
-    match Line::from_vec(bytes) {
-        Ok(line) => Ok(line),
-        Err(_) => unreachable!(),
-    }
+    Line::of_text(alloc, bytes)
 }
 
 // Whether a word can't be a name.

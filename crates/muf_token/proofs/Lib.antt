@@ -8,3 +8,6 @@ pub mod Bodies
 pub mod Lines
 pub mod Sources
 pub mod Exits
+pub mod Meanings
+pub mod Alike
+pub mod Takings

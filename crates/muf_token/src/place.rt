@@ -66,10 +66,7 @@ pub(crate) fn text_of(bytes: Vec<u8>) -> Line
     requires short { length bytes.items ≤ 4096 }
     ensures { result ≡ bytes.items }
 {
-    match Line::from_vec(bytes) {
-        Ok(line) => line,
-        Err(_) => unreachable!(),
-    }
+    Line::of_text_vec(bytes)
 }
 
 // The same bytes in lower case.

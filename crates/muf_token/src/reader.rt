@@ -8,8 +8,11 @@ ghost use Rattle.muck_model.specs.declared.dbref.Dbref.{Dbref};
 ghost use Rattle.muf_token.specs.Numbers.{kind_of};
 ghost use Rattle.muf_token.specs.Pieces.{lowered, pieces};
 ghost use Rattle.muf_token.specs.inner.Spots.{spot_of, name_of, IsAnswer};
-ghost use Rattle.muf_token.specs.Source.{with_definition, def_at, define_at, undef_at, is_defined, with_branch, conditional_at, else_at, endif_at, object_of, with_all, include_at, directed, passed, put_out, taken, skipped, stepped, words_unless, nothing_known};
-ghost use Rattle.muf_token.specs.inner.Readers.{state_of, LeadsTo, IsRead};
+ghost use Rattle.muf_token.specs.Source.{with_definition, def_at, define_at, undef_at, is_defined, with_branch, conditional_at, else_at, endif_at, object_of, with_all, included, include_at, directed, passed, put_out, taken, skipped, stepped, words_unless, nothing_known};
+ghost use Rattle.muf_token.specs.inner.Readers.{state_of, LeadsTo, LeadsOn, IsRead, AreKept, AreTaken};
+ghost use Rattle.std.specs.List.{IsDistinct};
+ghost use Rattle.std.specs.Map.{keys_of};
+ghost use Rattle.std.specs.Str.{bytes_eq};
 
 use crate::branch::{Branch, Branches};
 use crate::definition::pieces_of;
@@ -35,6 +38,8 @@ pub(crate) struct Reader {
     pub definitions: Definitions,
     pub branches: Branches,
     pub out: Output,
+    /// The object whose definitions were taken last, where none was made or taken away since.
+    pub last: Option<Dbref>,
 }
 
 // A word in lower case.
@@ -68,8 +73,10 @@ fn object_of(alloc: Global, line: u32, name: &Name<'_>) -> Result<Dbref, TokenFa
 
 impl Reader {
     /// Nothing is known.
+    #[tactic(auto, using(crate::proofs::Takings::takings))]
     pub fn new(alloc: Global) -> Result<Reader, NoMemory>
-        ensures { IfOk result (λ r. state_of r ≡ nothing_known) }
+        ensures known { IfOk result (λ r. state_of r ≡ nothing_known) }
+        ensures taken { IfOk result (λ r. (r.last ≡ None) × IsDistinct bytes_eq (keys_of r.definitions.entries)) }
     {
         Ok(Reader {
             definitions: IndexMap::new(alloc),
@@ -78,13 +85,16 @@ impl Reader {
                 words: Row::new(alloc)?,
                 uses: 0,
             },
+            last: None,
         })
     }
 
     // Defines a name, in place of what it stood for.
     fn define(&mut self, name: Line, body: Row<Piece>) -> Result<(), NoMemory>
-        ensures { OnOk result (state_of self.new ≡ with_definition name body (state_of self.old)) }
+        ensures defined { OnOk result (state_of self.new ≡ with_definition name body (state_of self.old)) }
+        ensures fresh { OnOk result ((self.new.last ≡ None) × IsDistinct bytes_eq (keys_of self.new.definitions.entries)) }
     {
+        self.last = None;
         self.definitions.insert(name, body)?;
         Ok(())
     }
@@ -96,7 +106,8 @@ impl Reader {
         line: u32,
         place: Place<'a>,
     ) -> Result<Place<'a>, TokenFault>
-        ensures { LeadsTo (def_at line (state_of self.old) (spot_of place.entry)) result (state_of self.new) }
+        ensures leads { LeadsTo (def_at line (state_of self.old) (spot_of place.entry)) result (state_of self.new) }
+        ensures fresh { OnOk result ((self.new.last ≡ None) × IsDistinct bytes_eq (keys_of self.new.definitions.entries)) }
     {
         let name = name_at(alloc, line, place)?;
         let body = pieces_of(alloc, name.behind.here)?;
@@ -112,7 +123,8 @@ impl Reader {
         line: u32,
         place: Place<'a>,
     ) -> Result<Place<'a>, TokenFault>
-        ensures { LeadsTo (define_at line (state_of self.old) (spot_of place.entry)) result (state_of self.new) }
+        ensures leads { LeadsTo (define_at line (state_of self.old) (spot_of place.entry)) result (state_of self.new) }
+        ensures fresh { OnOk result ((self.new.last ≡ None) × IsDistinct bytes_eq (keys_of self.new.definitions.entries)) }
     {
         let name = name_at(alloc, line, place)?;
         let (body, behind) = body_at(alloc, line, name.behind)?;
@@ -121,16 +133,20 @@ impl Reader {
     }
 
     // `$undef name`.
+    #[tactic(auto, using(crate::proofs::Takings::takings))]
     fn take_undef<'a>(
         &mut self,
         alloc: Global,
         line: u32,
         place: Place<'a>,
     ) -> Result<Place<'a>, TokenFault>
-        ensures { LeadsTo (undef_at line (state_of self.old) (spot_of place.entry)) result (state_of self.new) }
+        requires { IsDistinct bytes_eq (keys_of self.old.definitions.entries) }
+        ensures leads { LeadsOn (undef_at line (state_of self.old) (spot_of place.entry)) result (state_of self.new) }
+        ensures fresh { OnOk result ((self.new.last ≡ None) × IsDistinct bytes_eq (keys_of self.new.definitions.entries)) }
     {
         let name = name_at(alloc, line, place)?;
-        self.definitions.shift_remove(&name.name);
+        self.last = None;
+        self.definitions.swap_remove(&name.name);
         Ok(name.behind)
     }
 
@@ -142,7 +158,8 @@ impl Reader {
         line: u32,
         place: Place<'a>,
     ) -> Result<Place<'a>, TokenFault>
-        ensures { LeadsTo (conditional_at wanted line (state_of self.old) (spot_of place.entry)) result (state_of self.new) }
+        ensures leads { LeadsTo (conditional_at wanted line (state_of self.old) (spot_of place.entry)) result (state_of self.new) }
+        ensures same { OnOk result (AreKept self.old self.new) }
     {
         let name = name_at(alloc, line, place)?;
         let defined = self.definitions.contains_key(&name.name);
@@ -157,7 +174,8 @@ impl Reader {
 
     // `$else`.
     fn take_else(&mut self, line: u32) -> Result<(), TokenFault>
-        ensures { Leads (else_at line (state_of self.old)) result (state_of self.new) }
+        ensures leads { Leads (else_at line (state_of self.old)) result (state_of self.new) }
+        ensures same { OnOk result (AreKept self.old self.new) }
     {
         self.branches.turn(line)?;
         Ok(())
@@ -165,7 +183,8 @@ impl Reader {
 
     // `$endif`.
     fn take_endif(&mut self, line: u32) -> Result<(), TokenFault>
-        ensures { Leads (endif_at line (state_of self.old)) result (state_of self.new) }
+        ensures leads { Leads (endif_at line (state_of self.old)) result (state_of self.new) }
+        ensures same { OnOk result (AreKept self.old self.new) }
     {
         self.branches.close(line)?;
         Ok(())
@@ -183,7 +202,39 @@ impl Reader {
         Ok(())
     }
 
+    // Whether the definitions of this object were taken last.
+    fn is_last(&self, object: Dbref) -> bool
+        ensures { result ≡ true → self.now.last ≡ Some object }
+    {
+        match self.last {
+            Some(last) => last == object,
+            None => false,
+        }
+    }
+
+    // The definitions that an object lends.
+    #[tactic(auto, using(crate::proofs::Takings::takings))]
+    fn take_all<I: Includes>(
+        &mut self,
+        alloc: Global,
+        include: &I,
+        line: u32,
+        object: Dbref,
+    ) -> Result<(), TokenFault>
+        requires { AreTaken (I.lent include.now) self.old.definitions.entries self.old.last }
+        ensures leads { Leads (included line (state_of self.old) (I.lent include.now object)) result (state_of self.new) }
+        ensures taken { OnOk result (AreTaken (I.lent include.now) self.new.definitions.entries self.new.last) }
+    {
+        let Some(list) = include.defs(alloc, object)? else {
+            return Err(refused(line, FaultKind::UnknownInclude));
+        };
+        self.define_all(alloc, list.as_slice())?;
+        self.last = Some(object);
+        Ok(())
+    }
+
     // `$include #N`.
+    #[tactic(auto, using(crate::proofs::Takings::takings))]
     fn take_include<'a, I: Includes>(
         &mut self,
         alloc: Global,
@@ -191,18 +242,21 @@ impl Reader {
         line: u32,
         place: Place<'a>,
     ) -> Result<Place<'a>, TokenFault>
-        ensures { LeadsTo (include_at (I.lent include.now) line (state_of self.old) (spot_of place.entry)) result (state_of self.new) }
+        requires { AreTaken (I.lent include.now) self.old.definitions.entries self.old.last }
+        ensures leads { LeadsOn (include_at (I.lent include.now) line (state_of self.old) (spot_of place.entry)) result (state_of self.new) }
+        ensures taken { OnOk result (AreTaken (I.lent include.now) self.new.definitions.entries self.new.last) }
     {
         let name = name_at(alloc, line, place)?;
         let object = object_of(alloc, line, &name)?;
-        let Some(list) = include.defs(alloc, object)? else {
-            return Err(refused(line, FaultKind::UnknownInclude));
-        };
-        self.define_all(alloc, list.as_slice())?;
+        if self.is_last(object) {
+            return Ok(name.behind);
+        }
+        self.take_all(alloc, include, line, object)?;
         Ok(name.behind)
     }
 
     // A directive, where words are read.
+    #[tactic(auto, using(crate::proofs::Takings::takings))]
     fn take_directive<'a, I: Includes>(
         &mut self,
         alloc: Global,
@@ -211,7 +265,9 @@ impl Reader {
         directive: Option<Directive>,
         place: Place<'a>,
     ) -> Result<Place<'a>, TokenFault>
-        ensures { LeadsTo (directed (I.lent include.now) line directive (state_of self.old) (spot_of place.entry)) result (state_of self.new) }
+        requires { AreTaken (I.lent include.now) self.old.definitions.entries self.old.last }
+        ensures leads { LeadsOn (directed (I.lent include.now) line directive (state_of self.old) (spot_of place.entry)) result (state_of self.new) }
+        ensures taken { OnOk result (AreTaken (I.lent include.now) self.new.definitions.entries self.new.last) }
     {
         match directive {
             Some(Directive::Def) => self.take_def(alloc, line, place),
@@ -234,7 +290,8 @@ impl Reader {
 
     // A word where words aren't read.
     fn pass_word(&mut self, line: u32, word: &Line) -> Result<(), TokenFault>
-        ensures { Leads (passed line (directive_of word.now) (state_of self.old)) result (state_of self.new) }
+        ensures leads { Leads (passed line (directive_of word.now) (state_of self.old)) result (state_of self.new) }
+        ensures same { OnOk result (AreKept self.old self.new) }
     {
         match directive_of(word) {
             Some(Directive::Ifdef | Directive::Ifndef) => {
@@ -254,7 +311,8 @@ impl Reader {
     // Puts out what a piece stands for.
     #[tactic(auto, unfolding(crate::specs::Source::depth_most))]
     fn put_out(&mut self, alloc: Global, line: u32, piece: &Piece) -> Result<(), TokenFault>
-        ensures { Leads (put_out line piece.now (state_of self.old)) result (state_of self.new) }
+        ensures leads { Leads (put_out line piece.now (state_of self.old)) result (state_of self.new) }
+        ensures same { OnOk result (AreKept self.old self.new) }
     {
         expand(
             alloc,
@@ -268,6 +326,7 @@ impl Reader {
     }
 
     // A piece where words are read.
+    #[tactic(auto, using(crate::proofs::Takings::takings))]
     fn take_here<'a, I: Includes>(
         &mut self,
         alloc: Global,
@@ -276,7 +335,9 @@ impl Reader {
         piece: &Piece,
         place: Place<'a>,
     ) -> Result<Place<'a>, TokenFault>
-        ensures { LeadsTo (taken (I.lent include.now) line piece.now (state_of self.old) (spot_of place.entry)) result (state_of self.new) }
+        requires { AreTaken (I.lent include.now) self.old.definitions.entries self.old.last }
+        ensures leads { LeadsOn (taken (I.lent include.now) line piece.now (state_of self.old) (spot_of place.entry)) result (state_of self.new) }
+        ensures taken { OnOk result (AreTaken (I.lent include.now) self.new.definitions.entries self.new.last) }
     {
         if let Piece::Word(word) = piece {
             if is_directive(word) {
@@ -289,7 +350,8 @@ impl Reader {
 
     // A piece where words aren't read.
     fn pass(&mut self, line: u32, piece: &Piece) -> Result<(), TokenFault>
-        ensures { Leads (skipped line piece.now (state_of self.old)) result (state_of self.new) }
+        ensures leads { Leads (skipped line piece.now (state_of self.old)) result (state_of self.new) }
+        ensures same { OnOk result (AreKept self.old self.new) }
     {
         match piece {
             Piece::Word(word) => self.pass_word(line, word),
@@ -298,7 +360,7 @@ impl Reader {
     }
 
     // One piece of the source at this line, with what it brings; then it goes on at the place that comes back.
-    #[tactic(auto, unfolding(crate::specs::Source::stepped))]
+    #[tactic(auto, unfolding(crate::specs::Source::stepped), using(crate::proofs::Takings::takings))]
     fn take<'a, I: Includes>(
         &mut self,
         alloc: Global,
@@ -307,7 +369,9 @@ impl Reader {
         piece: &Piece,
         place: Place<'a>,
     ) -> Result<Place<'a>, TokenFault>
-        ensures { LeadsTo (stepped (I.lent include.now) line piece.now (state_of self.old) (spot_of place.entry)) result (state_of self.new) }
+        requires { AreTaken (I.lent include.now) self.old.definitions.entries self.old.last }
+        ensures leads { LeadsOn (stepped (I.lent include.now) line piece.now (state_of self.old) (spot_of place.entry)) result (state_of self.new) }
+        ensures taken { OnOk result (AreTaken (I.lent include.now) self.new.definitions.entries self.new.last) }
     {
         if self.branches.is_taking() {
             return self.take_here(alloc, include, line, piece, place);
@@ -317,14 +381,16 @@ impl Reader {
     }
 
     /// Reads one piece from a place on, and says where it goes on; none where the source ends.
-    #[tactic(auto, using(crate::proofs::Sources::sources))]
+    #[tactic(auto, using(crate::proofs::Sources::sources, crate::proofs::Takings::takings))]
     pub fn read<'a, I: Includes>(
         &mut self,
         alloc: Global,
         include: &I,
         place: Place<'a>,
     ) -> Result<Option<Place<'a>>, TokenFault>
-        ensures { IsRead (I.lent include.now) (state_of self.old) (spot_of place.entry) result (state_of self.new) }
+        requires { AreTaken (I.lent include.now) self.old.definitions.entries self.old.last }
+        ensures read { IsRead (I.lent include.now) (state_of self.old) (spot_of place.entry) result (state_of self.new) }
+        ensures taken { OnOk result (AreTaken (I.lent include.now) self.new.definitions.entries self.new.last) }
     {
         let Some(
             Found {

@@ -15,7 +15,7 @@ use crate::flags::flag_asked;
 use crate::looking::{look, text_item};
 use cmd_common::read_key;
 use muck_lock::{LockFault, opens, print};
-use muck_match::{Found, find, player};
+use muck_match::Found;
 use muck_model::{Dbref, Kind, Lock};
 use muck_perm::{Guard, controls_as, flag_at, level_at, owner_at};
 use muf_frame::{Frame, PrimFault};
@@ -95,8 +95,11 @@ fn named(prim: Prim, guard: &Guard, text: &Text) -> Dbref
     ensures { result ≡ row.found_by prim guard.now.actor (objects_of guard.now) text.now }
 {
     match prim {
-        Prim::PMatch => player(guard.db(), text.as_line()).unwrap_or(NOTHING),
-        _ => meant(find(guard.db(), guard.actor().player, text.as_line())),
+        Prim::PMatch => guard
+            .db()
+            .player_named(text.as_line().as_slice())
+            .unwrap_or(NOTHING),
+        _ => meant(guard.db().find(guard.actor().player, text.as_line())),
     }
 }
 

@@ -5,3 +5,4 @@ pub mod Found
 pub mod Pieces
 pub mod Parts
 pub mod Counted
+mod Wide

@@ -39,10 +39,8 @@ pub fn sized(alloc: Global, bytes: Vec<u8>) -> Result<Made, PrimFault>
     if bytes.len() > TEXT_MOST {
         return Err(PrimFault::Fault(MufFault::TextTooLong));
     }
-    match Line::from_vec(bytes) {
-        Ok(line) => Ok(Made::One(Value::Str(Text::new(alloc, line)?))),
-        Err(_) => unreachable!(),
-    }
+    let line = Line::of_text_vec(bytes);
+    Ok(Made::One(Value::Str(Text::new(alloc, line)?)))
 }
 
 /// The text of these bytes, which are one.

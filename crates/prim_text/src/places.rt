@@ -1,5 +1,5 @@
 // Where a text stands in another.
-ghost use Rattle.std.specs.Prelude.{◌≡◌, ◌≤◌, ◌<◌, ◌+◌, ◌++◌, ◌∷◌, [], None, length, map, take, drop, IfOk, OnOk, IfSome};
+ghost use Rattle.std.specs.Prelude.{◌≡◌, ◌≤◌, ◌<◌, ◌+◌, ◌++◌, ◌∷◌, [], None, length, map, take, drop, IfOk, OnOk, IfSome, IsTrue};
 ghost use Rattle.muck_model.specs.Bytes.{text_fault};
 ghost use Rattle.muf_model.specs.Texts.{first_place, last_place, pieces, joined};
 ghost use Rattle.muf_model.specs.Datum.{text};
@@ -70,6 +70,23 @@ pub(crate) fn pieces(alloc: Global, sought: &[u8], bytes: &[u8]) -> Result<Vec<V
     }
     push_piece(alloc, &mut items, rest)?;
     Ok(items)
+}
+
+/// Whether more than so many pieces stand between the texts that are sought.
+pub(crate) fn has_more_pieces(sought: &[u8], bytes: &[u8], most: usize) -> bool
+    requires { 0 < length sought.now }
+    ensures { IsTrue result → most < length (pieces sought.now bytes.now) }
+{
+    let mut count = 0;
+    let mut rest = bytes;
+    while let Some(at) = first_place(sought, rest) {
+        if count >= most {
+            return true;
+        }
+        rest = cut_out(rest, at, sought.len()).1;
+        count += 1;
+    }
+    false
 }
 
 // The bytes with two texts behind them.

@@ -141,7 +141,8 @@ fn joined(alloc: Global, first: &[u8], second: &[u8]) -> Result<Vec<u8>, NoMemor
     ensures value { IfOk result (λ made. made.items ≡ first.now ++ second.now) }
     ensures inside { IfOk result (λ made. IsInside made.items) }
 {
-    let mut bytes = first.to_vec(alloc)?;
+    let mut bytes = Vec::with_capacity(alloc, first.len() + second.len())?;
+    bytes.extend_from_slice(first)?;
     bytes.extend_from_slice(second)?;
     Ok(bytes)
 }

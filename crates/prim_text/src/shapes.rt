@@ -1,5 +1,7 @@
 // The shapes of the primitives of texts: what each takes, and that its answer takes its place.
-ghost use Rattle.std.specs.Prelude.{◌≡◌, ◌∷◌, []};
+ghost use Rattle.std.specs.Prelude.{◌≡◌, ◌≤◌, ◌∷◌, [], drop, length, IsTrue};
+ghost use Rattle.muf_model.specs.Answer.{put, refuses};
+ghost use Rattle.muf_model.specs.declared.fault.MufFault.TheVariants.{StackFull};
 ghost use Rattle.muf_model.specs.Needs.{takes, a_text, an_int, int_or_object};
 ghost use Rattle.muf_model.specs.TextRows as row;
 ghost use Rattle.muf_model.specs.declared.prims.Primitive.TheVariants.{StrNCmp, StrCut, MidStr, Subst, IntToStr, IntToChar};
@@ -8,9 +10,10 @@ ghost use Rattle.muf_frame.specs.inner.Answers.{UsedOr};
 ghost use Rattle.prim_text.specs.inner.Made.{number_at_top, sought_in};
 
 use crate::made::give;
+use crate::places::has_more_pieces;
 use crate::rows;
 use muf_frame::{Frame, PrimFault};
-use muf_model::{MufFault, Prim};
+use muf_model::{MufFault, Prim, STACK_MOST};
 use std::alloc::Global;
 
 /// The primitives of one text.
@@ -43,6 +46,20 @@ pub(crate) fn two_texts(alloc: Global, prim: Prim, frame: &mut Frame) -> Result<
     }
 }
 
+// Whether EXPLODE would put more pieces on the stack than that has room for.
+fn overflows(prim: Prim, frame: &Frame, bytes: &[u8], sought: &[u8]) -> bool
+    requires { 2 ≤ length frame.now.stack }
+    ensures { IsTrue result → put 2 (sought_in prim bytes.now sought.now) (drop 2 (flat frame.now).stack) ≡ refuses StackFull }
+{
+    if sought.is_empty() {
+        return false;
+    }
+    match prim {
+        Prim::Explode => has_more_pieces(sought, bytes, STACK_MOST + 1 - frame.len()),
+        _ => false,
+    }
+}
+
 /// The primitives that seek a text, which is on the top, in another one.
 #[tactic(auto, using(crate::proofs::Reading::text_steps))]
 pub(crate) fn sought(alloc: Global, prim: Prim, frame: &mut Frame) -> Result<(), PrimFault>
@@ -51,6 +68,9 @@ pub(crate) fn sought(alloc: Global, prim: Prim, frame: &mut Frame) -> Result<(),
     frame.need(2)?;
     match (frame.text_at(0), frame.text_at(1)) {
         (Some(sought), Some(text)) => {
+            if overflows(prim, frame, text.as_slice(), sought.as_slice()) {
+                return Err(PrimFault::Fault(MufFault::StackFull));
+            }
             let made = rows::seeking(alloc, prim, text.as_slice(), sought.as_slice())?;
             give(frame, 2, made)
         }

@@ -1,5 +1,5 @@
 // Links over real sockets, to this machine itself.
-use muck_links::{Accepted, LinkRead, Links, MioLinks};
+use muck_links::{Accepted, Bell, LinkRead, Links, MioLinks};
 use muck_model::NoMemory;
 use std::alloc::Global;
 use std::io;
@@ -71,7 +71,8 @@ fn add_talk<L: Links, S: Read + Write + Drop>(
 
 /// A client says `hi`, is answered `ho`, and leaves.
 pub fn talk<R: Net + Copy>(rt: &R, alloc: Global, out: &mut String) -> Result<(), NoMemory> {
-    let mut links = MioLinks::new(alloc, *rt);
+    let bell = Bell::new();
+    let mut links = MioLinks::new(alloc, *rt, &bell);
     write!(out, "{:?}; ", links.listen(0))?;
     let Some(port) = links.port() else {
         return Ok(out.push_str("no port")?);
@@ -84,8 +85,9 @@ pub fn talk<R: Net + Copy>(rt: &R, alloc: Global, out: &mut String) -> Result<()
 
 /// A port that another one listens on.
 pub fn port_in_use<R: Net + Copy>(rt: &R, alloc: Global, out: &mut String) -> Result<(), NoMemory> {
-    let mut first = MioLinks::new(alloc, *rt);
-    let mut second = MioLinks::new(alloc, *rt);
+    let bell = Bell::new();
+    let mut first = MioLinks::new(alloc, *rt, &bell);
+    let mut second = MioLinks::new(alloc, *rt, &bell);
     write!(out, "{:?}; ", first.listen(0))?;
     let Some(port) = first.port() else {
         return Ok(out.push_str("no port")?);

@@ -30,7 +30,7 @@ fn enter_all<W: Wait, R: Rest>(
         };
         let mut held = held;
         enter(&mut held.state, party);
-        turn.give(seat, held);
+        turn.give(seat, held, rest);
     }
 }
 

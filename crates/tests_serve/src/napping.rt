@@ -18,11 +18,17 @@ impl<C: Clock + Drop> NapRest<C> {
 }
 
 impl<C: Clock + Drop> Rest for NapRest<C> {
-    fn rest(&self) {
+    fn rest(&self, _party: u8) {
         let _ = thread::sleep(&self.clock, Duration::from_millis(1));
     }
 
-    fn pause(&self) {
-        YieldRest.pause();
+    fn did(&self, _party: u8) {}
+
+    fn ended(&self, _party: u8) {}
+
+    fn pause(&self, turn: u64) {
+        YieldRest.pause(turn);
     }
+
+    fn passed(&self, _turn: u64) {}
 }

@@ -90,7 +90,7 @@ impl<T: Story> Turn<T> {
             if table.shared.load::<Look<T>>(seat, 1) == ticket {
                 return;
             }
-            rest.pause();
+            rest.pause(ticket);
         }
         unreachable!()
     }
@@ -109,13 +109,13 @@ impl<T: Story> Turn<T> {
             if table.shared.load::<Look<T>>(seat, 1) >= MOST {
                 return;
             }
-            rest.pause();
+            rest.pause(MOST);
         }
         unreachable!()
     }
 
-    /// Gives the turn back, with the state one entry of this party further. It takes no memory.
-    pub fn give(&self, seat: &mut TurnSeat<T>, held: Held<T>)
+    /// Gives the turn back, with the state one entry of this party further, and tells who waits. It takes no memory.
+    pub fn give<R: Rest>(&self, seat: &mut TurnSeat<T>, held: Held<T>, rest: &R)
         requires own { (seat.old.table_id ≡ self.now.table.shared.table_id) × (seat.old.me.1 ≡ (0, None) ∷ []) }
         requires turn { (n : ℕ) × (seat.old.me.0.place ≡ HasTurn n) }
         requires entry { (e : T.Entry) × (T.history held.state ≡ seat.old.me.0.seen ++ e ∷ []) × (T.party e ≡ seat.old.me.0.party) × T.allowed e }
@@ -129,7 +129,8 @@ impl<T: Story> Turn<T> {
         let Held { state } = held;
         let before = self.table.shared.exchange(seat, 0, Some(state));
         let None = before else { unreachable!() };
-        self.table.shared.fetch_add::<Pass<T>>(seat, 1, 1);
+        let turn = self.table.shared.fetch_add::<Pass<T>>(seat, 1, 1);
+        rest.passed(turn);
     }
 
     /// A lock round a state without a history yet, and the seat of party 0. After a refusal of memory the state is dropped.

@@ -1,5 +1,5 @@
 -- A table of objects with chain fields, and the entries that it stands for.
-use Rattle.std.specs.Prelude.{◌≡◌, ◌⊎◌, ℕ, ◌<◌, Bool, false, ◌==◌, if◌then◌else◌, List, [], ◌∷◌, ◌++◌, map, length, Option, Some, None, slice_get}
+use Rattle.std.specs.Prelude.{◌≡◌, ◌⊎◌, ℕ, ◌<◌, Bool, true, false, ◌==◌, if◌then◌else◌, List, [], ◌∷◌, ◌++◌, map, length, Option, Some, None, slice_get}
 use Rattle.std.specs.Option.{option_map, option_and_then, option_map_or}
 use Rattle.muck_model.specs.declared.dbref.Dbref.{Dbref}
 use Rattle.muck_model.specs.declared.dbref.Flags.{Flags}
@@ -12,7 +12,8 @@ use Rattle.spec_live.specs.declared.saving.Saving.{Saving}
 use Rattle.spec_live.specs.declared.saving.Saving.TheVariants.{Due}
 use Rattle.spec_live.specs.Chain.{walk, IsChain, Ends, Member, without, put_at}
 use Rattle.spec_live.specs.Flags.{no_flags}
-use Rattle.spec_live.specs.Objects.{Entry, changed_at, dbref_of, index_of, is_exit, is_garbage, garbage}
+use Rattle.spec_live.specs.Objects.{Entry, changed_at, dbref_of, index_of, is_exit, is_player, is_garbage, garbage}
+use Rattle.muck_match.specs.inner.Listed.{IsAmong}
 use Rattle.spec_live.specs.Consistent.{IsOrdered, IsConsistent}
 use Rattle.spec_live.specs.Setting.{lines_marked}
 use Rattle.spec_live.specs.Recycling.{without_ties, is_tied, is_exit_of}
@@ -172,11 +173,16 @@ pub record IsSound (slots : List Slot) : Type 0 where
   pub world : IsConsistent (entries_of slots)
   pub limits : IsWithinLimits (entries_of slots)
 
--- the rule of the type: no garbage stands below `lowest`, and no mark below `told`
-pub record IsKept (slots : List Slot) (lowest told : ℕ) : Type 0 where
+-- each player is among these numbers
+abbrev pub HasPlayers : List Slot → List ℕ → Type 0
+HasPlayers slots players = (k : ℕ) → is_player (kind_at slots k) ≡ true → IsAmong players k
+
+-- the rule of the type: no garbage stands below `lowest`, no mark below `told`, and each player is among `players`
+pub record IsKept (slots : List Slot) (lowest told : ℕ) (players : List ℕ) : Type 0 where
   pub sound : IsSound slots
   pub full : (k : ℕ) → k < lowest → is_garbage (kind_at slots k) ≡ false
   pub unmarked : (k : ℕ) → k < told → mark_at slots k ≡ None
+  pub listed : HasPlayers slots players
 
 -- Changes of chains.
 

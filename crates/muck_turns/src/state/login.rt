@@ -11,7 +11,6 @@ ghost use Rattle.spec_commands.specs.Talk.{at_login, connecting, logged_in, prov
 use crate::commands::actor_of;
 use crate::state::State;
 use cmd_common::show_others;
-use muck_match::player_named;
 use muck_model::{Dbref, NoMemory};
 use muck_perm::Guard;
 use spec_commands::{alike, cut_word, trim};
@@ -64,7 +63,7 @@ impl State {
     fn proved(&self, name: &[u8], word: &[u8]) -> Result<Option<Dbref>, NoMemory>
         ensures { IfOk result (λ player. player ≡ proved name.now word.now self.now.live.objects) }
     {
-        let Some(player) = player_named(&self.db, name) else {
+        let Some(player) = self.db.player_named(name) else {
             return Ok(None);
         };
         match self.db.is_password(self.alloc, player, word) {

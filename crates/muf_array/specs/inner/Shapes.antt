@@ -1,11 +1,11 @@
 -- What the primitives of lists and dictionaries take, and what may refuse it.
-use Rattle.std.specs.Prelude.{◌≡◌, ℕ, zero, suc, ◌+◌, List, [], ◌∷◌, ◌++◌, Bool, true, false, map, drop, Option, Some, None, slice_get, take, length, nat_lt, if◌then◌else◌, ℤ, pos, negsuc}
+use Rattle.std.specs.Prelude.{◌≡◌, ◌⊎◌, ℕ, zero, suc, ◌+◌, List, [], ◌∷◌, ◌++◌, Bool, true, false, map, drop, Option, Some, None, slice_get, take, length, nat_lt, if◌then◌else◌, ℤ, pos, negsuc}
 use Rattle.std.specs.List.{remove}
 use Rattle.std.specs.Option.{option_and_then, unwrap_or}
 use Rattle.muf_model.specs.declared.fault.MufFault.{MufFault}
 use Rattle.muf_model.specs.declared.fault.MufFault.TheVariants.{BadType, BadArgument, TooHeavy}
 use Rattle.muf_model.specs.declared.prims.Primitive.{Primitive}
-use Rattle.muf_model.specs.declared.prims.Primitive.TheVariants.{ArrayCount, ArrayFirst, ArrayKeys, ArrayVals}
+use Rattle.muf_model.specs.declared.prims.Primitive.TheVariants.{ArrayCount, ArrayFirst, ArrayKeys, ArrayVals, ArrayExplode}
 use Rattle.muf_model.specs.declared.value.MapKey.{MapKey}
 use Rattle.muf_model.specs.declared.value.MapKey.TheVariants.{Number, Name}
 use Rattle.muf_model.specs.Datum.{Datum, items, dict, data_of}
@@ -46,6 +46,10 @@ row_of_held ArrayFirst = first
 row_of_held ArrayKeys = keys
 row_of_held ArrayVals = values
 row_of_held _ = exploded
+
+-- it puts all entries on the stack
+abbrev pub Spreads : Primitive → Type 0
+Spreads p = (p ≡ ArrayKeys) ⊎ (p ≡ ArrayVals) ⊎ (p ≡ ArrayExplode)
 
 -- a part of an entry
 abbrev pub part_of : Part → MapKey × Datum → Datum

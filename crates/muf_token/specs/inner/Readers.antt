@@ -1,5 +1,8 @@
 -- What the program knows at a place of a source.
-use Rattle.std.specs.Prelude.{◌≡◌, ◌<◌, length, List, Option, Some, None, Result, Ok, Err}
+use Rattle.std.specs.Prelude.{◌≡◌, ◌<◌, ℕ, length, List, Option, Some, None, Result, Ok, Err}
+use Rattle.std.specs.List.{IsDistinct}
+use Rattle.std.specs.Str.{bytes_eq}
+use Rattle.std.specs.Map.{lookup, keys_of}
 use Rattle.muf_token.specs.declared.fault.TokenFault.{TokenFault}
 use Rattle.muf_token.specs.declared.fault.TokenFault.TheVariants.{Refused, NoMemory}
 use Rattle.muf_token.specs.declared.place.Place.{Place}
@@ -9,7 +12,8 @@ use Rattle.muck_model.specs.declared.dbref.Dbref.{Dbref}
 use Rattle.muf_token.specs.declared.includes.Definition.{Definition}
 use Rattle.muf_token.specs.Branches.{outermost}
 use Rattle.muf_token.specs.Directives.{Spot}
-use Rattle.muf_token.specs.Source.{State, Step, words_from, words_unless}
+use Rattle.muf_token.specs.Expansion.{Definitions}
+use Rattle.muf_token.specs.Source.{State, Step, with_all, words_from, words_unless}
 
 -- the definitions, the conditionals and the words of a reader
 abbrev pub state_of : Reader → State
@@ -28,3 +32,26 @@ IsRead lent s spot (Ok (Some next)) now = (words_from lent s spot ≡ words_from
 IsRead lent s spot (Ok None) now = (now ≡ s) × (words_from lent s spot ≡ words_unless s.out.words (outermost s.branches))
 IsRead lent s spot (Err (Refused refusal)) now = words_from lent s spot ≡ Err refusal
 IsRead lent s spot (Err NoMemory) now = Unit {0}
+
+-- from any place on both give the same words
+abbrev pub SayTheSame : State → State → Type 0
+SayTheSame s t = (lent : Dbref → Option (List Definition)) (spot : Spot) → words_from lent s spot ≡ words_from lent t spot
+
+-- the answer of a call that goes on at a place; what is known then may be told in other ways, which give the same words
+abbrev pub LeadsOn : Step → Result Place TokenFault → State → Type 0
+LeadsOn step (Ok place) now = (after : State) × (step ≡ Ok (after, spot_of place)) × SayTheSame after now
+LeadsOn step (Err (Refused refusal)) now = step ≡ Err refusal
+LeadsOn step (Err NoMemory) now = Unit {0}
+
+-- no definition was made or taken away
+abbrev pub AreKept : Reader → Reader → Type 0
+AreKept old new = (new.definitions.entries ≡ old.definitions.entries) × (new.last ≡ old.last)
+
+-- where this object lends definitions, they are among these, and each is as it lends it
+abbrev pub AreLentBy : (Dbref → Option (List Definition)) → Definitions → Option Dbref → Type 0
+AreLentBy lent definitions None = Unit {0}
+AreLentBy lent definitions (Some d) = (list : List Definition) × (lent d ≡ Some list) × ((q : List ℕ) → lookup (bytes_eq q) (with_all list definitions) ≡ lookup (bytes_eq q) definitions)
+
+-- no name stands twice, and the definitions of the object that was taken last are all there
+abbrev pub AreTaken : (Dbref → Option (List Definition)) → Definitions → Option Dbref → Type 0
+AreTaken lent definitions last = IsDistinct bytes_eq (keys_of definitions) × AreLentBy lent definitions last

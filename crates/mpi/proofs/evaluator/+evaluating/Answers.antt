@@ -17,6 +17,8 @@ use Rattle.mpi.proofs.Calls.{too_deep, none_left, entered_is, variable_comes, pr
 use Rattle.mpi.specs.Gathering.{as_text, kept_of, list_or_long}
 use Rattle.mpi.specs.Values.{nth, is_true, items}
 use Rattle.mpi.proofs.Mapped.{next_mapped, none_mapped, mapped_text}
+use Rattle.mpi.specs.inner.Alike.{answer_alike, transposed}
+use Rattle.mpi.proofs.AlikeItems.{alike_answers, alike_fails, plain_means}
 use Rattle.mpi.proofs.Turns.{value_end, value_more, value_fails, until_end, until_more, until_known, until_fails, while_stops, while_turns, while_test_fails, while_count_fails, while_body_fails, while_ends, scope_fails, scope_comes, with_is, for_stops, for_turns, for_count_fails, for_body_fails, for_ends, item_end, item_more, item_long, item_fails}
 use Rattle.std.specs.FinMap.{get}
 use Rattle.std.specs.Fmt.{signed_decimal}
@@ -134,38 +136,51 @@ lazily-returns-in-While-clause-thinks g t c = while_comes (meaning (scene_of g.H
 pub lazily-returns-in-With-clause-thinks : goal.lazily-returns-in-With-clause-thinks
 lazily-returns-in-With-clause-thinks g t c = with_comes (meaning (scene_of g.H.Host.powers c.args.place.this) c.args.deeper) c.args.way c.in-With.scope (option_copied c.args.behind) (map (λ x. x.now) c.args.texts.now) (c.args.mind.now, g.H.Host.seen c.args.host.now) (c.in_scope.new.mind, g.H.Host.seen c.in_scope.new.host) c.in_scope.result c.in-With.is c.requires.texts c.in_scope.ensures.thinks
 
-pub values_of-text-requires : goal.values_of-text-requires
-values_of-text-requires g t c κs within = let is : text_fault (get_or c.args.texts.now c.loop-each.each-index (record { ref_ptr = (0, 0); now = [] })).now ≡ None = mapped_text (λ x. x.now) c.args.texts.now c.loop-each.each-index (record { ref_ptr = (0, 0); now = [] }) c.requires (omega arith) in search rules
+pub argument-returns-in-Some-clause-thinks : goal.argument-returns-in-Some-clause-thinks
+argument-returns-in-Some-clause-thinks g t c =
+    plain_means (scene_of g.H.Host.powers c.args.place.this) c.args.deeper c.args.text.now c.in-Some.value (c.args.mind.now, g.H.Host.seen c.args.host.now) c.requires c.in-Some.ensures.1 c.in-Some.ensures.0
+
+pub argument-returns-in_err-line-clause-thinks : goal.argument-returns-in_err-line-clause-thinks
+argument-returns-in_err-line-clause-thinks g t c =
+    let back : c.from_residual.result ≡ Err c.in_err-line.field-0.0 = search rules in
+    rw back c.in_err-line.ensures.thinks
+
+pub argument-returns-clause-thinks : goal.argument-returns-clause-thinks
+argument-returns-clause-thinks g t c =
+    c.in_ok-line.ensures.thinks ∙ ap (λ x. (Ok x, (c.text.new.mind, g.H.Host.seen c.text.new.host))) (sym c.made.ensures)
+
+pub values_of-argument-requires : goal.values_of-argument-requires
+values_of-argument-requires g t c κs within = let is : text_fault (get_or c.args.texts.now c.loop-each.each-index (record { ref_ptr = (0, 0); now = [] })).now ≡ None = mapped_text (λ x. x.now) c.args.texts.now c.loop-each.each-index (record { ref_ptr = (0, 0); now = [] }) c.requires (omega arith) in search rules
 
 pub values_of-returns-in_err-value-clause-thinks : goal.values_of-returns-in_err-value-clause-thinks
 values_of-returns-in_err-value-clause-thinks g t c =
     let back : c.from_residual.result ≡ Err c.in_err-value.field-0.0 = search rules in
-    rw back (comes_by (each_value (meaning (scene_of g.H.Host.powers c.args.place.this) c.args.deeper) [] (map (λ x. x.now) c.args.texts.now) (c.args.mind.now, g.H.Host.seen c.args.host.now)) (each_value (meaning (scene_of g.H.Host.powers c.args.place.this) c.args.deeper) c.loop-each.values.items (drop c.loop-each.each-index (map (λ x. x.now) c.args.texts.now)) (c.loop-each.mind, g.H.Host.seen c.loop-each.host)) (c.text.new.mind, g.H.Host.seen c.text.new.host) (Err c.in_err-value.field-0.0) c.loop-each.invariant.whole (value_fails (meaning (scene_of g.H.Host.powers c.args.place.this) c.args.deeper) c.loop-each.values.items (drop c.loop-each.each-index (map (λ x. x.now) c.args.texts.now)) (drop (c.loop-each.each-index + 1) (map (λ x. x.now) c.args.texts.now)) (get_or c.args.texts.now c.loop-each.each-index (record { ref_ptr = (0, 0); now = [] })).now (c.loop-each.mind, g.H.Host.seen c.loop-each.host) (c.text.new.mind, g.H.Host.seen c.text.new.host) c.in_err-value.field-0.0 (next_mapped (λ x. x.now) c.args.texts.now c.loop-each.each-index (record { ref_ptr = (0, 0); now = [] }) (omega arith)) c.in_err-value.ensures.thinks))
+    rw back (comes_by (each_value (meaning (scene_of g.H.Host.powers c.args.place.this) c.args.deeper) [] (map (λ x. x.now) c.args.texts.now) (c.args.mind.now, g.H.Host.seen c.args.host.now)) (each_value (meaning (scene_of g.H.Host.powers c.args.place.this) c.args.deeper) c.loop-each.values.items (drop c.loop-each.each-index (map (λ x. x.now) c.args.texts.now)) (c.loop-each.mind, g.H.Host.seen c.loop-each.host)) (c.argument.new.mind, g.H.Host.seen c.argument.new.host) (Err c.in_err-value.field-0.0) c.loop-each.invariant.whole (value_fails (meaning (scene_of g.H.Host.powers c.args.place.this) c.args.deeper) c.loop-each.values.items (drop c.loop-each.each-index (map (λ x. x.now) c.args.texts.now)) (drop (c.loop-each.each-index + 1) (map (λ x. x.now) c.args.texts.now)) (get_or c.args.texts.now c.loop-each.each-index (record { ref_ptr = (0, 0); now = [] })).now (c.loop-each.mind, g.H.Host.seen c.loop-each.host) (c.argument.new.mind, g.H.Host.seen c.argument.new.host) c.in_err-value.field-0.0 (next_mapped (λ x. x.now) c.args.texts.now c.loop-each.each-index (record { ref_ptr = (0, 0); now = [] }) (omega arith)) c.in_err-value.ensures.thinks))
 
 pub values_of-loop-each-preserved : goal.values_of-loop-each-preserved
 values_of-loop-each-preserved g t c = record {
-  whole = c.loop-each.invariant.whole ∙ value_more (meaning (scene_of g.H.Host.powers c.args.place.this) c.args.deeper) c.loop-each.values.items (drop c.loop-each.each-index (map (λ x. x.now) c.args.texts.now)) (drop (c.loop-each.each-index + 1) (map (λ x. x.now) c.args.texts.now)) (get_or c.args.texts.now c.loop-each.each-index (record { ref_ptr = (0, 0); now = [] })).now c.in_ok-value.value (c.loop-each.mind, g.H.Host.seen c.loop-each.host) (c.text.new.mind, g.H.Host.seen c.text.new.host) (next_mapped (λ x. x.now) c.args.texts.now c.loop-each.each-index (record { ref_ptr = (0, 0); now = [] }) (omega arith)) c.in_ok-value.ensures.thinks ∙ ap (λ xs. each_value (meaning (scene_of g.H.Host.powers c.args.place.this) c.args.deeper) xs (drop (c.loop-each.each-index + 1) (map (λ x. x.now) c.args.texts.now)) (c.text.new.mind, g.H.Host.seen c.text.new.host)) (sym c.in_ok-push.ensures.items);
-  same = g.met.H.Host.same_both c.args.host.now c.loop-each.host c.text.new.host c.loop-each.invariant.same c.text.ensures.same;
+  whole = c.loop-each.invariant.whole ∙ value_more (meaning (scene_of g.H.Host.powers c.args.place.this) c.args.deeper) c.loop-each.values.items (drop c.loop-each.each-index (map (λ x. x.now) c.args.texts.now)) (drop (c.loop-each.each-index + 1) (map (λ x. x.now) c.args.texts.now)) (get_or c.args.texts.now c.loop-each.each-index (record { ref_ptr = (0, 0); now = [] })).now c.in_ok-value.value (c.loop-each.mind, g.H.Host.seen c.loop-each.host) (c.argument.new.mind, g.H.Host.seen c.argument.new.host) (next_mapped (λ x. x.now) c.args.texts.now c.loop-each.each-index (record { ref_ptr = (0, 0); now = [] }) (omega arith)) c.in_ok-value.ensures.thinks ∙ ap (λ xs. each_value (meaning (scene_of g.H.Host.powers c.args.place.this) c.args.deeper) xs (drop (c.loop-each.each-index + 1) (map (λ x. x.now) c.args.texts.now)) (c.argument.new.mind, g.H.Host.seen c.argument.new.host)) (sym c.in_ok-push.ensures.items);
+  same = g.met.H.Host.same_both c.args.host.now c.loop-each.host c.argument.new.host c.loop-each.invariant.same c.argument.ensures.same;
 }
 
 pub values_of-returns-clause-thinks : goal.values_of-returns-clause-thinks
 values_of-returns-clause-thinks g t c = c.loop-each.invariant.whole ∙ value_end (meaning (scene_of g.H.Host.powers c.args.place.this) c.args.deeper) c.loop-each.values.items (drop c.loop-each.each-index (map (λ x. x.now) c.args.texts.now)) (c.loop-each.mind, g.H.Host.seen c.loop-each.host) (none_mapped (λ x. x.now) c.args.texts.now c.loop-each.each-index (omega arith))
 
-pub until-text-requires : goal.until-text-requires
-until-text-requires g t c κs within = let is : text_fault (get_or c.args.texts.now c.loop-each.each-index (record { ref_ptr = (0, 0); now = [] })).now ≡ None = mapped_text (λ x. x.now) c.args.texts.now c.loop-each.each-index (record { ref_ptr = (0, 0); now = [] }) c.requires (omega arith) in search rules
+pub until-argument-requires : goal.until-argument-requires
+until-argument-requires g t c κs within = let is : text_fault (get_or c.args.texts.now c.loop-each.each-index (record { ref_ptr = (0, 0); now = [] })).now ≡ None = mapped_text (λ x. x.now) c.args.texts.now c.loop-each.each-index (record { ref_ptr = (0, 0); now = [] }) c.requires (omega arith) in search rules
 
 pub until-returns-in_err-value-clause-thinks : goal.until-returns-in_err-value-clause-thinks
 until-returns-in_err-value-clause-thinks g t c =
     let back : c.from_residual.result ≡ Err c.in_err-value.field-0.0 = search rules in
-    rw back (comes_by (until c.args.wanted (meaning (scene_of g.H.Host.powers c.args.place.this) c.args.deeper) (map (λ x. x.now) c.args.texts.now) (c.args.mind.now, g.H.Host.seen c.args.host.now)) (until c.args.wanted (meaning (scene_of g.H.Host.powers c.args.place.this) c.args.deeper) (drop c.loop-each.each-index (map (λ x. x.now) c.args.texts.now)) (c.loop-each.mind, g.H.Host.seen c.loop-each.host)) (c.text.new.mind, g.H.Host.seen c.text.new.host) (Err c.in_err-value.field-0.0) c.loop-each.invariant.whole (until_fails (meaning (scene_of g.H.Host.powers c.args.place.this) c.args.deeper) c.args.wanted (drop c.loop-each.each-index (map (λ x. x.now) c.args.texts.now)) (drop (c.loop-each.each-index + 1) (map (λ x. x.now) c.args.texts.now)) (get_or c.args.texts.now c.loop-each.each-index (record { ref_ptr = (0, 0); now = [] })).now (c.loop-each.mind, g.H.Host.seen c.loop-each.host) (c.text.new.mind, g.H.Host.seen c.text.new.host) c.in_err-value.field-0.0 (next_mapped (λ x. x.now) c.args.texts.now c.loop-each.each-index (record { ref_ptr = (0, 0); now = [] }) (omega arith)) c.in_err-value.ensures.thinks))
+    rw back (comes_by (until c.args.wanted (meaning (scene_of g.H.Host.powers c.args.place.this) c.args.deeper) (map (λ x. x.now) c.args.texts.now) (c.args.mind.now, g.H.Host.seen c.args.host.now)) (until c.args.wanted (meaning (scene_of g.H.Host.powers c.args.place.this) c.args.deeper) (drop c.loop-each.each-index (map (λ x. x.now) c.args.texts.now)) (c.loop-each.mind, g.H.Host.seen c.loop-each.host)) (c.argument.new.mind, g.H.Host.seen c.argument.new.host) (Err c.in_err-value.field-0.0) c.loop-each.invariant.whole (until_fails (meaning (scene_of g.H.Host.powers c.args.place.this) c.args.deeper) c.args.wanted (drop c.loop-each.each-index (map (λ x. x.now) c.args.texts.now)) (drop (c.loop-each.each-index + 1) (map (λ x. x.now) c.args.texts.now)) (get_or c.args.texts.now c.loop-each.each-index (record { ref_ptr = (0, 0); now = [] })).now (c.loop-each.mind, g.H.Host.seen c.loop-each.host) (c.argument.new.mind, g.H.Host.seen c.argument.new.host) c.in_err-value.field-0.0 (next_mapped (λ x. x.now) c.args.texts.now c.loop-each.each-index (record { ref_ptr = (0, 0); now = [] }) (omega arith)) c.in_err-value.ensures.thinks))
 
 pub until-returns-then-is_alike-clause-thinks : goal.until-returns-then-is_alike-clause-thinks
-until-returns-then-is_alike-clause-thinks g t c = c.loop-each.invariant.whole ∙ until_known (meaning (scene_of g.H.Host.powers c.args.place.this) c.args.deeper) c.args.wanted (drop c.loop-each.each-index (map (λ x. x.now) c.args.texts.now)) (drop (c.loop-each.each-index + 1) (map (λ x. x.now) c.args.texts.now)) (get_or c.args.texts.now c.loop-each.each-index (record { ref_ptr = (0, 0); now = [] })).now c.in_ok-value.value (c.loop-each.mind, g.H.Host.seen c.loop-each.host) (c.text.new.mind, g.H.Host.seen c.text.new.host) (next_mapped (λ x. x.now) c.args.texts.now c.loop-each.each-index (record { ref_ptr = (0, 0); now = [] }) (omega arith)) c.in_ok-value.ensures.thinks (sym c.is_alike.ensures ∙ c.if-is_alike.true) ∙ ap (λ t. (Ok t, (c.text.new.mind, g.H.Host.seen c.text.new.host))) (sym c.in_ok-truth.ensures)
+until-returns-then-is_alike-clause-thinks g t c = c.loop-each.invariant.whole ∙ until_known (meaning (scene_of g.H.Host.powers c.args.place.this) c.args.deeper) c.args.wanted (drop c.loop-each.each-index (map (λ x. x.now) c.args.texts.now)) (drop (c.loop-each.each-index + 1) (map (λ x. x.now) c.args.texts.now)) (get_or c.args.texts.now c.loop-each.each-index (record { ref_ptr = (0, 0); now = [] })).now c.in_ok-value.value (c.loop-each.mind, g.H.Host.seen c.loop-each.host) (c.argument.new.mind, g.H.Host.seen c.argument.new.host) (next_mapped (λ x. x.now) c.args.texts.now c.loop-each.each-index (record { ref_ptr = (0, 0); now = [] }) (omega arith)) c.in_ok-value.ensures.thinks (sym c.is_alike.ensures ∙ c.if-is_alike.true) ∙ ap (λ t. (Ok t, (c.argument.new.mind, g.H.Host.seen c.argument.new.host))) (sym c.in_ok-truth.ensures)
 
 pub until-loop-each-preserved : goal.until-loop-each-preserved
 until-loop-each-preserved g t c = record {
-  whole = c.loop-each.invariant.whole ∙ until_more (meaning (scene_of g.H.Host.powers c.args.place.this) c.args.deeper) c.args.wanted (drop c.loop-each.each-index (map (λ x. x.now) c.args.texts.now)) (drop (c.loop-each.each-index + 1) (map (λ x. x.now) c.args.texts.now)) (get_or c.args.texts.now c.loop-each.each-index (record { ref_ptr = (0, 0); now = [] })).now c.in_ok-value.value (c.loop-each.mind, g.H.Host.seen c.loop-each.host) (c.text.new.mind, g.H.Host.seen c.text.new.host) (next_mapped (λ x. x.now) c.args.texts.now c.loop-each.each-index (record { ref_ptr = (0, 0); now = [] }) (omega arith)) c.in_ok-value.ensures.thinks (sym c.is_alike.ensures ∙ c.if-is_alike.false);
-  same = g.met.H.Host.same_both c.args.host.now c.loop-each.host c.text.new.host c.loop-each.invariant.same c.text.ensures.same;
+  whole = c.loop-each.invariant.whole ∙ until_more (meaning (scene_of g.H.Host.powers c.args.place.this) c.args.deeper) c.args.wanted (drop c.loop-each.each-index (map (λ x. x.now) c.args.texts.now)) (drop (c.loop-each.each-index + 1) (map (λ x. x.now) c.args.texts.now)) (get_or c.args.texts.now c.loop-each.each-index (record { ref_ptr = (0, 0); now = [] })).now c.in_ok-value.value (c.loop-each.mind, g.H.Host.seen c.loop-each.host) (c.argument.new.mind, g.H.Host.seen c.argument.new.host) (next_mapped (λ x. x.now) c.args.texts.now c.loop-each.each-index (record { ref_ptr = (0, 0); now = [] }) (omega arith)) c.in_ok-value.ensures.thinks (sym c.is_alike.ensures ∙ c.if-is_alike.false);
+  same = g.met.H.Host.same_both c.args.host.now c.loop-each.host c.argument.new.host c.loop-each.invariant.same c.argument.ensures.same;
 }
 
 pub until-returns-clause-thinks : goal.until-returns-clause-thinks
@@ -209,14 +224,31 @@ in_scope-returns-in_err-values-clause-thinks g t c =
     let back : c.from_residual.result ≡ Err c.in_err-values.field-0.0 = search rules in
     rw back (scope_fails (meaning (scene_of g.H.Host.powers c.args.place.this) c.args.deeper) c.args.scope (map (λ x. x.now) c.args.texts.now) (map (λ x. x.now) c.texts_before.result.now) (c.args.mind.now, g.H.Host.seen c.args.host.now) (c.values_of.new.mind, g.H.Host.seen c.values_of.new.host) c.in_err-values.field-0.0 (c.texts_before.ensures.value ∙ ap (λ n. take n (map (λ x. x.now) c.args.texts.now)) c.before_body-at.ensures) c.in_err-values.ensures.thinks)
 
+pub in_scope-returns-in_err-answer-clause-thinks : goal.in_scope-returns-in_err-answer-clause-thinks
+in_scope-returns-in_err-answer-clause-thinks g t c =
+    let fault = c.in_err-answer.field-0.0 in
+    let back : c.from_residual-in_err-answer.result ≡ Err fault = search rules in
+    rw back (alike_fails (scene_of g.H.Host.powers c.args.place.this) c.args.deeper c.args.scope (map (λ x. x.now) c.args.texts.now) (map (λ x. x.now) c.texts_before.result.now) c.in_ok-values.values.items c.text_at-body.result.now fault (c.args.mind.now, g.H.Host.seen c.args.host.now) (c.values_of.new.mind, g.H.Host.seen c.values_of.new.host)
+    (c.texts_before.ensures.value ∙ ap (λ n. take n (map (λ x. x.now) c.args.texts.now)) c.before_body-at.ensures) c.in_ok-values.ensures.thinks
+    (c.text_at-body.ensures.value ∙ ap (λ n. nth n (map (λ x. x.now) c.args.texts.now)) c.before_body-at.ensures) c.text_at-body.ensures.text
+    (subst (λ xs. Means (transposed (answer_alike c.args.scope xs c.text_at-body.result.now)) (Err fault)) c.deref.ensures.value c.in_err-answer.ensures))
+
+pub in_scope-returns-in-Some-clause-thinks : goal.in_scope-returns-in-Some-clause-thinks
+in_scope-returns-in-Some-clause-thinks g t c =
+    let known : transposed (answer_alike c.args.scope c.deref.result.now c.text_at-body.result.now) ≡ Ok (Some c.in-Some.answer) = search rules in
+    alike_answers (scene_of g.H.Host.powers c.args.place.this) c.args.deeper c.args.scope (map (λ x. x.now) c.args.texts.now) (map (λ x. x.now) c.texts_before.result.now) c.in_ok-values.values.items c.text_at-body.result.now c.in-Some.answer (c.args.mind.now, g.H.Host.seen c.args.host.now) (c.values_of.new.mind, g.H.Host.seen c.values_of.new.host)
+    (c.texts_before.ensures.value ∙ ap (λ n. take n (map (λ x. x.now) c.args.texts.now)) c.before_body-at.ensures) c.in_ok-values.ensures.thinks
+    (c.text_at-body.ensures.value ∙ ap (λ n. nth n (map (λ x. x.now) c.args.texts.now)) c.before_body-at.ensures) c.text_at-body.ensures.text
+    (subst (λ xs. transposed (answer_alike c.args.scope xs c.text_at-body.result.now) ≡ Ok (Some c.in-Some.answer)) c.deref.ensures.value known)
+
 pub in_scope-returns-clause-thinks : goal.in_scope-returns-clause-thinks
 in_scope-returns-clause-thinks g t c =
     let values = c.in_ok-values.values.items in
-    let name_is : c.in_ok-name.name ≡ nth 0 values = c.in_ok-name.ensures ∙ ap (λ xs. nth 0 xs) c.deref.ensures.value in
-    let body_is : c.text_at.result.now ≡ nth (before_body c.args.scope) (map (λ x. x.now) c.args.texts.now) = c.text_at.ensures.value ∙ ap (λ n. nth n (map (λ x. x.now) c.args.texts.now)) c.before_body-at.ensures in
+    let name_is : c.in_ok-name.name ≡ nth 0 values = c.in_ok-name.ensures ∙ ap (λ xs. nth 0 xs) c.deref-2.ensures.value in
+    let body_is : c.text_at-body.result.now ≡ nth (before_body c.args.scope) (map (λ x. x.now) c.args.texts.now) = c.text_at-body.ensures.value ∙ ap (λ n. nth n (map (λ x. x.now) c.args.texts.now)) c.before_body-at.ensures in
     let done : Thinks (bodies c.args.scope (meaning (scene_of g.H.Host.powers c.args.place.this) c.args.deeper) values (nth (before_body c.args.scope) (map (λ x. x.now) c.args.texts.now))) (c.values_of.new.mind, g.H.Host.seen c.values_of.new.host) (c.bodies-answer.new.mind, g.H.Host.seen c.bodies-answer.new.host) c.bodies-answer.result =
     subst (λ b. Thinks (bodies c.args.scope (meaning (scene_of g.H.Host.powers c.args.place.this) c.args.deeper) values b) (c.values_of.new.mind, g.H.Host.seen c.values_of.new.host) (c.bodies-answer.new.mind, g.H.Host.seen c.bodies-answer.new.host) c.bodies-answer.result) body_is
-    (subst (λ xs. Thinks (bodies c.args.scope (meaning (scene_of g.H.Host.powers c.args.place.this) c.args.deeper) xs c.text_at.result.now) (c.values_of.new.mind, g.H.Host.seen c.values_of.new.host) (c.bodies-answer.new.mind, g.H.Host.seen c.bodies-answer.new.host) c.bodies-answer.result) c.deref-2.ensures.value c.bodies-answer.ensures.thinks) in
+    (subst (λ xs. Thinks (bodies c.args.scope (meaning (scene_of g.H.Host.powers c.args.place.this) c.args.deeper) xs c.text_at-body.result.now) (c.values_of.new.mind, g.H.Host.seen c.values_of.new.host) (c.bodies-answer.new.mind, g.H.Host.seen c.bodies-answer.new.host) c.bodies-answer.result) c.deref-3.ensures.value c.bodies-answer.ensures.thinks) in
     let back : c.give_back.new.self ≡ given_back_in (nth 0 values) (get c.values_of.new.mind.variables (nth 0 values)) c.bodies-answer.new.mind =
     c.in_ok-give_back.ensures ∙ (λ i. given_back_in (name_is i) ((c.in_ok-old.ensures ∙ ap (λ n. get c.values_of.new.mind.variables n) name_is) i) c.bodies-answer.new.mind) in
     scope_comes (meaning (scene_of g.H.Host.powers c.args.place.this) c.args.deeper) c.args.scope (map (λ x. x.now) c.args.texts.now) (map (λ x. x.now) c.texts_before.result.now) values (c.args.mind.now, g.H.Host.seen c.args.host.now) (c.values_of.new.mind, g.H.Host.seen c.values_of.new.host) (c.bodies-answer.new.mind, g.H.Host.seen c.bodies-answer.new.host) (c.give_back.new.self, g.H.Host.seen c.bodies-answer.new.host) c.bodies-answer.result (c.texts_before.ensures.value ∙ ap (λ n. take n (map (λ x. x.now) c.args.texts.now)) c.before_body-at.ensures) c.in_ok-values.ensures.thinks done (ap (λ m. (m, g.H.Host.seen c.bodies-answer.new.host)) back)

@@ -37,6 +37,9 @@ decreases-turns_for g l = 8 * l.deeper + 4
 abbrev pub decreases-each_item : goal.decreases-each_item
 decreases-each_item g l = 8 * l.deeper + 4
 
+abbrev pub decreases-argument : goal.decreases-argument
+decreases-argument g l = 8 * l.deeper + 3
+
 abbrev pub decreases-text_with : goal.decreases-text_with
 decreases-text_with g l = 8 * l.deeper + 3
 

@@ -1,7 +1,7 @@
 use Rattle.std.proofs.Common.{rules, arith, sym, subst, ap, ◌∙◌, ◌≡◌, ◌+◌, ◌<◌, ◌≤◌, [], ◌++◌, Ok, Err, None, length}
 use Rattle.std.proofs.lemmas.Bool.Decides.{nat_tests}
 use Rattle.muck_model.specs.Bytes.{text_fault}
-use Rattle.mpi.specs.Values.{replaced, substituted}
+use Rattle.mpi.specs.Values.{place_in, replaced, substituted}
 use Rattle.mpi.proofs.Growing.{grown_inside, grown_short, grown_text}
 use Rattle.mpi.proofs.Inside.{text_inside, text_short, part_is_text, rest_is_text}
 use Rattle.mpi.proofs.Replacing.{none_part, some_part, place_fits, whole_front, whole_new, whole_rest, whole_end, whole_long, whole_made}
@@ -15,7 +15,7 @@ returns-then-is_empty c =
 pub around-requires : goal.around-requires
 around-requires c =
     let some : 0 < length c.args.old.now = grind (arith, nat_tests) in
-    place_fits c.loop-at.rest.now c.args.old.now c.in-Some.at some (sym c.place_in.ensures.value ∙ c.in-Some.is)
+    place_fits c.loop-at.rest.now c.args.old.now c.in-Some.at some (ap (λ part. place_in c.loop-at.rest.now part) (sym c.new-sought.ensures) ∙ sym c.place_in.ensures.value ∙ c.in-Some.is)
 
 pub returns-in_err-grow : goal.returns-in_err-grow
 returns-in_err-grow c =
@@ -25,7 +25,7 @@ returns-in_err-grow c =
     let front = c.around.result.0.now in
     let behind = c.around.result.1.now in
     let some : 0 < length old = grind (arith, nat_tests) in
-    let whole = whole_front (substituted text old new) c.loop-at.out.items old new c.loop-at.rest.now front behind c.in-Some.at (some_part text old new some ∙ c.loop-at.invariant.0) some (sym c.place_in.ensures.value ∙ c.in-Some.is) c.around.ensures.front c.around.ensures.behind in
+    let whole = whole_front (substituted text old new) c.loop-at.out.items old new c.loop-at.rest.now front behind c.in-Some.at (some_part text old new some ∙ c.loop-at.invariant.0) some (ap (λ part. place_in c.loop-at.rest.now part) (sym c.new-sought.ensures) ∙ sym c.place_in.ensures.value ∙ c.in-Some.is) c.around.ensures.front c.around.ensures.behind in
     let back : c.from_residual-in_err-grow.result ≡ Err c.in_err-grow.field-0.0 = search rules in
     rw back (whole_long (substituted c.args.text.now c.args.old.now c.args.new.now) c.loop-at.out.items front (new ++ replaced old new 0 behind) c.grow.new.out.items c.in_err-grow.field-0.0 whole c.in_err-grow.ensures)
 
@@ -40,7 +40,7 @@ returns-in_err-grow-2 c =
     let front = c.around.result.0.now in
     let behind = c.around.result.1.now in
     let some : 0 < length old = grind (arith, nat_tests) in
-    let whole = whole_front (substituted text old new) c.loop-at.out.items old new c.loop-at.rest.now front behind c.in-Some.at (some_part text old new some ∙ c.loop-at.invariant.0) some (sym c.place_in.ensures.value ∙ c.in-Some.is) c.around.ensures.front c.around.ensures.behind in
+    let whole = whole_front (substituted text old new) c.loop-at.out.items old new c.loop-at.rest.now front behind c.in-Some.at (some_part text old new some ∙ c.loop-at.invariant.0) some (ap (λ part. place_in c.loop-at.rest.now part) (sym c.new-sought.ensures) ∙ sym c.place_in.ensures.value ∙ c.in-Some.is) c.around.ensures.front c.around.ensures.behind in
     let back : c.from_residual-in_err-grow-2.result ≡ Err c.in_err-grow-2.field-0.0 = search rules in
     rw back (whole_long (substituted c.args.text.now c.args.old.now c.args.new.now) c.grow.new.out.items new (replaced old new 0 behind) c.grow-in-Some.new.out.items c.in_err-grow-2.field-0.0 (whole_new (substituted text old new) c.loop-at.out.items front c.grow.new.out.items new (replaced old new 0 behind) whole c.in_ok-grow.ensures.0) c.in_err-grow-2.ensures)
 
@@ -54,7 +54,7 @@ loop-at-preserved c =
     let front = c.around.result.0.now in
     let behind = c.around.result.1.now in
     let some : 0 < length old = grind (arith, nat_tests) in
-    let whole = whole_front (replaced old new 0 text) c.loop-at.out.items old new rest front behind at c.loop-at.invariant.0 some (sym c.place_in.ensures.value ∙ c.in-Some.is) c.around.ensures.front c.around.ensures.behind in
+    let whole = whole_front (replaced old new 0 text) c.loop-at.out.items old new rest front behind at c.loop-at.invariant.0 some (ap (λ part. place_in c.loop-at.rest.now part) (sym c.new-sought.ensures) ∙ sym c.place_in.ensures.value ∙ c.in-Some.is) c.around.ensures.front c.around.ensures.behind in
     let front_text : text_fault front ≡ None = subst (λ xs. text_fault xs ≡ None) (sym c.around.ensures.front) (part_is_text at rest c.loop-at.invariant.1) in
     let made = grown_inside c.loop-at.out.items front c.grow.new.out.items c.in_ok-grow.ensures c.loop-at.invariant.3 (text_inside front front_text) in (
       whole_new (replaced old new 0 text) c.loop-at.out.items front c.grow.new.out.items new (replaced old new 0 behind) whole c.in_ok-grow.ensures.0 ∙ ap (λ xs. xs ++ replaced old new 0 behind) (sym c.in_ok-grow-2.ensures.0),
@@ -70,7 +70,7 @@ returns-in_err-grow-3 c =
     let new = c.args.new.now in
     let rest = c.loop-at.rest.now in
     let some : 0 < length old = grind (arith, nat_tests) in
-    let whole = whole_rest (substituted text old new) c.loop-at.out.items old new rest (some_part text old new some ∙ c.loop-at.invariant.0) (sym c.place_in.ensures.value ∙ c.in_default.is) in
+    let whole = whole_rest (substituted text old new) c.loop-at.out.items old new rest (some_part text old new some ∙ c.loop-at.invariant.0) (ap (λ part. place_in c.loop-at.rest.now part) (sym c.new-sought.ensures) ∙ sym c.place_in.ensures.value ∙ c.in_default.is) in
     let back : c.from_residual-in_err-grow-3.result ≡ Err c.in_err-grow-3.field-0.0 = search rules in
     rw back (whole_long (substituted c.args.text.now c.args.old.now c.args.new.now) c.loop-at.out.items rest [] c.grow-2.new.out.items c.in_err-grow-3.field-0.0 (whole_end (substituted text old new) (c.loop-at.out.items ++ rest) whole) c.in_err-grow-3.ensures)
 
@@ -83,5 +83,5 @@ returns c =
     let old = c.args.old.now in
     let new = c.args.new.now in
     let some : 0 < length old = grind (arith, nat_tests) in
-    let whole = whole_rest (substituted text old new) c.loop-at.out.items old new c.loop-at.rest.now (some_part text old new some ∙ c.loop-at.invariant.0) (sym c.place_in.ensures.value ∙ c.in_default.is) in
+    let whole = whole_rest (substituted text old new) c.loop-at.out.items old new c.loop-at.rest.now (some_part text old new some ∙ c.loop-at.invariant.0) (ap (λ part. place_in c.loop-at.rest.now part) (sym c.new-sought.ensures) ∙ sym c.place_in.ensures.value ∙ c.in_default.is) in
     whole_made (substituted text old new) c.grow-2.new.out.items (whole ∙ sym c.in_ok-grow-3.ensures.0) (grown_short c.loop-at.out.items c.loop-at.rest.now c.grow-2.new.out.items c.in_ok-grow-3.ensures) ∙ ap Ok (sym c.of_text_vec.ensures)

@@ -17,4 +17,4 @@ loop-preserved c =
     rw (c.in_ok-push.ensures.items) (goes_on_with (λ (p : Property). p.path) (property_at c.args.version) c.loop.props.items c.args.count c.loop.counter c.loop.rest.now c.in_ok-property.property c.in_ok-property.after.now (properties_at c.args.version c.args.count c.args.bytes.now) (option_copied c.last_path.result) (c.last_path.ensures ∙ ap (last_key (λ (p : Property). p.path)) c.deref.ensures.value) c.loop-test.true c.in_ok-property.ensures c.loop.invariant)
 
 pub returns : goal.returns
-returns c = is_done (λ (p : Property). p.path) (property_at c.args.version) c.loop.props.items c.args.count c.loop.counter c.loop.rest.now (properties_at c.args.version c.args.count c.args.bytes.now) c.loop-test.false c.loop.invariant
+returns c = rw (c.shrink_to_fit.ensures.items) (is_done (λ (p : Property). p.path) (property_at c.args.version) c.loop.props.items c.args.count c.loop.counter c.loop.rest.now (properties_at c.args.version c.args.count c.args.bytes.now) c.loop-test.false c.loop.invariant)

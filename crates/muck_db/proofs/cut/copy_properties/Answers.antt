@@ -13,8 +13,8 @@ pub loop-listed-init : goal.loop-listed-init
 loop-listed-init c = record {
   whole =
       let items : into_iter_items c.into_iter-listed-iterator.result ≡ map (behind 0) (entries c.args.props.now) = search rules in
-      ap (λ (list : List Property). list ++ map property_at (into_iter_items c.into_iter-listed-iterator.result)) c.in_ok-list.ensures
+      ap (λ (list : List Property). list ++ map property_at (into_iter_items c.into_iter-listed-iterator.result)) c.in_ok-list.ensures.items
       ∙ ap (λ (all : List Listed). map property_at all) items
       ∙ all_stored c.args.props.now;
-  held = All-same MayHold _ _ c.in_ok-list.ensures (All-nil MayHold);
+  held = All-same MayHold _ _ c.in_ok-list.ensures.items (All-nil MayHold);
 }

@@ -7,6 +7,6 @@ use Rattle.muck_db.proofs.cut.copy_properties.Given as goal
 
 abbrev pub invariant-loop-listed : goal.invariant-loop-listed
 invariant-loop-listed l = record {
-  whole : l.list ++ map property_at (into_iter_items l.listed-iterator) ≡ properties_of l.props;
-  held : All MayHold l.list;
+  whole : l.list.items ++ map property_at (into_iter_items l.listed-iterator) ≡ properties_of l.props;
+  held : All MayHold l.list.items;
 }

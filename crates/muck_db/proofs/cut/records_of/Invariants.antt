@@ -1,3 +1,4 @@
+use Rattle.std.proofs.Common.{◌-◌}
 use Rattle.std.specs.Prelude.{All}
 use Rattle.muck_codec.specs.inner.Stored.{IsStored}
 use Rattle.muck_db.specs.inner.Slots.{entries_of}
@@ -9,3 +10,6 @@ invariant-loop-k l = record {
   left : LeftOut l.base (entries_of l.slots.items) l.k l.records;
   stored : All IsStored l.records;
 }
+
+abbrev pub decreases-loop-k : goal.decreases-loop-k
+decreases-loop-k l = l.n - l.k

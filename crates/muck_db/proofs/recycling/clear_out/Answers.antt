@@ -6,18 +6,16 @@ use Rattle.spec_live.proofs.HomeLaws.{IsUntied}
 use Rattle.muck_db.specs.inner.Slots.{entries_of}
 use Rattle.muck_db.proofs.Readers.{length-entries_of}
 use Rattle.muck_db.proofs.Leaving.{Turn, turn, first_none, sent_none, Untied, untied_table}
+use Rattle.muck_db.proofs.Tying.{ties_moved}
 use Rattle.muck_db.proofs.recycling.clear_out.Goals as goal
 
 pub untie-requires-clause-few : goal.untie-requires-clause-few
 untie-requires-clause-few c = omega (arith, length-entries_of c.args.slots.now.items, c.requires.order.ordered.few)
 
-pub untie-requires-clause-number : goal.untie-requires-clause-number
-untie-requires-clause-number c = omega (arith, c.requires.known, length-entries_of c.args.slots.now.items, c.requires.order.ordered.few)
-
 pub loop-x-init : goal.loop-x-init
 loop-x-init c =
-    let u : Untied c.args.d c.args.slots.now.items c.untie.new.slots.items = untied_table c.args.d c.args.slots.now.items _ c.requires.order c.requires.lower c.untie.ensures in
-    record { order = u.order; known = omega (arith, c.requires.known, u.same_length); free = u.free; sent = u.sent }
+    let u : Untied c.args.d c.args.slots.now.items c.untie.new.slots.items = untied_table c.args.d c.args.slots.now.items _ c.requires.order c.requires.lower c.untie.ensures.items in
+    record { order = u.order; known = omega (arith, c.requires.known, u.same_length); free = u.free; sent = u.sent; tied = c.untie.ensures.tied }
 
 pub relocate-requires-clause-may : goal.relocate-requires-clause-may
 relocate-requires-clause-may c = (turn c.loop-x.slots.items c.args.d c.in-Some.x c.way_home-home.result c.loop-x.invariant.order c.loop-x.invariant.free c.requires.lower (sym c.first_of.ensures ∙ c.in-Some.is) c.way_home-home.ensures).may
@@ -37,6 +35,7 @@ loop-x-preserved c =
       known = omega (arith, c.loop-x.invariant.known, length-entries_of c.loop-x.slots.items, length-entries_of c.relocate.new.slots.items, ap (λ (z : List Entry). length z) c.relocate.ensures.moved, length_moved (entries_of c.loop-x.slots.items) c.in-Some.x c.way_home-home.result);
       free = let Q : List Entry → Type 0 = λ z. IsUntied c.args.d z in subst Q (sym c.relocate.ensures.moved) t.free;
       sent = subst P (sym c.relocate.ensures.moved) t.sent ∙ c.loop-x.invariant.sent;
+      tied = ties_moved c.in-Some.x c.way_home-home.result _ _ _ c.relocate.ensures.moved c.loop-x.invariant.tied;
     }
 
 pub returns-clause-sent : goal.returns-clause-sent

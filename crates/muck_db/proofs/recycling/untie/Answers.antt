@@ -1,16 +1,9 @@
 use Rattle.std.proofs.Common.{arith}
-use Rattle.muck_db.specs.inner.Slots.{untied_slot}
-use Rattle.muck_db.proofs.Writes.{passed_none, passed_more, passed_all}
+use Rattle.muck_db.proofs.Tying.{untie_may, ties_emptied}
 use Rattle.muck_db.proofs.recycling.untie.Goals as goal
 
-pub loop-k-init : goal.loop-k-init
-loop-k-init c = passed_none (untied_slot c.args.d) c.args.slots.now.items
+pub untie_noted-requires-clause-noted : goal.untie_noted-requires-clause-noted
+untie_noted-requires-clause-noted c = untie_may c.args.slots.now.items _ c.args.d c.index_mut.result.now c.requires.tied c.requires.lower c.requires.known c.index_mut.ensures.value
 
-pub untie_at-requires-clause-known : goal.untie_at-requires-clause-known
-untie_at-requires-clause-known c = omega (arith, c.len-n.ensures, c.loop-k.invariant.same_length)
-
-pub loop-k-preserved : goal.loop-k-preserved
-loop-k-preserved c = passed_more (untied_slot c.args.d) _ _ _ _ c.untie_at.ensures.items c.loop-k.invariant
-
-pub returns : goal.returns
-returns c = passed_all (untied_slot c.args.d) _ _ _ (omega (arith, c.len-n.ensures)) c.loop-k.invariant
+pub returns-clause-tied : goal.returns-clause-tied
+returns-clause-tied c = ties_emptied c.args.d c.args.slots.now.items _ _ c.untie_noted.new.tied c.untie_noted.ensures c.requires.tied

@@ -19,4 +19,4 @@ pub loop-path-preserved : goal.loop-path-preserved
 loop-path-preserved c =
     let at = subst (λ left. IsListed c.args.dir.now c.args.values.now.entries left c.loop-path.list) c.in-Some.ensures.steps c.loop-path.invariant in
     let next = listing_goes c.args.dir.now c.args.values.now.entries (c.in-Some.path.now, c.in-Some.value.now) c.next.new.self c.loop-path.list (sym c.is_below.ensures ∙ c.if-not-is_below.false) at in
-    rw (c.in_ok-push.ensures.ok, c.in_ok-behind.ensures, c.len-depth.ensures) next
+    rw (c.in_ok-push.ensures.ok, c.in_ok-behind.ensures, c.value.ensures, c.len-depth.ensures) next

@@ -5,6 +5,7 @@ use Rattle.spec_live.specs.Connections.{told_where}
 use Rattle.muck_board.specs.inner.Silent.{quiet, silent}
 use Rattle.muck_model.proofs.Mapped.{mapped_more}
 use Rattle.muck_board.proofs.Quiet.{quiet_where}
+use Rattle.muck_board.proofs.Sending.{told_is}
 use Rattle.muck_board.proofs.board.Board.tell_where.Goals as goal
 use Rattle.muck_board.proofs.board.Board.tell_where.Goals.{then-hears+in_ok-tell, else-hears}
 
@@ -21,7 +22,7 @@ loop-c-preserved g c =
     let tested = c.requires.1.1 _ _ c.hears.ensures in
     elim c.if-hears.branch [
       | then-hears+in_ok-tell w ↦ rw w.c-items-is (record {
-        told = mapped_more (told_where g.test c.args.text.now) c.deref_mut-c-items.result.now c.loop-c.c-items c.loop-c.c-index c.c-item.result w.tell.new.self (omega arith) c.loop-c.invariant.told (w.in_ok-tell.ensures.ok ∙ sym (cond-true _ _ _ (sym tested ∙ w.if-hears.true)));
+        told = mapped_more (told_where g.test c.args.text.now) c.deref_mut-c-items.result.now c.loop-c.c-items c.loop-c.c-index c.c-item.result w.tell.new.self (omega arith) c.loop-c.invariant.told (told_is _ _ _ _ c.in_ok-sent.ensures w.in_ok-tell.ensures.ok ∙ sym (cond-true _ _ _ (sym tested ∙ w.if-hears.true)));
         rest = quiet_where quiet c.deref_mut-c-items.result.now c.loop-c.c-items c.loop-c.c-index c.c-item.result w.tell.new.self (omega arith) w.in_ok-tell.ensures.rest c.loop-c.invariant.rest;
       })
       | else-hears w ↦ rw w.c-items-is (record {

@@ -6,12 +6,12 @@ use Rattle.muck_db.proofs.Bridge.{sound_order, listed_short}
 use Rattle.muck_db.proofs.db.Db.exits.Goals as goal
 
 pub list_of-requires : goal.list_of-requires
-list_of-requires c = sound_order _ c.self.invariant.sound
+list_of-requires c = sound_order _ c.self.invariant.kept.sound
 
 pub returns-clause-short : goal.returns-clause-short
 returns-clause-short c = omega (
   arith,
   ap (λ (l : List Dbref). length l) c.list_of.ensures,
-  listed_short (entries_of c.self.inside.slots.items) true c.args.d c.self.invariant.sound.world.ordered,
+  listed_short (entries_of c.self.inside.slots.items) true c.args.d c.self.invariant.kept.sound.world.ordered,
   ap (λ (z : List Entry). length z) c.self.view_is,
 )

@@ -5,13 +5,14 @@ use Rattle.spec_live.specs.Marks.{next_change, change_told}
 use Rattle.muck_db.specs.inner.Slots.{entries_of}
 use Rattle.muck_db.proofs.Readers.{length-entries_of}
 use Rattle.muck_db.proofs.Tellings.{next_none, next_some, told_none, entries_told, kept_told}
+use Rattle.muck_db.proofs.Tying.{ties_told}
 use Rattle.muck_db.proofs.db.Db.next_changed.Goals as goal
 
 pub marked-requires-clause-few : goal.marked-requires-clause-few
-marked-requires-clause-few c = omega (arith, length-entries_of c.self.inside.slots.items, c.self.invariant.sound.world.ordered.few)
+marked-requires-clause-few c = omega (arith, length-entries_of c.self.inside.slots.items, c.self.invariant.kept.sound.world.ordered.few)
 
 pub overflow_cast-self : goal.overflow_cast-self
-overflow_cast-self c = omega (arith, c.len.ensures, length-entries_of c.self.inside.slots.items, c.self.invariant.sound.world.ordered.few)
+overflow_cast-self c = omega (arith, c.len.ensures, length-entries_of c.self.inside.slots.items, c.self.invariant.kept.sound.world.ordered.few)
 
 pub returns-in_default-clause-told : goal.returns-in_default-clause-told
 returns-in_default-clause-told c =
@@ -24,13 +25,16 @@ returns-in_default-clause-left c =
     subst P c.self.view_is (sym (told_none _ (sym c.marked.ensures.is ∙ c.in_default.is)))
 
 pub overflow_add-self : goal.overflow_add-self
-overflow_add-self c = omega (arith, c.in-Some.ensures.known, length-entries_of c.self.inside.slots.items, c.self.invariant.sound.world.ordered.few)
+overflow_add-self c = omega (arith, c.in-Some.ensures.known, length-entries_of c.self.inside.slots.items, c.self.invariant.kept.sound.world.ordered.few)
 
 pub told_of-requires : goal.told_of-requires
-told_of-requires c = omega (arith, c.in-Some.ensures.known, length-entries_of c.self.inside.slots.items, c.self.invariant.sound.world.ordered.few)
+told_of-requires c = omega (arith, c.in-Some.ensures.known, length-entries_of c.self.inside.slots.items, c.self.invariant.kept.sound.world.ordered.few)
 
 pub invariant_of-self-2 : goal.invariant_of-self-2
-invariant_of-self-2 c = kept_told _ _ c.in-Some.n _ _ c.in-Some.mark (sym c.marked.ensures.is ∙ c.in-Some.is) c.in-Some.ensures.below c.clear_mark.ensures c.self.invariant
+invariant_of-self-2 c = record {
+  kept = kept_told _ _ c.in-Some.n _ _ _ c.in-Some.mark (sym c.marked.ensures.is ∙ c.in-Some.is) c.in-Some.ensures.below c.clear_mark.ensures c.self.invariant.kept;
+  tied = ties_told c.in-Some.n None _ _ _ c.clear_mark.ensures c.self.invariant.tied;
+}
 
 pub returns-clause-told : goal.returns-clause-told
 returns-clause-told c =

@@ -7,7 +7,7 @@ use Rattle.muck_db.proofs.db.Db.set_link.Goals as goal
 pub set-requires : goal.set-requires
 set-requires c =
     may_set _ _ (with_link c.args.to) _ _ c.self.view_is c.check_link-checked.ensures.is c.check_link-checked.ensures.alive
-    (λ n e. consistent_linked c.args.d c.args.to _ n e c.self.invariant.sound.world) (λ n e. limits_linked c.args.to n _ c.self.invariant.sound.limits)
+    (λ n e. consistent_linked c.args.d c.args.to _ n e c.self.invariant.kept.sound.world) (λ n e. limits_linked c.args.to n _ c.self.invariant.kept.sound.limits)
 
 pub returns : goal.returns
 returns c = checked_so (link_check c.args.d c.args.to) _ (with_link c.args.to) _ _ _ _ c.self.view_is c.check_link-checked.ensures.is c.set.ensures

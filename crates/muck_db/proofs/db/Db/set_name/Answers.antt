@@ -7,7 +7,7 @@ use Rattle.muck_db.proofs.db.Db.set_name.Goals as goal
 pub set-requires : goal.set-requires
 set-requires c =
     may_set _ _ (with_name c.args.name) _ _ c.self.view_is c.check_any-checked.ensures.is c.check_any-checked.ensures.alive
-    (λ n e. consistent_named c.args.d c.args.name _ n e c.self.invariant.sound.world) (λ n e. limits_named c.args.name n _ c.requires.some c.requires.short c.self.invariant.sound.limits)
+    (λ n e. consistent_named c.args.d c.args.name _ n e c.self.invariant.kept.sound.world) (λ n e. limits_named c.args.name n _ c.requires.some c.requires.short c.self.invariant.kept.sound.limits)
 
 pub returns : goal.returns
 returns c = checked_so (λ z. checked any c.args.d z) _ (with_name c.args.name) _ _ _ _ c.self.view_is c.check_any-checked.ensures.is c.set.ensures

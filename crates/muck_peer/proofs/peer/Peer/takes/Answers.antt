@@ -1,20 +1,17 @@
-use Rattle.std.proofs.Common.{rules, ap, sym, ◌∙◌, refl, subst, ◌<◌, arith, take, length}
-use Rattle.std.proofs.lemmas.List.{with_items_is}
-use Rattle.muck_model.specs.declared.event.Event.TheVariants.{Take}
+use Rattle.std.proofs.Common.{ap, sym, ◌∙◌, subst, ◌<◌, length}
 use Rattle.spec_events.specs.World.{queue_of}
-use Rattle.spec_events.specs.Histories.{now, entered, by_porter}
+use Rattle.spec_events.specs.Histories.{now}
 use Rattle.spec_serve.specs.inner.Keeping.{Peer}
-use Rattle.muck_peer.proofs.Stepping.{step_taken, took_some, took_count}
+use Rattle.muck_peer.specs.Moves.{ChoseAs}
 use Rattle.muck_peer.proofs.peer.Peer.takes.Goals as goal
+
+pub takes_some-requires-clause-none : goal.takes_some-requires-clause-none
+takes_some-requires-clause-none c = ap (λ (p : Peer). p.unsent) c.widens.ensures ∙ c.requires.none
+
+pub takes_some-requires-clause-some : goal.takes_some-requires-clause-some
+takes_some-requires-clause-some c = subst (λ (p : Peer). 0 < length (queue_of p.number (now c.args.world.now))) (sym c.widens.ensures) c.requires.some
 
 pub returns : goal.returns
 returns c =
-    let some = subst (λ (p : Peer). 0 < length (queue_of p.number (now c.args.world.now))) (sym c.self.view_is) c.requires.some in
-    let same = with_items_is c.self.inside.buffer c.take-n.new.buf (search rules) in (
-      Take c.self.inside.number c.take-n.result,
-      c.take-n.ensures.step ∙ took_some c.take-n.result c.args.world.now (entered c.args.world.now (by_porter (Take c.self.inside.number c.take-n.result))) (took_count _ c.take-n.result _ _ c.requires.alive c.take-n.ensures.count some (let l = ap length c.as_mut_slice.ensures.value in let i = c.self.invariant.2 in omega arith)),
-      step_taken _ _ _ (now c.args.world.now) c.take-n.result c.self.view_is c.requires.none
-          (ap (λ l. record { number = c.self.inside.number; cut = c.self.inside.cutter; unsent = take c.take-n.result l; ended = c.self.inside.ended; faulted = c.self.inside.faulted; refused = c.self.inside.refused; stalled = c.self.inside.stalled }) same
-          ∙ ap (λ l. record { number = c.self.inside.number; cut = c.self.inside.cutter; unsent = l; ended = c.self.inside.ended; faulted = c.self.inside.faulted; refused = c.self.inside.refused; stalled = c.self.inside.stalled }) c.take-n.ensures.bytes),
-      (λ w answers. refl),
-    )
+    let e = c.takes_some.ensures in
+    (e.0, e.1, subst (λ (p : Peer). ChoseAs c.takes_some.result p c.takes_some.new.self (now c.args.world.now) e.0) c.widens.ensures e.2, e.3)

@@ -8,7 +8,7 @@ use Rattle.muck_prop.proofs.props.Props.all.Goals as goal
 
 pub returns-clause-list : goal.returns-clause-list
 returns-clause-list c =
-    let list = subst (λ (dir : List (List ℕ)). c.in_ok-list.list ≡ map (behind (length dir)) (filter (goes_on dir) c.self.inside.values.entries)) c.new-top.ensures c.in_ok-list.ensures.list in
+    let list = subst (λ (dir : List (List ℕ)). c.in_ok-list.list ≡ map (behind (length dir)) (filter (goes_on dir) c.self.inside.values.entries)) c.in_ok-top.ensures c.in_ok-list.ensures.list in
     list
     ∙ all_is c.self.inside.values.entries c.in_ok-list.ensures.ordered c.self.invariant
     ∙ (λ i. map (behind 0) (entries (c.self.view_is i)))

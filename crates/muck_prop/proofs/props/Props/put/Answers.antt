@@ -6,17 +6,15 @@ use Rattle.muck_prop.specs.Store.{IsKept}
 use Rattle.muck_prop.proofs.Maps.{get_is, inserted, kept_inserted, on_err}
 use Rattle.muck_prop.proofs.props.Props.put.Goals as goal
 
-pub returns-in_err-insert-clause-only_new : goal.returns-in_err-insert-clause-only_new
-returns-in_err-insert-clause-only_new c =
-    on_err _ _ ((λ i. get (sym c.self.view_is i) (sym c.path.view_is i)) ∙ get_is c.path.inside.segments c.self.inside.values.entries ∙ c.in_err-insert.ensures.absent)
+pub returns-in_err-put_at-clause-only_new : goal.returns-in_err-put_at-clause-only_new
+returns-in_err-put_at-clause-only_new c =
+    on_err _ _ ((λ i. get (sym c.self.view_is i) (sym c.path.view_is i)) ∙ get_is c.path.inside.segments c.self.inside.values.entries ∙ c.in_err-put_at.ensures.absent)
 
 pub invariant_of-self-2 : goal.invariant_of-self-2
-invariant_of-self-2 c =
-    subst (AllByRecursion IsKept) (sym c.in_ok-insert.ensures.entries)
-    (kept_inserted _ _ _ (record { path = c.path.invariant; value = sym c.is_nothing.ensures ∙ c.if-is_nothing.false }) c.self.invariant)
+invariant_of-self-2 c = c.put_at.ensures.kept c.self.invariant (record { path = c.path.invariant; value = sym c.is_nothing.ensures ∙ c.if-is_nothing.false })
 
 pub returns-clause-ok : goal.returns-clause-ok
 returns-clause-ok c =
-    inserted c.path.inside.segments c.args.value c.self.inside.values.entries c.insert.new.self.entries c.in_ok-insert.ensures.updates.0
+    inserted c.path.inside.segments c.args.value c.self.inside.values.entries c.put_at.new.values.entries c.in_ok-put_at.ensures.updates
     ∙ (λ i. insert (c.self.view_is i) (c.path.view_is i) c.args.value)
     ∙ ap (λ b. if b then remove c.args.self.now c.args.path else insert c.args.self.now c.args.path c.args.value) (sym c.if-is_nothing.false ∙ c.is_nothing.ensures)

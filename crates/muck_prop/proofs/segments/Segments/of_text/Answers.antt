@@ -9,4 +9,4 @@ use Rattle.muck_prop.proofs.segments.Segments.of_text.Goals as goal
 pub returns : goal.returns
 returns c =
     let parts = YieldsList-end (YieldsList-from_slice_split _ is_slash c.args.text.now (cc) (cc) c.split-part-items.ensures.closure (λ x r q k. search (rules, tests))) c.loop-part.yielded _ c.loop-part.yielded_by _ _ c.in-None.is c.next.ensures.steps in
-    c.shrink_to_fit.ensures.items ∙ c.loop-part.invariant ∙ ap (λ ps. map (map to_ascii_lowercase) (filter is_filled ps)) parts.0
+    c.in_ok-segments.ensures ∙ c.shrink_to_fit.ensures.items ∙ c.loop-part.invariant ∙ ap (λ ps. map (map to_ascii_lowercase) (filter is_filled ps)) parts.0

@@ -1,4 +1,4 @@
-use Rattle.std.proofs.Common.{◌≡◌, ℕ, List, ◌∷◌, Bool, true, ap, sym, ◌∙◌}
+use Rattle.std.proofs.Common.{◌≡◌, ℕ, List, ◌∷◌, Bool, true, ap, sym, subst, ◌∙◌}
 use Rattle.std.specs.Prelude.{◌↔◌, Some, slice_get}
 use Rattle.muck_prop.specs.declared.value.PropValue.{PropValue}
 use Rattle.muck_prop.proofs.walk.Walk.takes.Goals as goal
@@ -13,9 +13,11 @@ first_is b es left p q k v e is =
     )
 
 pub returns-clause-first : goal.returns-clause-first
-returns-clause-first c = first_is _ _ _ _ _ _ _ (sym c.self.view_is ∙ c.in-Some.ensures.steps) c.is_entry.ensures
+returns-clause-first c =
+    let told = subst (λ (v : PropValue). c.is_entry.result ≡ true ↔ ((c.in-Some.segments.now ≡ c.args.path.now) × (v ≡ c.args.value.now))) c.value.ensures c.is_entry.ensures in
+    first_is _ _ _ _ _ _ _ (sym c.self.view_is ∙ c.in-Some.ensures.steps) told
 
 pub returns-clause-taken : goal.returns-clause-taken
 returns-clause-taken c = λ yes.
     let same = c.is_entry.ensures.0 yes in
-    sym c.self.view_is ∙ c.in-Some.ensures.steps ∙ (λ i. (same.0 i, same.1 i) ∷ c.next.new.self)
+    sym c.self.view_is ∙ c.in-Some.ensures.steps ∙ (λ i. (same.0 i, (sym c.value.ensures ∙ same.1) i) ∷ c.next.new.self)

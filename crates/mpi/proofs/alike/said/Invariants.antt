@@ -1,0 +1,19 @@
+use Rattle.std.proofs.Common.{◌≡◌, ◌+◌, ◌≤◌, ◌++◌, length}
+use Rattle.std.specs.Prelude.{None, option_map}
+use Rattle.muck_model.specs.Bytes.{text_fault}
+use Rattle.mpi.specs.Brackets.{pieces}
+use Rattle.mpi.specs.Made.{Inside}
+use Rattle.mpi.specs.inner.Alike.{said}
+use Rattle.mpi.proofs.alike.said.Given as goal
+
+abbrev pub decreases-loop-first : goal.decreases-loop-first
+decreases-loop-first l = length l.rest
+
+-- what is said so far, and what the rest says
+abbrev pub invariant-loop-first : goal.invariant-loop-first
+invariant-loop-first l = record {
+  whole : said (pieces l.text) ≡ option_map (λ xs. l.out.items ++ xs) (said (pieces l.rest));
+  inside : Inside l.out.items;
+  short : length l.out.items + length l.rest ≤ 4096;
+  rest : text_fault l.rest ≡ None;
+}

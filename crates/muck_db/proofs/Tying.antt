@@ -1,0 +1,508 @@
+-- Who is tied to a number is noted there.
+use Rattle.std.proofs.Common.{◌≡◌, ◌⊎◌, ℕ, zero, suc, get_or, ◌+◌, ◌<◌, ◌≤◌, List, [], ◌∷◌, ◌++◌, Option, Some, None, inl, inr, refl, sym, ◌∙◌, ap, subst, length, length-append, arith, Bool, true, false, cond, ◌||◌, map, Result, Ok}
+use Rattle.std.proofs.lemmas.Bool.{cases_eq, cases_lt, false≢true}
+use Rattle.std.proofs.lemmas.Option.{slice_get-map, slice_get_past, slice_get_read, get_or_from_slice_get}
+use Rattle.std.proofs.lemmas.Map.Lookups.{exact_unsigned}
+use Rattle.std.specs.declared.cmp.Ordering.{Ordering}
+use Rattle.std.specs.declared.cmp.Ordering.TheVariants.{Less, Equal, Greater}
+use Rattle.std.specs.Ordering.{is_eq, nat_cmp}
+use Rattle.std.specs.BTreeMap.{is_at}
+use Rattle.std.specs.List.{slice_get, slice_set, list_any}
+use Rattle.std.specs.Option.{option_map, option_and_then, option_map_or}
+use Rattle.muck_model.specs.declared.dbref.Dbref.{Dbref}
+use Rattle.muck_model.specs.declared.dbref.Kind.{Kind}
+use Rattle.muck_model.specs.declared.dbref.Kind.TheVariants.{Thing, Player}
+use Rattle.muck_model.proofs.Dbrefs.{eq_same, same_eq}
+use Rattle.spec_live.specs.declared.object.Object.{Object}
+use Rattle.spec_live.specs.declared.fault.DbFault.{DbFault}
+use Rattle.spec_live.specs.declared.mark.Mark.{Mark}
+use Rattle.spec_live.specs.declared.saving.Saving.{Saving}
+use Rattle.spec_live.specs.Objects.{Entry, dbref_of, nothing, home, index_of, same, changed_at, with_object, garbage, object_in, kind_in}
+use Rattle.spec_live.specs.Moving.{with_place, moved}
+use Rattle.spec_live.specs.Setting.{may_live}
+use Rattle.spec_live.specs.Making.{blank_entry, grown, has_home, new_object, create_check}
+use Rattle.spec_live.specs.Recycling.{without_ties, is_tied}
+use Rattle.spec_live.specs.Consistent.{IsTied, HasLink, HasHome, IsConsistent}
+use Rattle.spec_live.proofs.Checks.{index_only, alive_known}
+use Rattle.spec_live.proofs.KindLaws.{linked_alive, home_alive}
+use Rattle.spec_live.proofs.HomeLaws.{not_nothing}
+use Rattle.spec_live.proofs.CreationLaws.{may_create, Begins, begins, grown_more, grown_same, object_more}
+use Rattle.spec_live.proofs.Lists.{length_map, length_changed, get_changed_same, get_changed_other, get_more}
+use Rattle.spec_live.proofs.Readers.{length_moved, object_moved, object_unmoved, object_named, object_unnamed}
+use Rattle.muck_db.specs.declared.slot.Slot.{Slot}
+use Rattle.muck_db.specs.declared.ties.Tied.{Tied}
+use Rattle.muck_db.specs.declared.ties.Tether.{Tether}
+use Rattle.muck_db.specs.inner.Slots.{shown, object_at, home_at, on_slot, with_saving, with_mark, with_source, with_slot_lines, entries_of, untied_slot, IsUnlinked}
+use Rattle.muck_db.specs.inner.Ties.{is_tied_at, link_at, Tethers, Notes, IsNoted, HasTies}
+use Rattle.muck_db.proofs.Readers.{length-entries_of, object_in-entries_of}
+use Rattle.muck_db.proofs.Writes.{get_ext}
+use Rattle.muck_db.proofs.Creating.{Put}
+use Rattle.muck_db.proofs.Leaving.{whether}
+
+-- What a tie is.
+
+either : (a b : Bool) (P : Type 0) → (a ≡ true → P) → (b ≡ true → P) → (a || b) ≡ true → P
+either true b P f g h = f refl
+either false b P f g h = g h
+
+first_so : (a b : Bool) → a ≡ true → (a || b) ≡ true
+first_so true b e = refl
+first_so false b e = absurd (false≢true e)
+
+second_so : (a b : Bool) → b ≡ true → (a || b) ≡ true
+second_so true b e = refl
+second_so false b e = e
+
+tied_leads : (d k : ℕ) (slots : List Slot) → is_tied_at d slots k ≡ true → (home_at slots k ≡ Some d) ⊎ (link_at slots k ≡ Some d)
+unfolding is_tied_at home_at link_at
+tied_leads d k slots h = by_cases (object_at slots k) h
+  where
+    by_cases : (q : Option Object) → option_map_or (is_tied d) q false ≡ true → (option_and_then (λ (o : Object). index_of o.home) q ≡ Some d) ⊎ (option_and_then (λ (o : Object). index_of o.link) q ≡ Some d)
+    by_cases None e = absurd (false≢true e)
+    by_cases (Some o) e =
+        either (same o.home (dbref_of d)) (same o.link (dbref_of d)) ((index_of o.home ≡ Some d) ⊎ (index_of o.link ≡ Some d))
+        (λ q. inl (ap (λ z. index_of z) (eq_same o.home (dbref_of d) q))) (λ q. inr (ap (λ z. index_of z) (eq_same o.link (dbref_of d) q))) e
+
+home_tied : (d k : ℕ) (slots : List Slot) → home_at slots k ≡ Some d → is_tied_at d slots k ≡ true
+unfolding is_tied_at home_at
+home_tied d k slots h = by_cases (object_at slots k) h
+  where
+    by_cases : (q : Option Object) → option_and_then (λ (o : Object). index_of o.home) q ≡ Some d → option_map_or (is_tied d) q false ≡ true
+    by_cases None e = absurd (cc e)
+    by_cases (Some o) e = first_so (same o.home (dbref_of d)) (same o.link (dbref_of d)) (same_eq o.home (dbref_of d) (index_only o.home d e))
+
+link_tied : (d k : ℕ) (slots : List Slot) → link_at slots k ≡ Some d → is_tied_at d slots k ≡ true
+unfolding is_tied_at link_at
+link_tied d k slots h = by_cases (object_at slots k) h
+  where
+    by_cases : (q : Option Object) → option_and_then (λ (o : Object). index_of o.link) q ≡ Some d → option_map_or (is_tied d) q false ≡ true
+    by_cases None e = absurd (cc e)
+    by_cases (Some o) e = second_so (same o.home (dbref_of d)) (same o.link (dbref_of d)) (same_eq o.link (dbref_of d) (index_only o.link d e))
+
+tied_past : (d k : ℕ) (slots : List Slot) → length slots ≤ k → is_tied_at d slots k ≡ false
+unfolding is_tied_at object_at
+tied_past d k slots past = ap (λ (o : Option Slot). option_map_or (is_tied d) (option_map shown o) false) (slice_get_past slots k past)
+
+-- A write of what is noted at one number.
+
+set_same : (ties : List Tied) (d : ℕ) (s t : Tied) → slice_get (slice_set ties d s) d ≡ Some t → t ≡ s
+set_same [] d s t h = absurd (cc h)
+set_same (x ∷ xs) zero s t h = cc h
+set_same (x ∷ xs) (suc d) s t h = set_same xs d s t h
+
+set_other : (ties : List Tied) (d e : ℕ) (s : Tied) → (e ≡ d → ⊥) → slice_get (slice_set ties d s) e ≡ slice_get ties e
+set_other [] d e s ne = refl
+set_other (x ∷ xs) zero zero s ne = absurd (ne refl)
+set_other (x ∷ xs) zero (suc e) s ne = refl
+set_other (x ∷ xs) (suc d) zero s ne = refl
+set_other (x ∷ xs) (suc d) (suc e) s ne = set_other xs d e s (λ q. ne (ap suc q))
+
+set_was : (ties : List Tied) (d : ℕ) (s t : Tied) → slice_get (slice_set ties d s) d ≡ Some t → (x : Tied) × (slice_get ties d ≡ Some x)
+set_was [] d s t h = absurd (cc h)
+set_was (x ∷ xs) zero s t h = (x, refl)
+set_was (x ∷ xs) (suc d) s t h = set_was xs d s t h
+
+pub noted_else : (ties : List Tied) (d e j : ℕ) (s : Tied) → (e ≡ d → ⊥) → IsNoted ties e j → IsNoted (slice_set ties d s) e j
+unfolding IsNoted
+noted_else ties d e j s ne h t there = h t (sym (set_other ties d e s ne) ∙ there)
+
+pub noted_here : (ties : List Tied) (d j : ℕ) (s : Tied) → Notes s j → IsNoted (slice_set ties d s) d j
+unfolding IsNoted
+noted_here ties d j s n t there = subst (λ (z : Tied). Notes z j) (sym (set_same ties d s t there)) n
+
+pub noted_kept : (ties : List Tied) (d e j : ℕ) (x s : Tied) → x ≡ get_or ties d x → (Notes x j → Notes s j) → IsNoted ties e j → IsNoted (slice_set ties d s) e j
+unfolding IsNoted
+noted_kept ties d e j x s is keep h = elim (cases_eq e d) [
+  | inl q ↦ λ t there.
+      let at : slice_get (slice_set ties d s) d ≡ Some t = subst (λ (z : ℕ). slice_get (slice_set ties d s) z ≡ Some t) q there in
+      let was : (y : Tied) × (slice_get ties d ≡ Some y) = set_was ties d s t at in
+      let same : x ≡ was.0 = is ∙ get_or_from_slice_get ties d was.0 x was.1 in
+      let old : Notes x j = subst (λ (z : Tied). Notes z j) (sym same) (h was.0 (subst (λ (z : ℕ). slice_get ties z ≡ Some was.0) (sym q) was.1)) in
+      subst (λ (z : Tied). Notes z j) (sym (set_same ties d s t at)) (keep old)
+  | inr ne ↦ λ t there. h t (sym (set_other ties d e s ne) ∙ there)
+]
+
+pub noted_past : (ties : List Tied) (d j : ℕ) → length ties ≤ d → IsNoted ties d j
+unfolding IsNoted
+noted_past ties d j past t there = absurd (cc (there, slice_get_past ties d past))
+
+pub noted_pushed : (old new : List Tied) (x : Tied) (d j : ℕ) → new ≡ old ++ x ∷ [] → d < length old → IsNoted old d j → IsNoted new d j
+unfolding IsNoted
+noted_pushed old new x d j is lt h t there = h t (sym (get_more old x d (λ e. omega (arith, e, lt))) ∙ sym (ap (λ (z : List Tied). slice_get z d) is) ∙ there)
+
+pub zero_never : (d e : ℕ) (o : Option ℕ) → d ≤ 0 → o ≡ Some d → (e ≡ 0 → ⊥) → o ≡ Some e → ⊥
+zero_never d e o least is low so = let same : d ≡ e = cc (is, so) in low (omega (arith, least, same))
+
+-- what is untied, as a pass over what is noted wants it
+pub untie_may : (slots : List Slot) (ties : List Tied) (d : ℕ) (x : Tied) → HasTies slots ties → (d ≡ 0 → ⊥) → d < length slots → x ≡ get_or ties d x → (k : ℕ) → is_tied_at d slots k ≡ true → Notes x k
+unfolding IsNoted
+untie_may slots ties d x h low known is k tied = h.noted d k low tied x (slice_get_read ties (length ties) d x refl (omega (arith, known, h.long)) is)
+
+pub set_long : (ties : List Tied) (d : ℕ) (s : Tied) → length (slice_set ties d s) ≡ length ties
+set_long [] d s = refl
+set_long (x ∷ xs) zero s = refl
+set_long (x ∷ xs) (suc d) s = ap suc (set_long xs d s)
+
+-- The ties of a table, made number by number.
+
+pub record NotedTo (slots : List Slot) (ties : List Tied) (i : ℕ) : Type 0 where
+  pub long : length slots ≤ length ties
+  pub noted : (d k : ℕ) → (d ≡ 0 → ⊥) → k < i → is_tied_at d slots k ≡ true → IsNoted ties d k
+
+pub noted_none : (slots : List Slot) (ties : List Tied) → length slots ≤ length ties → NotedTo slots ties 0
+noted_none slots ties long = record { long = long; noted = λ d k low lt. absurd (omega arith) }
+
+pub noted_more : (slots : List Slot) (old new : List Tied) (i : ℕ) (t : Tether) → t.home ≡ home_at slots i → t.link ≡ link_at slots i → length new ≡ length old → ((d j : ℕ) → IsNoted old d j → IsNoted new d j)
+    → ((d : ℕ) → (d ≡ 0 → ⊥) → Tethers t d → IsNoted new d i) → NotedTo slots old i → NotedTo slots new (i + 1)
+noted_more slots old new i t home link same others noted n = record {
+  long = omega (arith, n.long, same);
+  noted = λ d k low lt tied. elim (cases_eq k i) [
+    | inl e ↦ subst (IsNoted new d) (sym e) (noted d low (elim (tied_leads d i slots (subst (λ z. is_tied_at d slots z ≡ true) e tied)) [ inl q ↦ inl (home ∙ q) | inr q ↦ inr (link ∙ q) ]))
+    | inr ne ↦ others d k (n.noted d k low (omega (arith, lt, ne)) tied)
+  ];
+}
+
+pub noted_all : (slots : List Slot) (ties : List Tied) (i : ℕ) → length slots ≤ i → NotedTo slots ties i → HasTies slots ties
+noted_all slots ties i past n = record {
+  long = n.long;
+  noted = λ d k low tied. elim (cases_lt k i) [
+    | inl lt ↦ n.noted d k low lt tied
+    | inr more ↦ absurd (false≢true (sym (tied_past d k slots (omega (arith, past, more))) ∙ tied))
+  ];
+}
+
+-- A change that makes no tie.
+
+pub record FewerTies (old new : List Slot) : Type 0 where
+  pub short : length new ≤ length old
+  pub fewer : (d k : ℕ) → is_tied_at d new k ≡ true → is_tied_at d old k ≡ true
+
+pub ties_fewer : (old new : List Slot) (ties : List Tied) → FewerTies old new → HasTies old ties → HasTies new ties
+ties_fewer old new ties f h = record { long = omega (arith, h.long, f.short); noted = λ d k low tied. h.noted d k low (f.fewer d k tied) }
+
+-- one slot changes, and its object keeps its home and its link
+fewer_changed : (n : ℕ) (f : Slot → Slot) (old new : List Slot) → new ≡ changed_at n f old → ((d : ℕ) (s : Slot) → is_tied d (shown (f s)) ≡ is_tied d (shown s)) → FewerTies old new
+unfolding is_tied_at object_at
+fewer_changed n f old new is same = record {
+  short = omega (arith, ap (λ (z : List Slot). length z) is, length_changed old n f);
+  fewer = λ d k h. elim (cases_eq k n) [
+    | inl e ↦ sym (by_cases d (slice_get old k)) ∙ sym (ap (λ (o : Option Slot). option_map_or (is_tied d) (option_map shown o) false) (here k e)) ∙ h
+    | inr ne ↦ sym (ap (λ (o : Option Slot). option_map_or (is_tied d) (option_map shown o) false) (ap (λ (z : List Slot). slice_get z k) is ∙ get_changed_other old n k f ne)) ∙ h
+  ];
+}
+  where
+    here : (k : ℕ) → k ≡ n → slice_get new k ≡ option_map f (slice_get old k)
+    here k e = subst (λ (z : ℕ). slice_get new z ≡ option_map f (slice_get old z)) (sym e) (ap (λ (z : List Slot). slice_get z n) is ∙ get_changed_same old n f)
+
+    by_cases : (d : ℕ) (o : Option Slot) → option_map_or (is_tied d) (option_map shown (option_map f o)) false ≡ option_map_or (is_tied d) (option_map shown o) false
+    by_cases d None = refl
+    by_cases d (Some s) = same d s
+
+pub ties_changed : (n : ℕ) (f : Slot → Slot) (old new : List Slot) (ties : List Tied) → new ≡ changed_at n f old → ((d : ℕ) (s : Slot) → is_tied d (shown (f s)) ≡ is_tied d (shown s)) → HasTies old ties → HasTies new ties
+ties_changed n f old new ties is same h = ties_fewer old new ties (fewer_changed n f old new is same) h
+
+fewer_mapped : (f : Slot → Slot) (old new : List Slot) → new ≡ map f old → ((d : ℕ) (s : Slot) → is_tied d (shown (f s)) ≡ is_tied d (shown s)) → FewerTies old new
+unfolding is_tied_at object_at
+fewer_mapped f old new is same = record {
+  short = omega (arith, ap (λ (z : List Slot). length z) is, length_map f old);
+  fewer = λ d k h. sym (by_cases d (slice_get old k)) ∙ sym (ap (λ (o : Option Slot). option_map_or (is_tied d) (option_map shown o) false) (ap (λ (z : List Slot). slice_get z k) is ∙ slice_get-map f old k)) ∙ h;
+}
+  where
+    by_cases : (d : ℕ) (o : Option Slot) → option_map_or (is_tied d) (option_map shown (option_map f o)) false ≡ option_map_or (is_tied d) (option_map shown o) false
+    by_cases d None = refl
+    by_cases d (Some s) = same d s
+
+pub ties_mapped : (f : Slot → Slot) (old new : List Slot) (ties : List Tied) → new ≡ map f old → ((d : ℕ) (s : Slot) → is_tied d (shown (f s)) ≡ is_tied d (shown s)) → HasTies old ties → HasTies new ties
+ties_mapped f old new ties is same h = ties_fewer old new ties (fewer_mapped f old new is same) h
+
+-- an object that is set another field
+pub set_tied : (f : Object → Object) → ((o : Object) → (f o).home ≡ o.home) → ((o : Object) → (f o).link ≡ o.link) → (d : ℕ) (s : Slot) → is_tied d (shown (on_slot f s)) ≡ is_tied d (shown s)
+set_tied f home link d s = by_cases s.object
+  where
+    by_cases : (q : Option Object) → is_tied d (option_map_or (λ (o : Object). o) (option_map f q) garbage) ≡ is_tied d (option_map_or (λ (o : Object). o) q garbage)
+    by_cases None = refl
+    by_cases (Some o) = rw (home o, link o) refl
+
+-- The same, of entries.
+
+tied_in : (d k : ℕ) (slots : List Slot) → option_map_or (is_tied d) (object_in (entries_of slots) k) false ≡ is_tied_at d slots k
+unfolding is_tied_at
+tied_in d k slots = ap (λ (o : Option Object). option_map_or (is_tied d) o false) (object_in-entries_of slots k)
+
+tied_as : (d k : ℕ) (new : List Slot) (fs : List Entry) → entries_of new ≡ fs → is_tied_at d new k ≡ true → option_map_or (is_tied d) (object_in fs k) false ≡ true
+tied_as d k new fs is h = sym (ap (λ (z : List Entry). option_map_or (is_tied d) (object_in z k) false) is) ∙ tied_in d k new ∙ h
+
+moved_tied : (d k x to : ℕ) (es : List Entry) → option_map_or (is_tied d) (object_in (moved x to es) k) false ≡ option_map_or (is_tied d) (object_in es k) false
+moved_tied d k x to es = elim (cases_eq k x) [
+  | inl e ↦ ap (λ (z : ℕ). option_map_or (is_tied d) (object_in (moved x to es) z) false) e ∙ ap (λ (o : Option Object). option_map_or (is_tied d) o false) (object_moved es x to) ∙ by_cases (object_in es x) ∙ sym (ap (λ (z : ℕ). option_map_or (is_tied d) (object_in es z) false) e)
+  | inr ne ↦ ap (λ (o : Option Object). option_map_or (is_tied d) o false) (object_unmoved es x to k ne)
+]
+  where
+    by_cases : (o : Option Object) → option_map_or (is_tied d) (option_map (with_place to) o) false ≡ option_map_or (is_tied d) o false
+    by_cases None = refl
+    by_cases (Some o) = refl
+
+pub ties_moved : (x to : ℕ) (old new : List Slot) (ties : List Tied) → entries_of new ≡ moved x to (entries_of old) → HasTies old ties → HasTies new ties
+ties_moved x to old new ties is h = ties_fewer old new ties (record {
+  short = omega (arith, length-entries_of new, length-entries_of old, ap (λ (z : List Entry). length z) is, length_moved (entries_of old) x to);
+  fewer = λ d k t. sym (tied_in d k old) ∙ sym (moved_tied d k x to (entries_of old)) ∙ tied_as d k new (moved x to (entries_of old)) is t;
+}) h
+
+-- Ends of ties.
+
+same_number : (a b : ℕ) → same (dbref_of a) (dbref_of b) ≡ true → a ≡ b
+same_number a b h = cc (ap (λ z. z.0) (eq_same (dbref_of a) (dbref_of b) h))
+
+not_home : (d : ℕ) → home ≡ dbref_of d → ⊥
+not_home d e = cc (ap (λ (z : Dbref). z.0) e)
+
+-- Untying.
+
+-- an end that isn't tied to d any more
+end_untied : (d e : ℕ) (a z : Dbref) (t : Bool) → same a (dbref_of d) ≡ t → (same z (dbref_of e) ≡ true → ⊥) → same (cond t z a) (dbref_of e) ≡ true → (e ≡ d → ⊥) × (same a (dbref_of e) ≡ true)
+end_untied d e a z true q never h = absurd (never h)
+end_untied d e a z false q never h = ((λ is. false≢true (sym q ∙ subst (λ (y : ℕ). same a (dbref_of y) ≡ true) is h)), h)
+
+-- whoever is tied behind it was tied before, and to another number
+object_untied_so : (d e : ℕ) (o : Object) → (e ≡ 0 → ⊥) → is_tied e (without_ties d o) ≡ true → (e ≡ d → ⊥) × (is_tied e o ≡ true)
+object_untied_so d e o low h =
+    either (same (cond (same o.home (dbref_of d)) (dbref_of 0) o.home) (dbref_of e)) (same (cond (same o.link (dbref_of d)) nothing o.link) (dbref_of e)) ((e ≡ d → ⊥) × (is_tied e o ≡ true))
+    (λ q. let s : (e ≡ d → ⊥) × (same o.home (dbref_of e) ≡ true) = end_untied d e o.home (dbref_of 0) (same o.home (dbref_of d)) refl (λ z. low (sym (same_number 0 e z))) q in (s.0, first_so (same o.home (dbref_of e)) (same o.link (dbref_of e)) s.1))
+    (λ q. let s : (e ≡ d → ⊥) × (same o.link (dbref_of e) ≡ true) = end_untied d e o.link nothing (same o.link (dbref_of d)) refl (λ z. not_nothing e (eq_same nothing (dbref_of e) z)) q in (s.0, second_so (same o.home (dbref_of e)) (same o.link (dbref_of e)) s.1))
+    h
+
+garbage_untied : (d : ℕ) → without_ties d garbage ≡ garbage
+unfolding garbage
+garbage_untied d = refl
+
+shown_untied : (d : ℕ) (s : Slot) → shown (untied_slot d s) ≡ without_ties d (shown s)
+unfolding untied_slot
+shown_untied d s = by_cases s.object
+  where
+    by_cases : (q : Option Object) → option_map_or (λ (o : Object). o) (option_map (without_ties d) q) garbage ≡ without_ties d (option_map_or (λ (o : Object). o) q garbage)
+    by_cases None = sym (garbage_untied d)
+    by_cases (Some o) = refl
+
+slot_untied_so : (d e : ℕ) (s : Slot) → (e ≡ 0 → ⊥) → is_tied e (shown (untied_slot d s)) ≡ true → (e ≡ d → ⊥) × (is_tied e (shown s) ≡ true)
+slot_untied_so d e s low h = object_untied_so d e (shown s) low (subst (λ (o : Object). is_tied e o ≡ true) (shown_untied d s) h)
+
+table_untied_so : (d e k : ℕ) (old new : List Slot) → (e ≡ 0 → ⊥) → new ≡ map (untied_slot d) old → is_tied_at e new k ≡ true → (e ≡ d → ⊥) × (is_tied_at e old k ≡ true)
+unfolding is_tied_at object_at
+table_untied_so d e k old new low is h = by_cases (slice_get old k) (sym (ap (λ (o : Option Slot). option_map_or (is_tied e) (option_map shown o) false) (ap (λ (z : List Slot). slice_get z k) is ∙ slice_get-map (untied_slot d) old k)) ∙ h)
+  where
+    by_cases : (o : Option Slot) → option_map_or (is_tied e) (option_map shown (option_map (untied_slot d) o)) false ≡ true → (e ≡ d → ⊥) × (option_map_or (is_tied e) (option_map shown o) false ≡ true)
+    by_cases None q = absurd (false≢true q)
+    by_cases (Some s) q = slot_untied_so d e s low q
+
+-- what is noted at d alone changes
+ties_untied : (d : ℕ) (old new : List Slot) (ties after : List Tied) → new ≡ map (untied_slot d) old → length after ≡ length ties → ((e : ℕ) → (e ≡ d → ⊥) → slice_get after e ≡ slice_get ties e) → HasTies old ties → HasTies new after
+unfolding IsNoted
+ties_untied d old new ties after is long others h = record {
+  long = omega (arith, h.long, long, ap (λ (z : List Slot). length z) is, length_map (untied_slot d) old);
+  noted = λ e k low tied t there.
+      let was : (e ≡ d → ⊥) × (is_tied_at e old k ≡ true) = table_untied_so d e k old new low is tied in
+      h.noted e k low was.1 t (sym (others e was.0) ∙ there);
+}
+
+pub ties_emptied : (d : ℕ) (old new : List Slot) (ties : List Tied) (s : Tied) → new ≡ map (untied_slot d) old → HasTies old ties → HasTies new (slice_set ties d s)
+ties_emptied d old new ties s is h = ties_untied d old new ties (slice_set ties d s) is (set_long ties d s) (λ e ne. set_other ties d e s ne) h
+
+-- a slot that isn't tied to d stays as it is
+end_stays : (d : ℕ) (a z : Dbref) → same a (dbref_of d) ≡ false → cond (same a (dbref_of d)) z a ≡ a
+end_stays d a z h = ap (λ t. cond t z a) h
+
+both_false : (a b : Bool) → (a || b) ≡ false → (a ≡ false) × (b ≡ false)
+both_false true b h = absurd (false≢true (sym h))
+both_false false b h = (refl, h)
+
+object_stays : (d : ℕ) (o : Object) → is_tied d o ≡ false → without_ties d o ≡ o
+object_stays d o h =
+    let both : (same o.home (dbref_of d) ≡ false) × (same o.link (dbref_of d) ≡ false) = both_false (same o.home (dbref_of d)) (same o.link (dbref_of d)) h in
+    rw (both.0, both.1) refl
+
+slot_stays : (d : ℕ) (s : Slot) → is_tied d (shown s) ≡ false → untied_slot d s ≡ s
+unfolding untied_slot
+slot_stays d s h = rw h (by_cases s.object refl h)
+  where
+    by_cases : (q : Option Object) → s.object ≡ q → is_tied d (shown s) ≡ false → (record s { object = option_map (without_ties d) s.object; saving = s.saving }) ≡ s
+    by_cases None e t = rw e (rw (← e) refl)
+    by_cases (Some o) e t = let same : without_ties d o ≡ o = object_stays d o (sym (ap (λ (z : Option Object). is_tied d (option_map_or (λ (x : Object). x) z garbage)) e) ∙ t) in rw (e, same) (rw (← e) refl)
+
+slot_once : (d : ℕ) (s : Slot) → (d ≡ 0 → ⊥) → untied_slot d (untied_slot d s) ≡ untied_slot d s
+slot_once d s low = whether (is_tied d (shown (untied_slot d s))) (untied_slot d (untied_slot d s) ≡ untied_slot d s) (λ h. absurd ((slot_untied_so d d s low h).0 refl)) (λ h. slot_stays d (untied_slot d s) h)
+
+stays_at : (d k : ℕ) (slots : List Slot) → is_tied_at d slots k ≡ false → slice_get slots k ≡ option_map (untied_slot d) (slice_get slots k)
+unfolding is_tied_at object_at
+stays_at d k slots h = by_cases (slice_get slots k) h
+  where
+    by_cases : (o : Option Slot) → option_map_or (is_tied d) (option_map shown o) false ≡ false → o ≡ option_map (untied_slot d) o
+    by_cases None q = refl
+    by_cases (Some s) q = ap (λ (z : Slot). Some z) (sym (slot_stays d s q))
+
+once_at : (d : ℕ) (o : Option Slot) → (d ≡ 0 → ⊥) → option_map (untied_slot d) (option_map (untied_slot d) o) ≡ option_map (untied_slot d) o
+once_at d None low = refl
+once_at d (Some s) low = ap (λ (z : Slot). Some z) (slot_once d s low)
+
+-- a walk over those that are noted at d: each number is untied, or still before the walk
+pub record UntiesOn (d : ℕ) (old cur : List Slot) (left : List ℕ) : Type 0 where
+  pub same_length : length cur ≡ length old
+  pub each : (k : ℕ) → (slice_get cur k ≡ option_map (untied_slot d) (slice_get old k)) ⊎ ((slice_get cur k ≡ slice_get old k) × (list_any (is_at (nat_cmp k)) left ≡ true))
+
+pub unties_none : (d : ℕ) (old : List Slot) (left : List ℕ) → ((k : ℕ) → is_tied_at d old k ≡ true → list_any (is_at (nat_cmp k)) left ≡ true) → UntiesOn d old old left
+unties_none d old left noted = record {
+  same_length = refl;
+  each = λ k. whether (is_tied_at d old k) ((slice_get old k ≡ option_map (untied_slot d) (slice_get old k)) ⊎ ((slice_get old k ≡ slice_get old k) × (list_any (is_at (nat_cmp k)) left ≡ true))) (λ h. inr (refl, noted k h)) (λ h. inl (stays_at d k old h));
+}
+
+at_same : (k x : ℕ) → is_at (nat_cmp k) x ≡ true → k ≡ x
+at_same k x h = exact_unsigned k x (equal_from (nat_cmp k x) h)
+  where
+    equal_from : (r : Ordering) → is_eq r ≡ true → r ≡ Equal
+    equal_from Less e = cc
+    equal_from Equal e = refl
+    equal_from Greater e = cc
+
+-- the first of the numbers, or one of the others
+later : (k x : ℕ) (xs : List ℕ) → (k ≡ x → ⊥) → list_any (is_at (nat_cmp k)) (x ∷ xs) ≡ true → list_any (is_at (nat_cmp k)) xs ≡ true
+later k x xs ne h = either (is_at (nat_cmp k) x) (list_any (is_at (nat_cmp k)) xs) (list_any (is_at (nat_cmp k)) xs ≡ true) (λ q. absurd (ne (at_same k x q))) (λ q. q) h
+
+pub unties_more : (d x : ℕ) (old cur new : List Slot) (left rest : List ℕ) → (d ≡ 0 → ⊥) → left ≡ x ∷ rest → new ≡ changed_at x (untied_slot d) cur → UntiesOn d old cur left → UntiesOn d old new rest
+unties_more d x old cur new left rest low list is u = record {
+  same_length = ap (λ (z : List Slot). length z) is ∙ length_changed cur x (untied_slot d) ∙ u.same_length;
+  each = λ k. elim (cases_eq k x) [
+    | inl e ↦ inl (subst (λ (z : ℕ). slice_get new z ≡ option_map (untied_slot d) (slice_get old z)) (sym e) (ap (λ (z : List Slot). slice_get z x) is ∙ get_changed_same cur x (untied_slot d) ∙ elim (u.each x) [
+      | inl q ↦ ap (λ (o : Option Slot). option_map (untied_slot d) o) q ∙ once_at d (slice_get old x) low
+      | inr q ↦ ap (λ (o : Option Slot). option_map (untied_slot d) o) q.0
+    ]))
+    | inr ne ↦
+        let same : slice_get new k ≡ slice_get cur k = ap (λ (z : List Slot). slice_get z k) is ∙ get_changed_other cur x k (untied_slot d) ne in
+        elim (u.each k) [ inl q ↦ inl (same ∙ q) | inr q ↦ inr (same ∙ q.0, later k x rest ne (subst (λ (l : List ℕ). list_any (is_at (nat_cmp k)) l ≡ true) list q.1)) ]
+  ];
+}
+
+pub unties_all : (d : ℕ) (old cur : List Slot) (left : List ℕ) → left ≡ [] → UntiesOn d old cur left → cur ≡ map (untied_slot d) old
+unties_all d old cur left none u = get_ext cur (map (untied_slot d) old) (λ k. elim (u.each k) [
+  | inl q ↦ q ∙ sym (slice_get-map (untied_slot d) old k)
+  | inr q ↦ absurd (false≢true (subst (λ (l : List ℕ). list_any (is_at (nat_cmp k)) l ≡ true) none q.1))
+])
+
+-- Out of a list.
+
+pub ties_unlinked : (x : ℕ) (old mid : List Slot) (ties : List Tied) → IsUnlinked x old mid → HasTies old ties → HasTies mid ties
+unfolding is_tied_at
+ties_unlinked x old mid ties u h = ties_fewer old mid ties (record { short = omega (arith, u.same_length); fewer = λ d k t. sym (ap (λ (o : Option Object). option_map_or (is_tied d) o false) (u.same_objects k)) ∙ t }) h
+
+-- Setting a field.
+
+pub tethered : (slots : List Slot) (ties : List Tied) (k : ℕ) (t : Tether) → t.home ≡ home_at slots k → t.link ≡ link_at slots k → HasTies slots ties → (d : ℕ) → (d ≡ 0 → ⊥) → Tethers t d → IsNoted ties d k
+tethered slots ties k t home link h d low leads = h.noted d k low (elim leads [ inl q ↦ home_tied d k slots (sym home ∙ q) | inr q ↦ link_tied d k slots (sym link ∙ q) ])
+
+pub ties_set : (k : ℕ) (f : Slot → Slot) (old new : List Slot) (ties after : List Tied) (t : Tether) → new ≡ changed_at k f old → t.home ≡ home_at new k → t.link ≡ link_at new k → length after ≡ length ties
+    → ((d j : ℕ) → (j ≡ k → ⊥) → IsNoted ties d j → IsNoted after d j) → ((d : ℕ) → (d ≡ 0 → ⊥) → Tethers t d → IsNoted after d k) → HasTies old ties → HasTies new after
+unfolding is_tied_at object_at
+ties_set k f old new ties after t is home link long others noted h = record {
+  long = omega (arith, h.long, long, ap (λ (z : List Slot). length z) is, length_changed old k f);
+  noted = λ d j low tied. elim (cases_eq j k) [
+    | inl e ↦ subst (IsNoted after d) (sym e) (noted d low (elim (tied_leads d k new (subst (λ z. is_tied_at d new z ≡ true) e tied)) [ inl q ↦ inl (home ∙ q) | inr q ↦ inr (link ∙ q) ]))
+    | inr ne ↦ others d j ne (h.noted d j low (sym (ap (λ (o : Option Slot). option_map_or (is_tied d) (option_map shown o) false) (ap (λ (z : List Slot). slice_get z j) is ∙ get_changed_other old k j f ne)) ∙ tied))
+  ];
+}
+
+-- Room for one more number.
+
+known : (es : List Entry) (d n : ℕ) (kind : Kind) → dbref_of n ≡ dbref_of d → may_live kind (kind_in es n) ≡ true → d < length es
+known es d n kind e h = subst (λ (z : ℕ). z < length es) (cc (ap (λ (x : Dbref). x.0) e)) (alive_known es n (home_alive kind (kind_in es n) h))
+
+home_known : (es : List Entry) (d : ℕ) (o : Object) (kind : Kind) → o.home ≡ dbref_of d → HasHome es (record o { kind = kind }) → d < length es
+home_known es d o Thing e h = known es d h.0 Thing (sym h.1 ∙ e) h.2
+home_known es d o Player e h = known es d h.0 Player (sym h.1 ∙ e) h.2
+home_known es d o kind e h = absurd (not_nothing d (sym h ∙ e))
+
+link_known : (es : List Entry) (d : ℕ) (o : Object) → o.link ≡ dbref_of d → HasLink es o → d < length es
+link_known es d o e h = elim h [
+  | inl a ↦ absurd (not_nothing d (sym a ∙ e))
+  | inr b ↦ elim b [
+    | inl a ↦ absurd (not_home d (sym a.1 ∙ e))
+    | inr a ↦ subst (λ (z : ℕ). z < length es) (cc (ap (λ (x : Dbref). x.0) (sym a.1 ∙ e))) (alive_known es a.0 (linked_alive o.kind (kind_in es a.0) a.2))
+  ]
+]
+
+-- what is tied is tied to a number that is there
+tied_known : (d k : ℕ) (slots : List Slot) → IsConsistent (entries_of slots) → is_tied_at d slots k ≡ true → d < length slots
+tied_known d k slots c h = by_cases (object_in (entries_of slots) k) refl (tied_in d k slots ∙ h)
+  where
+    within : d < length (entries_of slots) → d < length slots
+    within lt = omega (arith, lt, length-entries_of slots)
+
+    by_cases : (q : Option Object) → object_in (entries_of slots) k ≡ q → option_map_or (is_tied d) q false ≡ true → d < length slots
+    by_cases None e t = absurd (false≢true t)
+    by_cases (Some o) e t =
+        let ties : IsTied (entries_of slots) o = c.tied k o e in
+        either (same o.home (dbref_of d)) (same o.link (dbref_of d)) (d < length slots)
+        (λ q. within (home_known (entries_of slots) d o o.kind (eq_same o.home (dbref_of d) q) ties.home)) (λ q. within (link_known (entries_of slots) d o (eq_same o.link (dbref_of d) q) ties.link)) t
+
+pub ties_roomy : (slots : List Slot) (ties more : List Tied) → IsConsistent (entries_of slots) → length ties ≤ length more → ((d j : ℕ) → d < length ties → IsNoted ties d j → IsNoted more d j) → HasTies slots ties → HasTies slots more
+ties_roomy slots ties more c long others h = record {
+  long = omega (arith, h.long, long);
+  noted = λ d k low tied. others d k (omega (arith, tied_known d k slots c tied, h.long)) (h.noted d k low tied);
+}
+
+-- A new object is tied to nothing but #0.
+
+new_tied : (d n : ℕ) (kind : Kind) (name : List ℕ) (owner : Dbref) → (d ≡ 0 → ⊥) → is_tied d (new_object n kind name owner) ≡ true → ⊥
+unfolding new_object
+new_tied d n kind name owner low h =
+    either (same (cond (has_home kind) (dbref_of 0) nothing) (dbref_of d)) (same nothing (dbref_of d)) ⊥ (λ q. by_cases (has_home kind) q) (λ q. not_nothing d (eq_same nothing (dbref_of d) q)) h
+  where
+    by_cases : (b : Bool) → same (cond b (dbref_of 0) nothing) (dbref_of d) ≡ true → ⊥
+    by_cases true q = low (sym (same_number 0 d q))
+    by_cases false q = not_nothing d (eq_same nothing (dbref_of d) q)
+
+grown_other : (n k : ℕ) (es : List Entry) → (k ≡ n → ⊥) → object_in (grown n es) k ≡ object_in es k
+grown_other n k es ne = elim (cases_eq n (length es)) [
+  | inl e ↦ ap (λ (z : List Entry). object_in z k) (grown_more n es e) ∙ object_more es k (λ q. ne (q ∙ sym e))
+  | inr e ↦ ap (λ (z : List Entry). object_in z k) (grown_same n es e)
+]
+
+grown_room : (n m : ℕ) (es : List Entry) → n < m → length es ≤ m → length (grown n es) ≤ m
+grown_room n m es lt le = elim (cases_eq n (length es)) [
+  | inl e ↦ omega (arith, lt, e, ap (λ (z : List Entry). length z) (grown_more n es e), length-append es (blank_entry ∷ []))
+  | inr e ↦ omega (arith, le, ap (λ (z : List Entry). length z) (grown_same n es e))
+]
+
+pub ties_created : (n to : ℕ) (kind : Kind) (name : List ℕ) (owner place : Dbref) (old mid new : List Slot) (ties : List Tied) → create_check kind owner place (entries_of old) ≡ Ok (n, to) → Put old mid n to kind name owner
+    → entries_of new ≡ moved n to (entries_of mid) → n < length ties → HasTies old ties → HasTies new ties
+ties_created n to kind name owner place old mid new ties passed put is room h =
+    let es : List Entry = entries_of old in
+    let o : Object = new_object n kind name owner in
+    let b : Begins es kind owner n to = begins es kind owner n to (may_create kind owner place es (n, to) passed) in
+    ties_moved n to mid new ties is (record {
+      long = omega (arith, length-entries_of mid, ap (λ (z : List Entry). length z) put.is, length_changed (grown n es) n (with_object o), grown_room n (length ties) es room (omega (arith, h.long, length-entries_of old)));
+      noted = λ d k low tied.
+          let now : option_map_or (is_tied d) (object_in (changed_at n (with_object o) (grown n es)) k) false ≡ true = tied_as d k mid (changed_at n (with_object o) (grown n es)) put.is tied in
+          elim (cases_eq k n) [
+            | inl e ↦ absurd (new_tied d n kind name owner low (sym (ap (λ (q : Option Object). option_map_or (is_tied d) q false) (subst (λ (z : ℕ). object_in (changed_at n (with_object o) (grown n es)) z ≡ Some o) (sym e) (object_named n o (grown n es) b.known))) ∙ now))
+            | inr ne ↦ h.noted d k low (sym (tied_in d k old) ∙ sym (ap (λ (q : Option Object). option_map_or (is_tied d) q false) (object_unnamed n k o (grown n es) ne ∙ grown_other n k es ne)) ∙ now)
+          ];
+    })
+
+-- The other writers.
+
+pub ties_passed : (f : Saving → Saving) (old new : List Slot) (ties : List Tied) → new ≡ map (with_saving f) old → HasTies old ties → HasTies new ties
+ties_passed f old new ties is h = ties_mapped (with_saving f) old new ties is (λ d s. refl) h
+
+pub ties_told : (n : ℕ) (mark : Option Mark) (old new : List Slot) (ties : List Tied) → new ≡ changed_at n (with_mark mark) old → HasTies old ties → HasTies new ties
+ties_told n mark old new ties is h = ties_changed n (with_mark mark) old new ties is (λ d s. refl) h
+
+pub ties_put : (n : ℕ) (f : Object → Object) (old new : List Slot) (ties : List Tied) → new ≡ changed_at n (on_slot f) old → ((o : Object) → (f o).home ≡ o.home) → ((o : Object) → (f o).link ≡ o.link) → HasTies old ties → HasTies new ties
+ties_put n f old new ties is home link h = ties_changed n (on_slot f) old new ties is (set_tied f home link) h
+
+lined_tied : (lines : List (List ℕ)) (d : ℕ) (s : Slot) → is_tied d (shown (with_slot_lines lines s)) ≡ is_tied d (shown s)
+lined_tied lines d s = by_cases s.object
+  where
+    by_cases : (q : Option Object) → is_tied d (option_map_or (λ (o : Object). o) (option_map (with_source lines) q) garbage) ≡ is_tied d (option_map_or (λ (o : Object). o) q garbage)
+    by_cases None = refl
+    by_cases (Some o) = refl
+
+pub ties_lined : (n : ℕ) (lines : List (List ℕ)) (old new : List Slot) (ties : List Tied) → new ≡ changed_at n (with_slot_lines lines) old → HasTies old ties → HasTies new ties
+ties_lined n lines old new ties is h = ties_changed n (with_slot_lines lines) old new ties is (lined_tied lines) h

@@ -1,0 +1,10 @@
+pub mod Walks
+pub mod Undoing
+pub mod Places
+pub mod Starting
+pub mod Made
+pub mod Numbers
+pub mod Indices
+pub mod Batches
+pub mod Steps
+pub mod Fronts

@@ -1,0 +1,88 @@
+-- Steps of the loops.
+use Rattle.std.proofs.Common.{◌≡◌, ◌≢◌, ℕ, ◌+◌, ◌-◌, ◌<◌, ◌≤◌, eqb, ltb, List, [], ◌∷◌, ◌++◌, length, take, drop, get_or, Option, Some, None, Ok, Err, refl, sym, ◌∙◌, ap, arith, length-drop, append_assoc}
+use Rattle.std.proofs.lemmas.List.{drop_more, take_more}
+use Rattle.std.proofs.Math.ListN.{drop_of_length-le}
+use Rattle.std.proofs.lemmas.Bool.{cond-true, cond-false, eq-eqb, ne_eqb, lt-ltb, le-ltb}
+use Rattle.muck_log.specs.World.{World}
+use Rattle.muck_mirror.specs.Laying.{laid_in}
+use Rattle.muck_mirror.specs.Bodies.{Body, literal_at}
+use Rattle.muck_log.specs.File.{after_number}
+use Rattle.muck_mirror.specs.Mirrors.{Come, ahead, followed, kept_with}
+
+-- Literals.
+
+pub literal_more : (wanted bytes : List ℕ) (i d : ℕ) → i < length wanted → i < length bytes → get_or bytes i d ≡ get_or wanted i d
+    → literal_at (drop i wanted) (drop i bytes) ≡ literal_at (drop (i + 1) wanted) (drop (i + 1) bytes)
+unfolding literal_at
+literal_more wanted bytes i d lt le same =
+    ap (λ l. literal_at l (drop i bytes)) (drop_more wanted i d lt) ∙ ap (literal_at (get_or wanted i d ∷ drop (i + 1) wanted)) (drop_more bytes i d le)
+    ∙ cond-true (eqb (get_or bytes i d) (get_or wanted i d)) _ _ (eq-eqb _ _ same)
+
+pub literal_other : (wanted bytes : List ℕ) (i d : ℕ) → i < length wanted → i < length bytes → get_or bytes i d ≢ get_or wanted i d
+    → literal_at (drop i wanted) (drop i bytes) ≡ Err (length bytes - i)
+unfolding literal_at
+literal_other wanted bytes i d lt le other =
+    ap (λ l. literal_at l (drop i bytes)) (drop_more wanted i d lt) ∙ ap (literal_at (get_or wanted i d ∷ drop (i + 1) wanted)) (drop_more bytes i d le)
+    ∙ cond-false (eqb (get_or bytes i d) (get_or wanted i d)) _ _ (ne_eqb _ _ other)
+    ∙ ap Err (omega (arith, length-drop (i + 1) bytes))
+
+pub literal_none : (wanted bytes : List ℕ) (i d : ℕ) → i < length wanted → length bytes ≤ i → literal_at (drop i wanted) (drop i bytes) ≡ Err 0
+unfolding literal_at
+literal_none wanted bytes i d lt le = ap (λ l. literal_at l (drop i bytes)) (drop_more wanted i d lt) ∙ ap (literal_at (get_or wanted i d ∷ drop (i + 1) wanted)) (drop_of_length-le bytes le)
+
+pub literal_end : (wanted bytes : List ℕ) (i : ℕ) → length wanted ≤ i → literal_at (drop i wanted) (drop i bytes) ≡ Ok (drop i bytes)
+unfolding literal_at
+literal_end wanted bytes i le = ap (λ l. literal_at l (drop i bytes)) (drop_of_length-le wanted le)
+
+-- Kept bodies that follow.
+
+item : (kept : List Body) (i : ℕ) (k : Body) → i < length kept → k ≡ get_or kept i k → drop i kept ≡ k ∷ drop (i + 1) kept
+item kept i k lt is = drop_more kept i k lt ∙ ap (λ x. x ∷ drop (i + 1) kept) (sym is)
+
+abbrev pub come_at : ℕ → World → List Body → Come
+come_at next w kept = record { next = next; world = w; kept = kept }
+
+pub followed_none : (kept : List Body) (next : ℕ) (w : World) → kept ≡ [] → followed kept next w ≡ come_at next w kept
+unfolding followed
+followed_none kept next w none = ap (λ l. followed l next w) none ∙ ap (come_at next w) (sym none)
+
+pub followed_other : (kept rest : List Body) (k : Body) (next : ℕ) (w : World) → kept ≡ k ∷ rest → k.number ≢ next → followed kept next w ≡ come_at next w kept
+unfolding followed
+followed_other kept rest k next w is other = ap (λ l. followed l next w) is ∙ cond-false (eqb k.number next) _ _ (ne_eqb _ _ other) ∙ ap (come_at next w) (sym is)
+
+abbrev pub laid_next : List Body → ℕ → World → Option World → Come
+laid_next kept next w None = come_at next w kept
+laid_next kept next w (Some v) = followed kept (after_number next) v
+
+pub followed_next : (kept rest : List Body) (k : Body) (next : ℕ) (w : World) (o : Option World) → kept ≡ k ∷ rest → k.number ≡ next → laid_in k.version k.payload w ≡ o
+    → followed kept next w ≡ laid_next rest next w o
+unfolding followed
+followed_next kept rest k next w o is same lays = ap (λ l. followed l next w) is ∙ cond-true (eqb k.number next) _ _ (eq-eqb _ _ same) ∙ by (laid_in k.version k.payload w) ∙ ap (laid_next rest next w) lays
+  where
+    by : (o : Option World) → elim o as (λ _. Come) [ None ↦ come_at next w rest | Some v ↦ followed rest (after_number next) v ] ≡ laid_next rest next w o
+    by None = refl
+    by (Some v) = refl
+
+-- Where a body stands.
+
+pub place_more : (kept : List Body) (i : ℕ) (k b : Body) (next : ℕ) → i < length kept → k ≡ get_or kept i k → ahead next k.number < ahead next b.number
+    → take i kept ++ kept_with next b (drop i kept) ≡ take (i + 1) kept ++ kept_with next b (drop (i + 1) kept)
+unfolding kept_with
+place_more kept i k b next lt is near =
+    ap (λ l. take i kept ++ l) (ap (kept_with next b) (item kept i k lt is) ∙ cond-true (ltb (ahead next k.number) (ahead next b.number)) _ _ (lt-ltb _ _ near))
+    ∙ sym (append_assoc (take i kept) (k ∷ []) (kept_with next b (drop (i + 1) kept)))
+    ∙ ap (λ l. l ++ kept_with next b (drop (i + 1) kept)) (ap (λ x. take i kept ++ x ∷ []) is ∙ sym (take_more kept i k lt))
+
+pub place_here : (kept : List Body) (i : ℕ) (k b : Body) (next : ℕ) → i < length kept → k ≡ get_or kept i k → ahead next b.number ≤ ahead next k.number
+    → kept_with next b (drop i kept) ≡ b ∷ drop i kept
+unfolding kept_with
+place_here kept i k b next lt is far =
+    ap (kept_with next b) (item kept i k lt is) ∙ cond-false (ltb (ahead next k.number) (ahead next b.number)) _ _ (le-ltb _ _ far) ∙ ap (λ l. b ∷ l) (sym (item kept i k lt is))
+
+pub place_end : (kept : List Body) (i : ℕ) (b : Body) (next : ℕ) → length kept ≤ i → kept_with next b (drop i kept) ≡ b ∷ drop i kept
+unfolding kept_with
+place_end kept i b next le = ap (kept_with next b) (drop_of_length-le kept le) ∙ ap (λ l. b ∷ l) (sym (drop_of_length-le kept le))
+
+-- An item that is seen so.
+pub seen_at : (kept : List Body) (i : ℕ) (v k : Body) → v ≡ k → k ≡ get_or kept i k → v ≡ get_or kept i v
+seen_at kept i v k is at = is ∙ at ∙ ap (get_or kept i) (sym is)

@@ -1,0 +1,5 @@
+pub mod inner
+pub mod Bodies
+pub mod Laying
+pub mod Mirrors
+pub mod Fronts

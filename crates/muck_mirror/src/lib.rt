@@ -1,0 +1,13 @@
+//! A mirror of a store, which follows it by its batches: with loss, with repeats and in any order.
+#![tactic(auto)]
+
+mod body;
+mod feeding;
+mod laws;
+mod mirror;
+mod start;
+mod world;
+
+pub use laws::holds_front;
+pub use mirror::{Fed, Mirror};
+pub use world::World;

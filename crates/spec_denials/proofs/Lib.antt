@@ -1,0 +1,11 @@
+pub mod Words
+pub mod Local
+pub mod Formulas
+pub mod Naming
+pub mod Properties
+pub mod Objects
+pub mod Shared
+pub mod Processes
+pub mod Units
+pub mod Starts
+pub mod Histories

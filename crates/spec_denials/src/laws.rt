@@ -1,0 +1,71 @@
+// The laws of denials.
+ghost use Rattle.std.specs.Prelude.{List, Option, ℕ};
+ghost use Rattle.muck_model.specs.declared.event.Entry.{Entry};
+ghost use Rattle.muck_model.specs.declared.dbref.Dbref.{Dbref};
+ghost use Rattle.mpi.specs.Variables.{Variables};
+ghost use Rattle.spec_live.specs.Connections.{Connection};
+ghost use Rattle.spec_live.specs.Lives.{Live};
+ghost use Rattle.spec_rights.specs.declared.act.Actor.{Actor};
+ghost use Rattle.muf_model.specs.declared.prims.Primitive.{Primitive};
+ghost use Rattle.muf_model.specs.declared.prims.Primitive.TheVariants.{NextProp};
+ghost use Rattle.muf_model.specs.Answer.{Scope};
+ghost use Rattle.muf_model.specs.Datum.{Datum};
+ghost use Rattle.muf_model.specs.Rows.{primitive};
+ghost use Rattle.muf_model.specs.Source.{Source};
+ghost use Rattle.muf_model.specs.Unit.{unit};
+ghost use Rattle.muck_queue.specs.Queues.{Queue};
+ghost use Rattle.spec_mpi.specs.Messages.{heard};
+ghost use Rattle.spec_prims.specs.Formulas.{answers_for, is_formula};
+ghost use Rattle.spec_prims.specs.Shared.{shared};
+ghost use Rattle.spec_processes.specs.declared.place.Place.{Place};
+ghost use Rattle.spec_processes.specs.ProcessRows.{processed};
+ghost use Rattle.spec_events.specs.World.{World};
+ghost use Rattle.spec_events.specs.Lines.{done};
+ghost use Rattle.spec_denials.specs.Plain.{NotDenied, EndsPlain};
+ghost use Rattle.spec_denials.specs.Notes.{AnswerNames};
+ghost use Rattle.spec_denials.specs.Acts.{acts_of};
+ghost use Rattle.spec_denials.specs.Asked.{first_denied, RowNames, RowLists, Breaks};
+ghost use Rattle.spec_denials.specs.Processes.{process_acts, EffectNames};
+ghost use Rattle.spec_denials.specs.Starts.{LineStarts};
+ghost use Rattle.spec_denials.specs.Denials.{AllDenialsNamed};
+
+/// Says what each primitive of objects, of properties and of talk asks leave for. Where it is denied, the first of these acts that is
+/// denied is so by that rule; where it gives something, each of them is allowed. What NEXTPROP lists may be read. It does nothing.
+#[tactic(auto, using(crate::proofs::Shared::shared_names, crate::proofs::Shared::next_lists))]
+pub fn primitives_ask()
+    ensures asked { (p : Primitive) (a : Actor) (descr : Option ℕ) (locked : ℕ) (stack : List Datum) (w : Live) →
+        RowNames (Breaks (is_formula p) (answers_for p a w.objects)) (first_denied w.objects a (acts_of p stack w.objects)) (shared p a descr locked stack w) }
+    ensures listed { (a : Actor) (descr : Option ℕ) (locked : ℕ) (stack : List Datum) (w : Live) → RowLists a w.objects stack (shared NextProp a descr locked stack w) }
+{}
+
+/// Says the same of each primitive of processes. It does nothing.
+#[tactic(auto, using(crate::proofs::Processes::processed_names))]
+pub fn processes_ask()
+    ensures asked { (p : Primitive) (x : Place) (a : Actor) (locked : ℕ) (stack : List Datum) (w : Live) (q : Queue) →
+        EffectNames (first_denied w.objects a (process_acts p stack q)) (processed p x a locked stack w q) }
+{}
+
+/// Says of a message that is denied something that who acts is denied a reading or a writing of a property, in the world that it leaves. It does nothing.
+#[tactic(auto, using(crate::proofs::Formulas::heard_denied))]
+pub fn messages_name()
+    ensures named { (a : Actor) (this : Dbref) (text : List ℕ) (vars : Variables) (w : Live) → AnswerNames a (heard a this text vars w).1.objects (heard a this text vars w).0 }
+{}
+
+/// Says that no word which needs no world is denied, and that no unit without a shared primitive ends by a denial. It does nothing.
+#[tactic(auto, using(crate::proofs::Words::words_plain, crate::proofs::Local::unit_plain))]
+pub fn words_deny_nothing()
+    ensures words { (p : Primitive) (s : Scope) (stack : List Datum) → NotDenied (primitive p s stack) }
+    ensures units { (s : Source) → EndsPlain (unit s) }
+{}
+
+/// Says of a program that a line starts that its player may start it. It does nothing.
+#[tactic(auto, using(crate::proofs::Starts::line_starts))]
+pub fn lines_ask()
+    ensures starts { (d : ℕ) (o : Option Connection) (w : World) → LineStarts w (done d o w) }
+{}
+
+/// Says it of each unit that slices take in a history, and of what its lines start. It does nothing.
+#[tactic(auto, using(crate::proofs::Histories::all_denials_named))]
+pub fn denials_named()
+    ensures named { (w : World) (entries : List Entry) → AllDenialsNamed w entries }
+{}

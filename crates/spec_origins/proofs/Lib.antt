@@ -1,0 +1,17 @@
+mod Seats
+mod Words
+mod Shared
+mod Keepers
+mod Going
+mod Lapsing
+mod Rows
+mod Units
+mod Lines
+mod Tied
+pub mod Histories
+mod Seating
+mod Seated
+pub mod Waiting
+mod Outcomes
+pub mod Stopping
+pub mod Clearing

@@ -1,0 +1,4 @@
+pub mod Origins
+pub mod Seats
+pub mod Stops
+pub mod Clearing
