@@ -11,3 +11,5 @@ pub mod Exits
 pub mod Meanings
 pub mod Alike
 pub mod Takings
+pub mod Layered
+pub mod Renewals

@@ -13,7 +13,7 @@ use Rattle.muf_token.specs.Pieces.{lowered, pieces}
 use Rattle.muf_token.specs.Expansion.{Definitions}
 use Rattle.muf_token.specs.Source.{with_all}
 
-laws : IsEquivalence bytes_eq
+pub laws : IsEquivalence bytes_eq
 laws = nat_list_eq_equiv
 
 module _ {X : Type 0} where

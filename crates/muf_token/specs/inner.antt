@@ -1,4 +1,5 @@
 pub mod Bytes
+pub mod Layers
 pub mod Lenders
 pub mod Places
 pub mod Readers

@@ -2,18 +2,16 @@
 ghost use Rattle.std.specs.Prelude.{◌≡◌, ◌∷◌};
 ghost use Rattle.muf_token.specs.Expansion.{is_directive, expanded};
 ghost use Rattle.muf_token.specs.Output.{Leads};
+ghost use Rattle.muf_token.specs.inner.Layers.{told};
 
 use crate::fault::refused;
+use crate::layers::Layers;
 use crate::number::kind_of;
 use crate::output::Output;
 use crate::piece::Piece;
 use crate::{FaultKind, TokenFault, TokenKind};
-use indexmap::IndexMap;
-use muck_model::{Line, Row};
+use muck_model::Line;
 use std::alloc::Global;
-
-/// Names in lower case, each with the pieces of its definition.
-pub(crate) type Definitions = IndexMap<Line, Row<Piece>>;
 
 /// Whether a word asks for a directive.
 pub(crate) fn is_directive(word: &Line) -> bool
@@ -26,13 +24,13 @@ pub(crate) fn is_directive(word: &Line) -> bool
 #[tactic(auto, unfolding(crate::specs::Expansion::expanded))]
 pub(crate) fn expand(
     alloc: Global,
-    definitions: &Definitions,
+    definitions: &Layers,
     line: u32,
     piece: &Piece,
     deeper: usize,
     out: &mut Output,
 ) -> Result<(), TokenFault>
-    ensures { Leads (expanded deeper definitions.now.entries line piece.now out.old) result out.new }
+    ensures { Leads (expanded deeper (told definitions.now) line piece.now out.old) result out.new }
 {
     let word = match piece {
         Piece::Broken(kind) => return Err(refused(line, *kind)),

@@ -8,6 +8,7 @@ mod directive;
 mod expansion;
 mod fault;
 mod includes;
+mod layers;
 mod memory;
 mod number;
 mod output;

@@ -1,31 +1,30 @@
 // What is known at a place of a source, and how one piece changes it.
 ghost use Rattle.muf_token.specs.declared.token.Token.{Token};
 ghost use Rattle.muf_token.specs.Branches.{outermost};
-ghost use Rattle.std.specs.Prelude.{List, ◌≡◌, ◌++◌, ◌∷◌, [], OnOk, OnErr, IfOk, not, if◌then◌else◌, true, false};
+ghost use Rattle.std.specs.Prelude.{List, Option, ◌≡◌, ◌++◌, ◌∷◌, [], OnOk, OnErr, IfOk, not, if◌then◌else◌, true, false};
 ghost use Rattle.muf_token.specs.Output.{Leads};
 ghost use Rattle.muf_token.specs.Directives.{name_at, body_at, directive_of};
 ghost use Rattle.muck_model.specs.declared.dbref.Dbref.{Dbref};
 ghost use Rattle.muf_token.specs.Numbers.{kind_of};
-ghost use Rattle.muf_token.specs.Pieces.{lowered, pieces};
+ghost use Rattle.muf_token.specs.Pieces.{pieces};
 ghost use Rattle.muf_token.specs.inner.Spots.{spot_of, name_of, IsAnswer};
-ghost use Rattle.muf_token.specs.Source.{with_definition, def_at, define_at, undef_at, is_defined, with_branch, conditional_at, else_at, endif_at, object_of, with_all, included, include_at, directed, passed, put_out, taken, skipped, stepped, words_unless, nothing_known};
-ghost use Rattle.muf_token.specs.inner.Readers.{state_of, LeadsTo, LeadsOn, IsRead, AreKept, AreTaken};
-ghost use Rattle.std.specs.List.{IsDistinct};
-ghost use Rattle.std.specs.Map.{keys_of};
-ghost use Rattle.std.specs.Str.{bytes_eq};
+ghost use Rattle.muf_token.specs.Source.{with_definition, def_at, define_at, undef_at, is_defined, with_branch, conditional_at, else_at, endif_at, object_of, include_at, directed, passed, put_out, taken, skipped, stepped, words_unless, nothing_known};
+ghost use Rattle.muf_token.specs.inner.Readers.{state_of, LeadsTo, LeadsOn, IsRead, AreKept, Readies, SayTheSame};
+ghost use Rattle.muf_token.specs.inner.Layers.{AreTaken, IsTimed, LendsOn};
+ghost use Rattle.muf_token.specs.declared.includes.Definition.{Definition};
 
 use crate::branch::{Branch, Branches};
 use crate::definition::pieces_of;
 use crate::directive::{Directive, Name, body_at, directive_of, name_at};
-use crate::expansion::{Definitions, expand, is_directive};
+use crate::expansion::{expand, is_directive};
 use crate::fault::refused;
-use crate::includes::{Definition, Includes};
+use crate::includes::Includes;
+use crate::layers::Layers;
 use crate::number::kind_of;
 use crate::output::Output;
 use crate::piece::Piece;
-use crate::place::{Found, Place, lower_text};
+use crate::place::{Found, Place};
 use crate::{FaultKind, TokenFault, TokenKind, TokenList};
-use indexmap::IndexMap;
 use muck_model::{Dbref, Line, NoMemory, Row};
 use std::alloc::Global;
 
@@ -35,29 +34,9 @@ const DEPTH_MOST: usize = 64;
 /// What is known at a place of a source: the definitions, the conditionals that are open, and the words so far.
 #[derive(Drop)]
 pub(crate) struct Reader {
-    pub definitions: Definitions,
+    pub definitions: Layers,
     pub branches: Branches,
     pub out: Output,
-    /// The object whose definitions were taken last, where none was made or taken away since.
-    pub last: Option<Dbref>,
-}
-
-// A word in lower case.
-#[tactic(auto, using(crate::proofs::Texts::line_parts))]
-fn lower_line(alloc: Global, word: &Line) -> Result<Line, NoMemory>
-    ensures { IfOk result (λ line. line ≡ lowered word.now) }
-{
-    let line = lower_text(alloc, word.as_slice())?;
-    Ok(line)
-}
-
-// The pieces of a text.
-#[tactic(auto, using(crate::proofs::Texts::line_parts))]
-fn line_pieces(alloc: Global, text: &Line) -> Result<Row<Piece>, NoMemory>
-    ensures { IfOk result (λ list. list ≡ pieces text.now) }
-{
-    let list = pieces_of(alloc, text.as_slice())?;
-    Ok(list)
 }
 
 // The object that `$include` names.
@@ -73,30 +52,29 @@ fn object_of(alloc: Global, line: u32, name: &Name<'_>) -> Result<Dbref, TokenFa
 
 impl Reader {
     /// Nothing is known.
-    #[tactic(auto, using(crate::proofs::Takings::takings))]
+    #[tactic(auto, using(crate::proofs::Renewals::takings))]
     pub fn new(alloc: Global) -> Result<Reader, NoMemory>
         ensures known { IfOk result (λ r. state_of r ≡ nothing_known) }
-        ensures taken { IfOk result (λ r. (r.last ≡ None) × IsDistinct bytes_eq (keys_of r.definitions.entries)) }
+        ensures taken { IfOk result (λ r. (lent : Dbref → Option (List Definition)) → AreTaken lent r.definitions) }
     {
         Ok(Reader {
-            definitions: IndexMap::new(alloc),
+            definitions: Layers::new(alloc),
             branches: Branches::new(alloc),
             out: Output {
                 words: Row::new(alloc)?,
                 uses: 0,
             },
-            last: None,
         })
     }
 
     // Defines a name, in place of what it stood for.
-    fn define(&mut self, name: Line, body: Row<Piece>) -> Result<(), NoMemory>
-        ensures defined { OnOk result (state_of self.new ≡ with_definition name body (state_of self.old)) }
-        ensures fresh { OnOk result ((self.new.last ≡ None) × IsDistinct bytes_eq (keys_of self.new.definitions.entries)) }
+    #[tactic(auto, using(crate::proofs::Renewals::takings))]
+    fn define(&mut self, alloc: Global, name: Line, body: Row<Piece>) -> Result<(), NoMemory>
+        requires { IsTimed self.old.definitions }
+        ensures defined { OnOk result (SayTheSame (with_definition name body (state_of self.old)) (state_of self.new)) }
+        ensures kept { OnOk result (LendsOn self.old.definitions self.new.definitions) }
     {
-        self.last = None;
-        self.definitions.insert(name, body)?;
-        Ok(())
+        self.definitions.set(alloc, name, Some(body))
     }
 
     // `$def name text`, up to the end of the line.
@@ -106,13 +84,14 @@ impl Reader {
         line: u32,
         place: Place<'a>,
     ) -> Result<Place<'a>, TokenFault>
-        ensures leads { LeadsTo (def_at line (state_of self.old) (spot_of place.entry)) result (state_of self.new) }
-        ensures fresh { OnOk result ((self.new.last ≡ None) × IsDistinct bytes_eq (keys_of self.new.definitions.entries)) }
+        requires { IsTimed self.old.definitions }
+        ensures leads { LeadsOn (def_at line (state_of self.old) (spot_of place.entry)) result (state_of self.new) }
+        ensures kept { OnOk result (LendsOn self.old.definitions self.new.definitions) }
     {
         let name = name_at(alloc, line, place)?;
         let body = pieces_of(alloc, name.behind.here)?;
         let behind = name.behind.end_of_line();
-        self.define(name.name, body)?;
+        self.define(alloc, name.name, body)?;
         Ok(behind)
     }
 
@@ -123,30 +102,30 @@ impl Reader {
         line: u32,
         place: Place<'a>,
     ) -> Result<Place<'a>, TokenFault>
-        ensures leads { LeadsTo (define_at line (state_of self.old) (spot_of place.entry)) result (state_of self.new) }
-        ensures fresh { OnOk result ((self.new.last ≡ None) × IsDistinct bytes_eq (keys_of self.new.definitions.entries)) }
+        requires { IsTimed self.old.definitions }
+        ensures leads { LeadsOn (define_at line (state_of self.old) (spot_of place.entry)) result (state_of self.new) }
+        ensures kept { OnOk result (LendsOn self.old.definitions self.new.definitions) }
     {
         let name = name_at(alloc, line, place)?;
         let (body, behind) = body_at(alloc, line, name.behind)?;
-        self.define(name.name, body)?;
+        self.define(alloc, name.name, body)?;
         Ok(behind)
     }
 
     // `$undef name`.
-    #[tactic(auto, using(crate::proofs::Takings::takings))]
+    #[tactic(auto, using(crate::proofs::Renewals::takings))]
     fn take_undef<'a>(
         &mut self,
         alloc: Global,
         line: u32,
         place: Place<'a>,
     ) -> Result<Place<'a>, TokenFault>
-        requires { IsDistinct bytes_eq (keys_of self.old.definitions.entries) }
+        requires { IsTimed self.old.definitions }
         ensures leads { LeadsOn (undef_at line (state_of self.old) (spot_of place.entry)) result (state_of self.new) }
-        ensures fresh { OnOk result ((self.new.last ≡ None) × IsDistinct bytes_eq (keys_of self.new.definitions.entries)) }
+        ensures kept { OnOk result (LendsOn self.old.definitions self.new.definitions) }
     {
         let name = name_at(alloc, line, place)?;
-        self.last = None;
-        self.definitions.swap_remove(&name.name);
+        self.definitions.set(alloc, name.name, None)?;
         Ok(name.behind)
     }
 
@@ -162,7 +141,7 @@ impl Reader {
         ensures same { OnOk result (AreKept self.old self.new) }
     {
         let name = name_at(alloc, line, place)?;
-        let defined = self.definitions.contains_key(&name.name);
+        let defined = self.definitions.get(&name.name).is_some();
         let taken = if wanted { defined } else { !defined };
         self.branches.open(Branch {
             line,
@@ -190,51 +169,30 @@ impl Reader {
         Ok(())
     }
 
-    // These definitions in turn.
-    fn define_all(&mut self, alloc: Global, list: &[Definition]) -> Result<(), NoMemory>
-        ensures { OnOk result (state_of self.new ≡ record (state_of self.old) { definitions = with_all list.now self.old.definitions.entries }) }
-    {
-        for definition in list {
-            let name = lower_line(alloc, &definition.name)?;
-            let body = line_pieces(alloc, &definition.text)?;
-            self.define(name, body)?;
-        }
-        Ok(())
-    }
-
-    // Whether the definitions of this object were taken last.
-    fn is_last(&self, object: Dbref) -> bool
-        ensures { result ≡ true → self.now.last ≡ Some object }
-    {
-        match self.last {
-            Some(last) => last == object,
-            None => false,
-        }
-    }
-
-    // The definitions that an object lends.
-    #[tactic(auto, using(crate::proofs::Takings::takings))]
-    fn take_all<I: Includes>(
+    // The definitions of an object are there, which are taken where it wasn't included yet.
+    #[tactic(auto, using(crate::proofs::Renewals::takings))]
+    fn ready<I: Includes>(
         &mut self,
         alloc: Global,
         include: &I,
         line: u32,
         object: Dbref,
     ) -> Result<(), TokenFault>
-        requires { AreTaken (I.lent include.now) self.old.definitions.entries self.old.last }
-        ensures leads { Leads (included line (state_of self.old) (I.lent include.now object)) result (state_of self.new) }
-        ensures taken { OnOk result (AreTaken (I.lent include.now) self.new.definitions.entries self.new.last) }
+        requires { AreTaken (I.lent include.now) self.old.definitions }
+        ensures { Readies (I.lent include.now) line object self.old self.new result }
     {
+        if self.definitions.knows(object.0) {
+            return Ok(());
+        }
         let Some(list) = include.defs(alloc, object)? else {
             return Err(refused(line, FaultKind::UnknownInclude));
         };
-        self.define_all(alloc, list.as_slice())?;
-        self.last = Some(object);
+        self.definitions.lend_all(alloc, object.0, list.as_slice())?;
         Ok(())
     }
 
     // `$include #N`.
-    #[tactic(auto, using(crate::proofs::Takings::takings))]
+    #[tactic(auto, using(crate::proofs::Renewals::takings))]
     fn take_include<'a, I: Includes>(
         &mut self,
         alloc: Global,
@@ -242,21 +200,19 @@ impl Reader {
         line: u32,
         place: Place<'a>,
     ) -> Result<Place<'a>, TokenFault>
-        requires { AreTaken (I.lent include.now) self.old.definitions.entries self.old.last }
+        requires { AreTaken (I.lent include.now) self.old.definitions }
         ensures leads { LeadsOn (include_at (I.lent include.now) line (state_of self.old) (spot_of place.entry)) result (state_of self.new) }
-        ensures taken { OnOk result (AreTaken (I.lent include.now) self.new.definitions.entries self.new.last) }
+        ensures taken { OnOk result (AreTaken (I.lent include.now) self.new.definitions) }
     {
         let name = name_at(alloc, line, place)?;
         let object = object_of(alloc, line, &name)?;
-        if self.is_last(object) {
-            return Ok(name.behind);
-        }
-        self.take_all(alloc, include, line, object)?;
+        self.ready(alloc, include, line, object)?;
+        self.definitions.renew(object.0)?;
         Ok(name.behind)
     }
 
     // A directive, where words are read.
-    #[tactic(auto, using(crate::proofs::Takings::takings))]
+    #[tactic(auto, using(crate::proofs::Renewals::takings))]
     fn take_directive<'a, I: Includes>(
         &mut self,
         alloc: Global,
@@ -265,9 +221,9 @@ impl Reader {
         directive: Option<Directive>,
         place: Place<'a>,
     ) -> Result<Place<'a>, TokenFault>
-        requires { AreTaken (I.lent include.now) self.old.definitions.entries self.old.last }
+        requires { AreTaken (I.lent include.now) self.old.definitions }
         ensures leads { LeadsOn (directed (I.lent include.now) line directive (state_of self.old) (spot_of place.entry)) result (state_of self.new) }
-        ensures taken { OnOk result (AreTaken (I.lent include.now) self.new.definitions.entries self.new.last) }
+        ensures taken { OnOk result (AreTaken (I.lent include.now) self.new.definitions) }
     {
         match directive {
             Some(Directive::Def) => self.take_def(alloc, line, place),
@@ -326,7 +282,7 @@ impl Reader {
     }
 
     // A piece where words are read.
-    #[tactic(auto, using(crate::proofs::Takings::takings))]
+    #[tactic(auto, using(crate::proofs::Renewals::takings))]
     fn take_here<'a, I: Includes>(
         &mut self,
         alloc: Global,
@@ -335,9 +291,9 @@ impl Reader {
         piece: &Piece,
         place: Place<'a>,
     ) -> Result<Place<'a>, TokenFault>
-        requires { AreTaken (I.lent include.now) self.old.definitions.entries self.old.last }
+        requires { AreTaken (I.lent include.now) self.old.definitions }
         ensures leads { LeadsOn (taken (I.lent include.now) line piece.now (state_of self.old) (spot_of place.entry)) result (state_of self.new) }
-        ensures taken { OnOk result (AreTaken (I.lent include.now) self.new.definitions.entries self.new.last) }
+        ensures taken { OnOk result (AreTaken (I.lent include.now) self.new.definitions) }
     {
         if let Piece::Word(word) = piece {
             if is_directive(word) {
@@ -360,7 +316,7 @@ impl Reader {
     }
 
     // One piece of the source at this line, with what it brings; then it goes on at the place that comes back.
-    #[tactic(auto, unfolding(crate::specs::Source::stepped), using(crate::proofs::Takings::takings))]
+    #[tactic(auto, unfolding(crate::specs::Source::stepped), using(crate::proofs::Renewals::takings))]
     fn take<'a, I: Includes>(
         &mut self,
         alloc: Global,
@@ -369,9 +325,9 @@ impl Reader {
         piece: &Piece,
         place: Place<'a>,
     ) -> Result<Place<'a>, TokenFault>
-        requires { AreTaken (I.lent include.now) self.old.definitions.entries self.old.last }
+        requires { AreTaken (I.lent include.now) self.old.definitions }
         ensures leads { LeadsOn (stepped (I.lent include.now) line piece.now (state_of self.old) (spot_of place.entry)) result (state_of self.new) }
-        ensures taken { OnOk result (AreTaken (I.lent include.now) self.new.definitions.entries self.new.last) }
+        ensures taken { OnOk result (AreTaken (I.lent include.now) self.new.definitions) }
     {
         if self.branches.is_taking() {
             return self.take_here(alloc, include, line, piece, place);
@@ -381,16 +337,16 @@ impl Reader {
     }
 
     /// Reads one piece from a place on, and says where it goes on; none where the source ends.
-    #[tactic(auto, using(crate::proofs::Sources::sources, crate::proofs::Takings::takings))]
+    #[tactic(auto, using(crate::proofs::Sources::sources, crate::proofs::Renewals::takings))]
     pub fn read<'a, I: Includes>(
         &mut self,
         alloc: Global,
         include: &I,
         place: Place<'a>,
     ) -> Result<Option<Place<'a>>, TokenFault>
-        requires { AreTaken (I.lent include.now) self.old.definitions.entries self.old.last }
+        requires { AreTaken (I.lent include.now) self.old.definitions }
         ensures read { IsRead (I.lent include.now) (state_of self.old) (spot_of place.entry) result (state_of self.new) }
-        ensures taken { OnOk result (AreTaken (I.lent include.now) self.new.definitions.entries self.new.last) }
+        ensures taken { OnOk result (AreTaken (I.lent include.now) self.new.definitions) }
     {
         let Some(
             Found {

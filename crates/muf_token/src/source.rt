@@ -13,7 +13,7 @@ use std::alloc::Global;
 
 /// The words of a source with their lines, where objects lend the definitions that `include` finds; or the first
 /// refusal. `NoMemory` says nothing of the source.
-#[tactic(auto, unfolding(crate::specs::Source::words), using(crate::proofs::Takings::takings))]
+#[tactic(auto, unfolding(crate::specs::Source::words), using(crate::proofs::Renewals::takings))]
 pub fn tokens<I: Includes>(
     alloc: Global,
     source: &[Line],

@@ -1,8 +1,5 @@
 -- What the program knows at a place of a source.
 use Rattle.std.specs.Prelude.{◌≡◌, ◌<◌, ℕ, length, List, Option, Some, None, Result, Ok, Err}
-use Rattle.std.specs.List.{IsDistinct}
-use Rattle.std.specs.Str.{bytes_eq}
-use Rattle.std.specs.Map.{lookup, keys_of}
 use Rattle.muf_token.specs.declared.fault.TokenFault.{TokenFault}
 use Rattle.muf_token.specs.declared.fault.TokenFault.TheVariants.{Refused, NoMemory}
 use Rattle.muf_token.specs.declared.place.Place.{Place}
@@ -12,12 +9,12 @@ use Rattle.muck_model.specs.declared.dbref.Dbref.{Dbref}
 use Rattle.muf_token.specs.declared.includes.Definition.{Definition}
 use Rattle.muf_token.specs.Branches.{outermost}
 use Rattle.muf_token.specs.Directives.{Spot}
-use Rattle.muf_token.specs.Expansion.{Definitions}
-use Rattle.muf_token.specs.Source.{State, Step, with_all, words_from, words_unless}
+use Rattle.muf_token.specs.Source.{State, Step, included, words_from, words_unless}
+use Rattle.muf_token.specs.inner.Layers.{told, IsReady}
 
 -- the definitions, the conditionals and the words of a reader
 abbrev pub state_of : Reader → State
-state_of r = record { definitions = r.definitions.entries; branches = r.branches; out = r.out }
+state_of r = record { definitions = told r.definitions; branches = r.branches; out = r.out }
 
 -- the answer of a call that changes what is known, and goes on at a place; want of memory says nothing
 abbrev pub LeadsTo : Step → Result Place TokenFault → State → Type 0
@@ -43,15 +40,12 @@ LeadsOn step (Ok place) now = (after : State) × (step ≡ Ok (after, spot_of pl
 LeadsOn step (Err (Refused refusal)) now = step ≡ Err refusal
 LeadsOn step (Err NoMemory) now = Unit {0}
 
+-- the answer of a call that readies the definitions of an object, and then goes on; where it lends none, the `$include` is refused
+abbrev pub Readies : (Dbref → Option (List Definition)) → ℕ → Dbref → Reader → Reader → Result (Unit {0}) TokenFault → Type 0
+Readies lent line d old new (Ok x) = IsReady lent d old.definitions new.definitions × (new.branches ≡ old.branches) × (new.out ≡ old.out)
+Readies lent line d old new (Err (Refused refusal)) = included line (state_of old) (lent d) ≡ Err refusal
+Readies lent line d old new (Err NoMemory) = Unit {0}
+
 -- no definition was made or taken away
 abbrev pub AreKept : Reader → Reader → Type 0
-AreKept old new = (new.definitions.entries ≡ old.definitions.entries) × (new.last ≡ old.last)
-
--- where this object lends definitions, they are among these, and each is as it lends it
-abbrev pub AreLentBy : (Dbref → Option (List Definition)) → Definitions → Option Dbref → Type 0
-AreLentBy lent definitions None = Unit {0}
-AreLentBy lent definitions (Some d) = (list : List Definition) × (lent d ≡ Some list) × ((q : List ℕ) → lookup (bytes_eq q) (with_all list definitions) ≡ lookup (bytes_eq q) definitions)
-
--- no name stands twice, and the definitions of the object that was taken last are all there
-abbrev pub AreTaken : (Dbref → Option (List Definition)) → Definitions → Option Dbref → Type 0
-AreTaken lent definitions last = IsDistinct bytes_eq (keys_of definitions) × AreLentBy lent definitions last
+AreKept old new = new.definitions ≡ old.definitions

@@ -8,4 +8,4 @@ returns-in-Text t c = leads_by _ _ c.put.result c.put.new.self (rw (c.in-Text.is
 pub returns-in_default : goal.returns-in_default
 returns-in_default t c =
     leads_by _ _ c.put-in_default.result c.put-in_default.new.self
-    (rw (c.in-Word.is, c.in_ok-kind_of.ensures) (expanded_plain _ _ _ _ _ (sym c.is_directive.ensures ∙ c.if-is_directive.false) (sym c.in_default.ensures.value))) c.put-in_default.ensures
+    (rw (c.in-Word.is, c.in_ok-kind_of.ensures) (expanded_plain _ _ _ _ _ (sym c.is_directive.ensures ∙ c.if-is_directive.false) (sym c.in_default.ensures))) c.put-in_default.ensures

@@ -1,7 +1,8 @@
 use Rattle.std.proofs.Common.{◌≡◌, length}
 use Rattle.muf_token.specs.inner.Places.{text_at}
 use Rattle.muf_token.specs.inner.Spots.{spot_of}
-use Rattle.muf_token.specs.inner.Readers.{state_of, AreTaken}
+use Rattle.muf_token.specs.inner.Readers.{state_of}
+use Rattle.muf_token.specs.inner.Layers.{AreTaken}
 use Rattle.muf_token.specs.Source.{words_from, words}
 use Rattle.muf_token.proofs.source.tokens.Given as goal
 
@@ -9,7 +10,7 @@ use Rattle.muf_token.proofs.source.tokens.Given as goal
 abbrev pub invariant-loop-reader : goal.invariant-loop-reader
 invariant-loop-reader g l = record {
   words : words_from (g.I.Includes.lent l.include) (state_of l.reader) (spot_of l.place) ≡ words (g.I.Includes.lent l.include) l.source;
-  taken : AreTaken (g.I.Includes.lent l.include) l.reader.definitions.entries l.reader.last;
+  taken : AreTaken (g.I.Includes.lent l.include) l.reader.definitions;
 }
 
 abbrev pub decreases-loop-reader : goal.decreases-loop-reader

@@ -1,0 +1,5 @@
+use Rattle.std.proofs.Common.{rules}
+use Rattle.muf_token.proofs.source.tokens.Goals as goal
+
+pub loop-reader-init : goal.loop-reader-init
+loop-reader-init g c = record { words = search rules; taken = c.in_ok-reader.ensures.taken (g.I.Includes.lent c.args.include.now) }
