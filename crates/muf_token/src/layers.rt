@@ -13,7 +13,7 @@ use crate::includes::Definition;
 use crate::piece::Piece;
 use crate::place::lower_text;
 use indexmap::IndexMap;
-use muck_model::{Line, NoMemory, Row};
+use muck_model::{Dbref, Line, NoMemory, Row};
 use std::alloc::Global;
 
 /// What an object lends to a name.
@@ -168,11 +168,11 @@ impl Layers {
     pub fn lend_all(
         &mut self,
         alloc: Global,
-        object: i32,
+        object: Dbref,
         list: &[Definition],
     ) -> Result<(), NoMemory>
         requires { IsDistinct bytes_eq (keys_of self.old.names.entries) }
-        ensures lents { OnOk result ((q : List ℕ) → lents self.new q ≡ lents self.old q ++ lents_of object list.now q) }
+        ensures lents { OnOk result ((q : List ℕ) → lents self.new q ≡ lents self.old q ++ lents_of object.0 list.now q) }
         ensures own { OnOk result ((q : List ℕ) → own self.new q ≡ own self.old q) }
         ensures one { OnOk result (IsDistinct bytes_eq (keys_of self.new.names.entries)) }
         ensures stamps { OnOk result (self.new.stamps ≡ self.old.stamps) }
@@ -181,26 +181,30 @@ impl Layers {
         for definition in list {
             let name = lower_line(alloc, &definition.name)?;
             let body = line_pieces(alloc, &definition.text)?;
-            self.lend(alloc, name, Lent { object, body })?;
+            let lent = Lent {
+                object: object.0,
+                body,
+            };
+            self.lend(alloc, name, lent)?;
         }
         Ok(())
     }
 
     /// Whether an object was included.
-    pub fn knows(&self, object: i32) -> bool
-        ensures { result ≡ is_some (stamp_at self.now object) }
+    pub fn knows(&self, object: Dbref) -> bool
+        ensures { result ≡ is_some (stamp_at self.now object.0) }
     {
-        self.stamps.contains_key(&object)
+        self.stamps.contains_key(&object.0)
     }
 
     /// What an object lends counts from now on.
-    pub fn renew(&mut self, object: i32) -> Result<(), NoMemory>
+    pub fn renew(&mut self, object: Dbref) -> Result<(), NoMemory>
         ensures names { OnOk result (self.new.names ≡ self.old.names) }
         ensures clock { OnOk result (self.new.clock ≡ self.old.clock + 1) }
-        ensures stamps { OnOk result ((d : ℤ) → stamp_at self.new d ≡ cond (int_eq object d) (Some (self.old.clock + 1)) (stamp_at self.old d)) }
+        ensures stamps { OnOk result ((d : ℤ) → stamp_at self.new d ≡ cond (int_eq object.0 d) (Some (self.old.clock + 1)) (stamp_at self.old d)) }
     {
         let stamp = self.tick()?;
-        self.stamps.insert(object, stamp)?;
+        self.stamps.insert(object.0, stamp)?;
         Ok(())
     }
 }

@@ -181,13 +181,13 @@ impl Reader {
         requires { AreTaken (I.lent include.now) self.old.definitions }
         ensures { Readies (I.lent include.now) line object self.old self.new result }
     {
-        if self.definitions.knows(object.0) {
+        if self.definitions.knows(object) {
             return Ok(());
         }
         let Some(list) = include.defs(alloc, object)? else {
             return Err(refused(line, FaultKind::UnknownInclude));
         };
-        self.definitions.lend_all(alloc, object.0, list.as_slice())?;
+        self.definitions.lend_all(alloc, object, list.as_slice())?;
         Ok(())
     }
 
@@ -207,7 +207,7 @@ impl Reader {
         let name = name_at(alloc, line, place)?;
         let object = object_of(alloc, line, &name)?;
         self.ready(alloc, include, line, object)?;
-        self.definitions.renew(object.0)?;
+        self.definitions.renew(object)?;
         Ok(name.behind)
     }
 

@@ -6,9 +6,9 @@ use Rattle.muf_token.proofs.layers.Layers.get.Goals as goal
 pub returns-in-Some : goal.returns-in-Some
 returns-in-Some c =
     let m = c.args.self.now in
-    c.meaning.ensures ∙ ap (mean_of m.stamps.entries) (rw c.in-Some.is at c.in-Some.ensures.value) ∙ sym (told_lookup m.stamps.entries m.names.entries c.args.name.now c.len-count.ensures.unique)
+    c.meaning.ensures ∙ ap (mean_of m.stamps.entries) c.in-Some.ensures.value ∙ sym (told_lookup m.stamps.entries m.names.entries c.args.name.now c.len-count.ensures.unique)
 
 pub returns-in-None : goal.returns-in-None
 returns-in-None c =
     let m = c.args.self.now in
-    ap (mean_of m.stamps.entries) (rw c.in-None.is at c.in-None.ensures.value) ∙ sym (told_lookup m.stamps.entries m.names.entries c.args.name.now c.len-count.ensures.unique)
+    ap (mean_of m.stamps.entries) c.in-None.ensures.value ∙ sym (told_lookup m.stamps.entries m.names.entries c.args.name.now c.len-count.ensures.unique)
