@@ -144,9 +144,11 @@ impl Layers {
         ensures mean { OnOk result ((q : List ℕ) → meant self.new q ≡ cond (bytes_eq name q) body (meant self.old q)) }
         ensures kept { OnOk result (LendsOn self.old self.new) }
     {
-        let Entry { lent, .. } = self.take_entry(alloc, &name)?;
+        let mut entry = self.take_entry(alloc, &name)?;
         let stamp = self.tick()?;
-        self.names.insert(name, Entry { stamp, body, lent })?;
+        entry.stamp = stamp;
+        entry.body = body;
+        self.names.insert(name, entry)?;
         Ok(())
     }
 
