@@ -1,5 +1,5 @@
 -- What names mean in layers: the newest of what the source says and of what objects lend.
-use Rattle.std.proofs.Common.{◌≡◌, ℕ, ◌+◌, ◌<◌, ◌≤◌, Bool, true, false, cond, nat_lt, List, [], ◌∷◌, ◌++◌, ℤ, Option, Some, None, refl, ap, sym, subst, ◌∙◌, arith, append_assoc}
+use Rattle.std.proofs.Common.{◌≡◌, ℕ, ◌<◌, ◌≤◌, Bool, true, false, cond, nat_lt, List, [], ◌∷◌, ◌++◌, ℤ, Option, Some, None, refl, ap, sym, ◌∙◌, arith}
 use Rattle.std.proofs.lemmas.Bool.Decides.{nat_tests}
 use Rattle.std.proofs.lemmas.Cmp.{int_eq_equiv}
 use Rattle.std.specs.Str.{bytes_eq}
@@ -12,7 +12,6 @@ use Rattle.muf_token.specs.declared.piece.Piece.{Piece}
 use Rattle.muf_token.specs.declared.layers.Lent.{Lent}
 use Rattle.muf_token.specs.declared.layers.Entry.{Entry}
 use Rattle.muf_token.specs.Pieces.{lowered, pieces}
-use Rattle.muf_token.specs.Expansion.{Definitions}
 use Rattle.muf_token.specs.inner.Layers.{Timed, at_time, newest, mean_of, with_meaning, told_in, lents_of, of_object, time_of}
 use Rattle.muf_token.proofs.Meanings.{laws}
 use Rattle.muf_token.proofs.Takings.{given}

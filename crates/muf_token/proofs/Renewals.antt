@@ -1,11 +1,10 @@
 -- What the source says, and an `$include`, in layers: both do what the definition says to what names mean.
-use Rattle.std.proofs.Common.{◌≡◌, ℕ, ◌+◌, ◌<◌, ◌≤◌, Bool, true, false, cond, is_some, List, [], ◌∷◌, ◌++◌, ℤ, Option, Some, None, Result, Ok, Err, OnOk, refl, ap, sym, subst, ◌∙◌, arith, append-nil, true≢false}
+use Rattle.std.proofs.Common.{◌≡◌, ℕ, ◌+◌, ◌≤◌, Bool, true, false, cond, is_some, List, [], ◌∷◌, ◌++◌, ℤ, Option, Some, None, Result, Ok, Err, OnOk, refl, ap, sym, subst, ◌∙◌, arith, append-nil, true≢false}
 use Rattle.std.proofs.lemmas.Int.{ints}
 use Rattle.std.specs.Str.{bytes_eq}
 use Rattle.std.specs.Ordering.{int_eq}
 use Rattle.std.specs.List.{IsDistinct}
 use Rattle.std.specs.Map.{lookup, keys_of, remove_entry}
-use Rattle.indexmap.specs.IndexMap.{insert_entry}
 use Rattle.muck_model.specs.declared.dbref.Dbref.{Dbref}
 use Rattle.muf_token.specs.declared.includes.Definition.{Definition}
 use Rattle.muf_token.specs.declared.piece.Piece.{Piece}
@@ -16,7 +15,7 @@ use Rattle.muf_token.specs.declared.layers.Layers.{Layers}
 use Rattle.muf_token.specs.Numbers.{kind_of}
 use Rattle.muf_token.specs.Output.{and_then}
 use Rattle.muf_token.specs.Directives.{Spot, Name, name_at}
-use Rattle.muf_token.specs.Source.{State, Step, with_definition, undef_at, object_of, with_all, included, include_at}
+use Rattle.muf_token.specs.Source.{State, with_definition, undef_at, object_of, with_all, included, include_at}
 use Rattle.muf_token.specs.inner.Spots.{spot_of}
 use Rattle.muf_token.specs.inner.Readers.{state_of, LeadsOn, SayTheSame}
 use Rattle.muf_token.specs.inner.Layers.{newest, lent_to, own_of, mean_of, entry_at, own, lents, stamp_at, meant, told, lents_of, of_object, time_of, IsTimed, HasAll, HasBy, AreTaken, LendsOn, IsReady}

@@ -1,8 +1,8 @@
 -- What a list of definitions gives to names, and steps that go on.
-use Rattle.std.proofs.Common.{◌≡◌, ℕ, Bool, true, false, cond, List, [], ◌∷◌, Option, Some, None, Result, Ok, Err, refl, ap, sym, subst, ◌∙◌}
+use Rattle.std.proofs.Common.{◌≡◌, ℕ, false, cond, List, [], ◌∷◌, Option, Some, Result, Ok, Err, refl, ap, ◌∙◌}
 use Rattle.std.specs.Str.{bytes_eq}
 use Rattle.std.specs.List.{IsDistinct}
-use Rattle.std.specs.Map.{lookup, keys_of, remove_entry}
+use Rattle.std.specs.Map.{lookup, keys_of}
 use Rattle.indexmap.specs.IndexMap.{insert_entry}
 use Rattle.muck_model.specs.declared.dbref.Dbref.{Dbref}
 use Rattle.muf_token.specs.declared.fault.Refusal.{Refusal}
@@ -17,11 +17,10 @@ use Rattle.muf_token.specs.Expansion.{Definitions}
 use Rattle.muf_token.specs.Output.{and_then}
 use Rattle.muf_token.specs.Directives.{Spot, Name, name_at}
 use Rattle.muf_token.specs.Branches.{is_taking}
-use Rattle.muf_token.specs.Source.{State, Step, undef_at, object_of, with_all, included, include_at, taken, skipped, stepped}
+use Rattle.muf_token.specs.Source.{State, Step, object_of, with_all, included, include_at, taken, skipped, stepped}
 use Rattle.muf_token.specs.inner.Spots.{spot_of}
 use Rattle.muf_token.specs.inner.Readers.{LeadsTo, LeadsOn}
-use Rattle.muf_token.proofs.Meanings.{lookup_inserted, distinct_inserted, distinct_removed, lookup_removed}
-use Rattle.muf_token.proofs.Alike.{words_alike}
+use Rattle.muf_token.proofs.Meanings.{lookup_inserted, distinct_inserted}
 
 -- what the list gives a name, where it gives it one, and else this
 abbrev pub given : List Definition → List ℕ → Option (List Piece) → Option (List Piece)

@@ -1,4 +1,4 @@
-use Rattle.std.proofs.Common.{None, ap, sym, ◌∙◌}
+use Rattle.std.proofs.Common.{ap, sym, ◌∙◌}
 use Rattle.muf_token.specs.inner.Layers.{mean_of}
 use Rattle.muf_token.proofs.Layered.{told_lookup}
 use Rattle.muf_token.proofs.layers.Layers.get.Goals as goal
