@@ -1,13 +1,14 @@
 -- What is made keeps to the licence.
 use Rattle.std.proofs.Common.{◌≡◌, ℕ, ◌==◌, suc, Bool, true, false, cond, List, [], ◌∷◌, ◌++◌, length, length-append, refl, sym, ◌∙◌, ap, subst, Option, Some, None, inl, inr, arith}
 use Rattle.muck_model.proofs.Dbrefs.{same_eq}
-use Rattle.std.specs.Prelude.{◌≤◌, Ok, Err, nat_lt, slice_get, min, nat_le, ◌||◌, ◌&&◌, is_some}
+use Rattle.std.specs.Prelude.{◌≤◌, ◌⊎◌, Ok, Err, nat_lt, slice_get, min, nat_le, ◌||◌, ◌&&◌, is_some}
 use Rattle.std.specs.Option.{option_map, option_and_then, option_map_or}
 use Rattle.std.proofs.lemmas.Bool.{cases_eq, or_right}
 use Rattle.std.proofs.lemmas.Bool.Decides.{nat_tests}
 use Rattle.muck_model.specs.declared.dbref.Dbref.{Dbref}
 use Rattle.muck_model.specs.declared.dbref.Kind.{Kind}
 use Rattle.muck_model.specs.declared.dbref.Kind.TheVariants.{Room, Thing, Exit, Player, Program}
+use Rattle.spec_live.specs.declared.mark.Mark.TheVariants.{Gone}
 use Rattle.spec_live.specs.declared.object.Object.{Object}
 use Rattle.spec_live.specs.Flags.{builder, jump, link}
 use Rattle.spec_live.specs.Objects.{Entry, dbref_of, nothing, home, same, is_garbage, object_in, list_in, mark_in, number_in, object_at, changed_at, on_object, with_object, garbage}
@@ -29,7 +30,7 @@ use Rattle.spec_rights.specs.Changing.{created_so}
 use Rattle.spec_rights.specs.Licence.{Freedom, Judge, IsNew, Differs, Reordered, as_before, front_open, SameLists, place_open}
 use Rattle.spec_rights.proofs.Lookups.{alive, seen_at, number_is}
 use Rattle.spec_rights.proofs.Listing.{reordered_moved}
-use Rattle.spec_rights.proofs.Telling.{source_at, Told}
+use Rattle.spec_rights.proofs.Telling.{source_at, is_there, never_both, Told}
 use Rattle.spec_rights.proofs.Rights.{SameRights, same_level}
 use Rattle.spec_rights.proofs.Licences.{judge, changed_same, mark_open, End}
 use Rattle.spec_rights.proofs.Allowed.{room_allowed, thing_allowed, exit_allowed, program_allowed, wizard_allowed}
@@ -178,10 +179,22 @@ marked_made k kind name owner finished to es =
     let made : List Entry = created k kind name owner to es in
     marked_both es made (set_at finished k made) (marked_created k kind name owner to es) (marked_set k finished made)
 
--- what is new has no source, and of all else it stays
+-- what is new has no source and wasn't there, and of all else it stays
 told_made : (kind : Kind) (name : List ℕ) (owner : Dbref) (finished : Object → Object) (to : ℕ) (es : List Entry) → (new_in kind name owner finished (free_in es) to).lines ≡ [] → Told es (made_in kind name owner finished to es)
-told_made kind name owner finished to es h = record { source = λ n. inl (at n); stays = λ n t. ap is_some (mark_made (free_in es) kind name owner finished to es n) ∙ t }
+told_made kind name owner finished to es h = record {
+  source = λ n. inl (at n);
+  stays = λ n t. ap is_some (mark_made (free_in es) kind name owner finished to es n) ∙ t;
+  gone = λ n t lost. there n t lost (cases_eq n (free_in es));
+  still = λ n t. mark_made (free_in es) kind name owner finished to es n ∙ t;
+}
   where
+    there : (n : ℕ) → is_there es n ≡ true → is_there (made_in kind name owner finished to es) n ≡ false → (n ≡ free_in es) ⊎ (n ≡ free_in es → ⊥) → mark_in (made_in kind name owner finished to es) n ≡ Some Gone
+    there n t lost (inl e) = never_both (is_there es n) t (ap (is_there es) e ∙ ap is_some (seen_at es (free_in es) ∙ free_dead es))
+    there n t lost (inr e) =
+        let fs : List Entry = made_in kind name owner finished to es in
+        let same : object_at (dbref_of n) fs ≡ object_at (dbref_of n) es = seen_at fs n ∙ ap (λ (q : Option Object). option_and_then alive q) (made_there kind name owner finished to es n e) ∙ grown_same (free_in es) n es ∙ sym (seen_at es n) in
+        never_both (is_there fs n) (ap is_some same ∙ t) lost
+
     source : Option Object → List (List ℕ)
     source q = option_map_or (λ (o : Object). o.lines) (option_and_then alive q) []
 
