@@ -1,0 +1,4 @@
+pub mod Firsts
+pub mod Heads
+pub mod Leading
+pub mod Starts
