@@ -1,15 +1,15 @@
 -- The bodies of a file lead to what reading it gives.
-use Rattle.std.proofs.Common.{◌≡◌, ◌≢◌, ◌⊎◌, inl, inr, ℕ, zero, suc, ◌+◌, ◌-◌, ◌<◌, ◌≤◌, ◌^◌, Bool, true, false, eqb, leb, ltb, List, [], ◌∷◌, ◌++◌, length, take, drop, Option, Some, None, Result, Ok, Err, refl, sym, ◌∙◌, ap, subst, arith, length-append, length-take, length-drop, append_assoc, take-append-drop}
+use Rattle.std.proofs.Common.{◌≡◌, ℕ, zero, suc, ◌+◌, ◌<◌, ◌≤◌, Bool, true, false, eqb, leb, List, [], ◌∷◌, ◌++◌, length, take, drop, Option, Some, None, Result, Ok, Err, refl, sym, ◌∙◌, ap, subst, arith, length-append, length-take, length-drop, append_assoc, take-append-drop}
 use Rattle.std.specs.Prelude.{if◌then◌else◌, option_map}
 use Rattle.std.proofs.lemmas.List.{append-nil, drop-drop}
 use Rattle.std.proofs.lemmas.Option.{same_Some, none-some}
-use Rattle.std.proofs.lemmas.Bool.{cond-true, cond-false, eq-eqb, ne_eqb, eqb-true, eqb-false, leb-true, leb-false, le-leb, lt-leb}
+use Rattle.std.proofs.lemmas.Bool.{cond-true, cond-false, eq-eqb, ne_eqb, eqb-false, leb-true, leb-false, le-leb}
 use Rattle.std.specs.Int.{w64, from_be_bytes}
-use Rattle.muck_log.specs.File.{Held, End, Opened, Reading, gate_at, step, stepped, run, sized, judged, join, begin, ends, ending, is_open, header, file_of, forgotten}
+use Rattle.muck_log.specs.File.{Held, End, Opened, Reading, gate_at, step, stepped, run, sized, judged, join, begin, ends, ending, is_open, header, file_of}
 use Rattle.muck_log.proofs.Runs.{run-append, run_shut, shut_at, size_at, body_at}
-use Rattle.muck_bodies.specs.Bodies.{framed_then, bodies, bodies_of, Lead, LeadThere}
+use Rattle.muck_bodies.specs.Bodies.{framed_then, bodies, bodies_of, Lead}
 use Rattle.muck_log.specs.declared.reader.Mode.{Mode}
-use Rattle.muck_log.specs.declared.reader.Mode.TheVariants.{Gate, Size, Body as InBody, Shut, Broken}
+use Rattle.muck_log.specs.declared.reader.Mode.TheVariants.{Broken}
 
 run_broken : (r : Reading) (xs : List ℕ) → r.mode ≡ Broken → (run r xs).mode ≡ Broken
 unfolding run step
@@ -152,7 +152,7 @@ lead (suc n) place held (gate ∷ next ∷ rest) e le ok = by (λ p k l short ok
 read_so : ℕ → List ℕ → Opened
 read_so g file = record { generation = g; ending = ending (run (gate_at 0 (begin g)) file) }
 
-pub leads : LeadThere
+pub leads : (file : List ℕ) (generation : ℕ) (e : End) → file_of file ≡ Some (Some (record { generation = generation; ending = Ok e })) → Lead (begin generation) (bodies_of file) e.held
 unfolding file_of bodies_of ending read_so
 leads file generation e is = by (is_open file) (header file) is
   where

@@ -1,24 +1,24 @@
 -- Where the batches of a store begin.
-use Rattle.std.proofs.Common.{◌≡◌, ℕ, zero, suc, ◌+◌, ◌-◌, ◌<◌, ◌≤◌, Bool, true, false, eqb, leb, ltb, List, [], ◌∷◌, length, take, drop, Option, Some, None, Result, Ok, Err, refl, sym, ◌∙◌, ap, subst, arith, length-drop}
-use Rattle.std.specs.Prelude.{if◌then◌else◌, option_map, option_and_then, ◌&&◌, ◌||◌}
+use Rattle.std.proofs.Common.{◌≡◌, ℕ, zero, suc, ◌+◌, ◌-◌, ◌≤◌, Bool, true, false, eqb, leb, ltb, List, [], ◌∷◌, length, take, drop, Option, Some, None, Result, Ok, Err, refl, sym, ◌∙◌, ap, subst, arith, length-drop}
+use Rattle.std.specs.Prelude.{if◌then◌else◌, option_map, ◌&&◌}
 use Rattle.std.specs.Option.{option_map_or}
 use Rattle.std.specs.Int.{w64, from_be_bytes}
-use Rattle.std.proofs.lemmas.Bool.{cond-true, cond-false, and_parts, eqb-true, leb-true, cases_Bool}
+use Rattle.std.proofs.lemmas.Bool.{cond-true, cond-false, and_parts, eqb-true, leb-true}
 use Rattle.muck_log.specs.Body.{Body, body_of}
-use Rattle.muck_log.specs.World.{World, laid}
+use Rattle.muck_log.specs.World.{laid}
 use Rattle.muck_log.specs.File.{Held, End, Opened, join, follows, begin, file_of, header, is_open}
 use Rattle.muck_log.specs.Store.{Chosen, Damage, stored, picked, loaded, newer, pick}
 use Rattle.muck_log.proofs.Fronts.{cond_some, map_some, and_then_some}
 use Rattle.muck_log.proofs.Files.{opened, file_facts, none_shut}
 use Rattle.muck_bodies.specs.declared.head.Head.{Head}
 use Rattle.muck_bodies.specs.declared.beginning.Start.{Start}
-use Rattle.muck_bodies.specs.Bodies.{bodies, bodies_of, number_of, generation_of, first_number, IsStart, Lead}
+use Rattle.muck_bodies.specs.Bodies.{bodies, bodies_of, generation_of, first_number, IsStart, Lead}
 use Rattle.muck_bodies.specs.inner.Heads.{IsHead, IsWhole, start_at, chosen_start}
 use Rattle.muck_bodies.proofs.Heads.{same_generation}
 use Rattle.muck_bodies.proofs.Leading.{leads}
 
 -- a file whose first gate isn't open has no body
-shut_bodies : (file : List ℕ) → is_open file ≡ false → (n : ℕ) → bodies n file ≡ []
+pub shut_bodies : (file : List ℕ) → is_open file ≡ false → (n : ℕ) → bodies n file ≡ []
 unfolding bodies is_open
 shut_bodies file shut zero = refl
 shut_bodies [] shut (suc n) = refl
@@ -48,7 +48,7 @@ joined place held next bytes is =
       stays = sym (ap (λ (h : Held). h.generation) with_world.2);
     }
 
-lead_generation : (held to : Held) (bs : List (List ℕ)) → Lead held bs to → to.generation ≡ held.generation
+pub lead_generation : (held to : Held) (bs : List (List ℕ)) → Lead held bs to → to.generation ≡ held.generation
 lead_generation held to [] lead = ap (λ (h : Held). h.generation) lead
 lead_generation held to (b ∷ bs) lead = lead_generation lead.1 to bs lead.3 ∙ (joined lead.0 held lead.1 b lead.2).stays
 
@@ -129,10 +129,10 @@ record Counts (second : Bool) (h : Option Head) (s : Chosen) (file : List ℕ) :
   second_is : s.second ≡ second
   starts : IsStart (start_at second head) s file
 
-not_ok : (d : Damage) (s : Chosen) → ◌≡◌ {A = Result Chosen Damage} (Err d) (Ok s) → ⊥
+pub not_ok : (d : Damage) (s : Chosen) → ◌≡◌ {A = Result Chosen Damage} (Err d) (Ok s) → ⊥
 not_ok d s h = cc
 
-ok_same : (a b : Chosen) → ◌≡◌ {A = Result Chosen Damage} (Ok a) (Ok b) → a ≡ b
+pub ok_same : (a b : Chosen) → ◌≡◌ {A = Result Chosen Damage} (Ok a) (Ok b) → a ≡ b
 ok_same a b h = cc
 
 counts_so : (second : Bool) (g : ℕ) (ending : Result End ℕ) (h : Option Head) (s : Chosen) (file : List ℕ) → file_of file ≡ Some (Some (record { generation = g; ending = ending })) → IsHead h file → loaded second ending ≡ Ok s → Counts second h s file

@@ -3,8 +3,8 @@ use Rattle.std.specs.Prelude.{◌≡◌, ℕ, zero, suc, ◌+◌, ◌==◌, if�
 use Rattle.std.specs.Option.{option_map_or}
 use Rattle.std.specs.Int.{w64, from_be_bytes}
 use Rattle.muck_log.specs.Body.{Body, body_of}
-use Rattle.muck_log.specs.File.{Held, End, join, begin, file_of}
-use Rattle.muck_log.specs.Store.{Chosen}
+use Rattle.muck_log.specs.File.{Held, join, begin}
+use Rattle.muck_log.specs.Store.{Chosen, stored, pick}
 use Rattle.muck_bodies.specs.declared.beginning.Start.{Start}
 
 -- behind a gate: the length, the body, and what begins with the next gate
@@ -49,6 +49,6 @@ abbrev pub Lead : Held → List (List ℕ) → Held → Type 0
 Lead held [] to = to ≡ held
 Lead held (b ∷ bs) to = (place : ℕ) × (next : Held) × (join place held b ≡ Some next) × Lead next bs to
 
--- of a file that isn't outside the format
+-- of a store that loads: the bodies of the file that counts lead to what the store holds
 abbrev pub LeadThere : Type 0
-LeadThere = (file : List ℕ) (generation : ℕ) (end : End) → file_of file ≡ Some (Some (record { generation = generation; ending = Ok end })) → Lead (begin generation) (bodies_of file) end.held
+LeadThere = (a b : List ℕ) (s : Chosen) → stored a b ≡ Ok s → Lead (begin s.held.generation) (bodies_of (pick s.second a b)) s.held

@@ -1,7 +1,7 @@
-// The bodies of a file and what reading it gives.
+// The bodies of a store and what it holds.
 ghost use Rattle.muck_bodies.specs.Bodies.{LeadThere};
 
-/// Of a file that isn't outside the format, the bodies lead to what reading it gives: each is a batch that joins those before it.
+/// Of a store that loads, the bodies of the file that counts lead to what the store holds: each is a batch that joins those before it.
 pub fn leads()
     ensures { LeadThere }
 {}

@@ -1,4 +1,4 @@
-use Rattle.std.proofs.Common.{◌≡◌, arith}
+use Rattle.std.proofs.Common.{arith}
 use Rattle.muck_bodies.proofs.Heads.{no_bodies}
 use Rattle.muck_bodies.proofs.beginning.first_head.Goals as goal
 

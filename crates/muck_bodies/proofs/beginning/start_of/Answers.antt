@@ -1,4 +1,3 @@
-use Rattle.std.proofs.Common.{◌≡◌, List, ℕ, Ok, ◌∙◌, sym, ap, subst}
 use Rattle.muck_bodies.proofs.Starts.{starts_as}
 use Rattle.muck_bodies.proofs.beginning.start_of.Goals as goal
 

@@ -1,4 +1,4 @@
-use Rattle.std.proofs.Common.{ℕ, List, refl, arith}
+use Rattle.std.proofs.Common.{refl, arith}
 use Rattle.muck_bodies.proofs.Heads.{short_head, shut_head, cut_head, whole_head, small_whole, large_whole}
 use Rattle.muck_bodies.proofs.head.head_of.Goals as goal
 

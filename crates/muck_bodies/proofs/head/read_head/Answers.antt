@@ -1,4 +1,4 @@
-use Rattle.std.proofs.Common.{◌≡◌, ◌∙◌, ◌-◌, ℕ, List, length, take, drop, sym, ap, arith, length-drop}
+use Rattle.std.proofs.Common.{◌≡◌, ◌∙◌, ◌-◌, length, drop, arith, length-drop}
 use Rattle.muck_bodies.proofs.Heads.{front_of}
 use Rattle.muck_bodies.proofs.head.read_head.Goals as goal
 

@@ -1,5 +1,5 @@
-use Rattle.muck_bodies.proofs.Leading.{leads}
+use Rattle.muck_bodies.proofs.Stores.{lead_there}
 use Rattle.muck_bodies.proofs.laws.leads.Goals as goal
 
 pub returns : goal.returns
-returns c = leads
+returns c = lead_there

@@ -1,4 +1,4 @@
-use Rattle.std.specs.Prelude.{◌≡◌, ◌≤◌, ◌-◌, take, drop, true, length}
+use Rattle.std.specs.Prelude.{◌≡◌, ◌≤◌, ◌-◌, drop, true, length}
 use Rattle.muck_log.specs.Store.{LeavesOnly}
 use Rattle.muck_bodies.specs.Bodies.{bodies_of, body_numbered}
 use Rattle.muck_bodies.proofs.walk.body.Given as goal

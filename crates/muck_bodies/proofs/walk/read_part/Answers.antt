@@ -1,4 +1,4 @@
-use Rattle.std.proofs.Common.{◌≡◌, ◌∙◌, ◌+◌, ◌-◌, ◌≤◌, ℕ, List, length, take, drop, sym, ap, arith, length-drop}
+use Rattle.std.proofs.Common.{◌∙◌, ◌+◌, ◌≤◌, take, drop, sym, ap, arith}
 use Rattle.std.proofs.lemmas.List.{drop-drop}
 use Rattle.muck_log.proofs.Mounting.{quiet, quiet_too}
 use Rattle.muck_bodies.proofs.Heads.{part_more}

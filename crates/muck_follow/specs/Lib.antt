@@ -1,0 +1,5 @@
+pub mod inner
+pub mod Following
+pub mod Fronts
+pub mod Lines
+pub mod Script
