@@ -46,11 +46,7 @@ fn fed_text(alloc: Global, fed: Fed) -> Result<Vec<u8>, NoMemory>
 }
 
 // Feeds the mirror a body, where there is one, and answers the reply. Where memory is wanted the mirror is as it was, or as it is then.
-fn feed_one(
-    alloc: Global,
-    bytes: Option<Vec<u8>>,
-    mirror: &mut Mirror,
-) -> Result<Vec<u8>, NoMemory>
+fn feed_one(alloc: Global, bytes: Option<Vec<u8>>, mirror: &mut Mirror) -> Result<Vec<u8>, NoMemory>
     ensures text { IfOk result (λ text. text.items ≡ body_reply (option_map (λ v. v.items) bytes) mirror.old) }
     ensures left { OnOk result (mirror.new ≡ body_left (option_map (λ v. v.items) bytes) mirror.old) }
 {

@@ -3,9 +3,9 @@ ghost use Rattle.std.specs.Prelude.{◌≡◌, ◌<◌, length, Err};
 ghost use Rattle.muck_follow.specs.Script.{script_most, read_part, acts_of};
 ghost use Rattle.muck_follow.specs.inner.Reading.{IsReading, IsScriptOf};
 
+use crate::Act;
 use crate::lines::cut_line;
 use crate::parsing::act_of;
-use crate::Act;
 use std::alloc::Global;
 use std::marker::Model;
 

@@ -1,0 +1,96 @@
+-- Lemmas on lines and on reading them.
+use Rattle.std.proofs.Common.{◌≡◌, ℕ, ◌+◌, ◌<◌, true, false, not, cond, List, [], ◌∷◌, ◌++◌, length, take, drop, refl, sym, ◌∙◌, ap, arith, suc, append_assoc, Option, Some, None, Result, Ok, Err}
+use Rattle.std.proofs.lemmas.List.{drop-drop}
+use Rattle.std.specs.List.{position_or_len, onto_first}
+use Rattle.muck_follow.specs.Lines.{is_line_feed, lines_of}
+use Rattle.std.proofs.lemmas.Bool.{cond-true, lt-ltb}
+use Rattle.muck_follow.specs.Script.{act_of, with_first, acts_from, acts_of, refused_at, script_most, read_part, script_of}
+use Rattle.muck_follow.specs.declared.act.Act.{Act}
+
+pub first_line : (b : ℕ) (bytes : List ℕ) →
+    lines_of (b ∷ bytes) ≡ take (position_or_len is_line_feed (b ∷ bytes)) (b ∷ bytes) ∷ lines_of (drop (position_or_len is_line_feed (b ∷ bytes) + 1) (b ∷ bytes))
+first_line b [] =
+    elim (is_line_feed b) as (λ t.
+    cond t ([] ∷ []) ((b ∷ []) ∷ []) ≡ take (cond (not t) 1 0) (b ∷ []) ∷ lines_of (drop (cond (not t) 1 0 + 1) (b ∷ []))) [
+      | true ↦ refl
+      | false ↦ refl
+    ]
+first_line b (c ∷ bytes) =
+    elim (is_line_feed b) as (λ t.
+    cond t ([] ∷ lines_of (c ∷ bytes)) (onto_first b (lines_of (c ∷ bytes)))
+    ≡ take (cond (not t) (1 + position_or_len is_line_feed (c ∷ bytes)) 0) (b ∷ c ∷ bytes) ∷ lines_of (drop (cond (not t) (1 + position_or_len is_line_feed (c ∷ bytes)) 0 + 1) (b ∷ c ∷ bytes))) [
+      | true ↦ refl
+      | false ↦
+          let one : 1 + position_or_len is_line_feed (c ∷ bytes) ≡ suc (position_or_len is_line_feed (c ∷ bytes)) = omega arith in
+          let more : suc (position_or_len is_line_feed (c ∷ bytes)) + 1 ≡ suc (position_or_len is_line_feed (c ∷ bytes) + 1) = omega arith in
+          ap (onto_first b) (first_line c bytes) ∙ rw (one, more) refl
+    ]
+
+-- the first line of what isn't empty
+pub line_cut : (bytes line rest : List ℕ) (at : ℕ) → at ≡ position_or_len is_line_feed bytes → 0 < length bytes →
+    line ≡ take at bytes → rest ≡ drop (at + 1) bytes → lines_of bytes ≡ line ∷ lines_of rest
+line_cut [] line rest at e h p q = absurd (omega arith)
+line_cut (b ∷ bytes) line rest at e h p q = first_line b bytes ∙ rw (p, q, e) refl
+
+-- these acts stand before the others
+abbrev pub with_all : List Act → Result (List Act) ℕ → Result (List Act) ℕ
+with_all front (Ok acts) = Ok (front ++ acts)
+with_all front (Err n) = Err n
+
+pub with_all-with_first : (front : List Act) (act : Act) (n : ℕ) (rest : Result (List Act) ℕ) → with_all (front ++ act ∷ []) rest ≡ with_all front (with_first (Some act) n rest)
+with_all-with_first front act n (Ok acts) = ap Ok (append_assoc front (act ∷ []) acts)
+with_all-with_first front act n (Err m) = refl
+
+-- a line that is read
+pub goes_on : (front : List Act) (act : Act) (n : ℕ) (asked : Option Act) (line rest : List ℕ) (bytes : List ℕ) (all : Result (List Act) ℕ) →
+    lines_of bytes ≡ line ∷ lines_of rest → act_of line ≡ Some act →
+    with_all front (acts_from n (lines_of bytes)) ≡ all →
+    with_all (front ++ act ∷ []) (acts_from (n + 1) (lines_of rest)) ≡ all
+goes_on front act n asked line rest bytes all e a h =
+    with_all-with_first front act n (acts_from (n + 1) (lines_of rest))
+    ∙ ap (λ o. with_all front (with_first o n (acts_from (n + 1) (lines_of rest)))) (sym a)
+    ∙ ap (λ ls. with_all front (acts_from n ls)) (sym e) ∙ h
+
+-- a line that is outside
+pub stops : (front : List Act) (n : ℕ) (line rest bytes : List ℕ) (all : Result (List Act) ℕ) →
+    lines_of bytes ≡ line ∷ lines_of rest → act_of line ≡ None →
+    with_all front (acts_from n (lines_of bytes)) ≡ all → all ≡ Err n
+stops front n line rest bytes all e a h =
+    sym h ∙ ap (λ ls. with_all front (acts_from n ls)) e ∙ ap (λ o. with_all front (with_first o n (acts_from (n + 1) (lines_of rest)))) a
+
+-- what stands behind the first element of the rest
+pub tail_is : (bytes others rest : List ℕ) (n first : ℕ) → rest ≡ first ∷ others → rest ≡ drop n bytes → others ≡ drop (n + 1) bytes
+tail_is bytes others rest n first e p =
+    let tail : others ≡ drop 1 rest = sym (ap (drop 1) e) in
+    tail ∙ ap (drop 1) p ∙ drop-drop 1 n bytes
+
+pub tail_none : (bytes rest : List ℕ) (n : ℕ) → length rest ≡ 0 → rest ≡ drop n bytes → rest ≡ drop (n + 1) bytes
+tail_none bytes rest n e p = nothing rest e ∙ sym (ap (drop 1) (nothing rest e)) ∙ ap (drop 1) p ∙ drop-drop 1 n bytes where
+  nothing : (xs : List ℕ) → length xs ≡ 0 → xs ≡ []
+  nothing [] h = refl
+  nothing (x ∷ xs) h = absurd (omega arith)
+
+first_ok : (o : Option Act) (n : ℕ) (rest : Result (List Act) ℕ) (acts : List Act) (count : ℕ) → ((others : List Act) → rest ≡ Ok others → length others ≡ count) →
+    with_first o n rest ≡ Ok acts → length acts ≡ suc count
+first_ok None n rest acts count more e = cc
+first_ok (Some act) n (Err m) acts count more e = cc
+first_ok (Some act) n (Ok others) acts count more e =
+    let same : act ∷ others ≡ acts = cc in
+    sym (ap (λ (xs : List Act). length xs) same) ∙ ap suc (more others refl)
+
+-- each line is one act
+pub length-acts : (n : ℕ) (lines : List (List ℕ)) (acts : List Act) → acts_from n lines ≡ Ok acts → length acts ≡ length lines
+length-acts n [] acts e = let same : [] ≡ acts = cc in sym (ap (λ (xs : List Act). length xs) same)
+length-acts n (line ∷ lines) acts e = first_ok (act_of line) n (acts_from (n + 1) lines) acts (length lines) (λ others o. length-acts (n + 1) lines others o) e
+
+-- Scripts that are too long, and those that aren't.
+
+pub script_long : (bytes : List ℕ) → script_most < length bytes → script_of bytes ≡ refused_at (length (lines_of (read_part bytes))) (acts_of (read_part bytes))
+script_long bytes h = cond-true _ _ _ (lt-ltb _ _ h)
+
+-- no line before the last is outside
+pub long_last : (bytes part : List ℕ) (acts : List Act) → script_most < length bytes → part ≡ read_part bytes → acts_of part ≡ Ok acts → script_of bytes ≡ Err (length acts)
+long_last bytes part acts h p e =
+    let read : acts_of (read_part bytes) ≡ Ok acts = sym (ap acts_of p) ∙ e in
+    let count : length acts ≡ length (lines_of (read_part bytes)) = length-acts 1 (lines_of (read_part bytes)) acts read in
+    script_long bytes h ∙ ap (refused_at (length (lines_of (read_part bytes)))) read ∙ ap Err (sym count)

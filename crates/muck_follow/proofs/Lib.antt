@@ -1,0 +1,4 @@
+pub mod Batches
+pub mod Cuts
+pub mod Fronts
+pub mod Replies
