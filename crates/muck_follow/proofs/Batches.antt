@@ -183,7 +183,9 @@ unfolding bodies
 all_bytes zero file are = tt
 all_bytes (suc n) [] are = tt
 all_bytes (suc n) (g ∷ []) are = tt
-all_bytes (suc n) (g ∷ x ∷ rest) are = by_gate (eqb g 1)
+all_bytes (suc n) (g ∷ x ∷ rest) are =
+    let size = from_be_bytes w64 (take 8 (x ∷ rest)) in
+    by_gate (eqb g 1) (all_bytes n (drop (8 + size) (x ∷ rest)) (drop_bytes (8 + size) (x ∷ rest) (λ i. are (suc i))))
   where
     size : ℕ
     size = from_be_bytes w64 (take 8 (x ∷ rest))
@@ -195,9 +197,9 @@ all_bytes (suc n) (g ∷ x ∷ rest) are = by_gate (eqb g 1)
     by_size true more = (take_bytes size (drop 8 (x ∷ rest)) (drop_bytes 8 (x ∷ rest) tail), more)
     by_size false more = tt
 
-    by_gate : (b : Bool) → AllBytes (if b then (if leb (8 + size) (length (x ∷ rest)) then take size (drop 8 (x ∷ rest)) ∷ bodies n (drop (8 + size) (x ∷ rest)) else []) else [])
-    by_gate true = by_size (leb (8 + size) (length (x ∷ rest))) (all_bytes n (drop (8 + size) (x ∷ rest)) (drop_bytes (8 + size) (x ∷ rest) tail))
-    by_gate false = tt
+    by_gate : (b : Bool) → AllBytes (bodies n (drop (8 + size) (x ∷ rest))) → AllBytes (if b then (if leb (8 + size) (length (x ∷ rest)) then take size (drop 8 (x ∷ rest)) ∷ bodies n (drop (8 + size) (x ∷ rest)) else []) else [])
+    by_gate true more = by_size (leb (8 + size) (length (x ∷ rest))) more
+    by_gate false more = tt
 
 pub few : (n : ℕ) (file : List ℕ) → length (bodies n file) ≤ n
 unfolding bodies

@@ -1,15 +1,17 @@
 -- What was written of a script so far.
 use Rattle.std.specs.Prelude.{OnErr, Result, Ok, Err}
-use Rattle.std.proofs.Common.{◌≡◌, ℕ, ◌+◌, ◌<◌, ◌≤◌, List, [], ◌∷◌, ◌++◌, length, take, drop, get_or, take-append-drop, Option, Some, None, refl, sym, ◌∙◌, ap, subst, arith, append_assoc, append-nil}
+use Rattle.std.proofs.Common.{◌≡◌, true, false, ℕ, ◌+◌, ◌<◌, ◌≤◌, List, [], ◌∷◌, ◌++◌, length, take, drop, get_or, take-append-drop, Option, Some, None, refl, sym, ◌∙◌, ap, subst, arith, append_assoc, append-nil}
 use Rattle.std.proofs.Math.ListN.{drop_of_length-le}
 use Rattle.std.proofs.lemmas.List.{drop_more}
 use Rattle.std.proofs.Math.Seq.{take-append_seam}
 use Rattle.muck_io.specs.Sink.{Appends, AppendsFront}
 use Rattle.muck_io.proofs.Appended.{appends_twice}
-use Rattle.muck_mirror.specs.Mirrors.{Mirror}
-use Rattle.muck_bodies.specs.Bodies.{bodies_of}
+use Rattle.muck_log.specs.Store.{Chosen, pick}
+use Rattle.muck_mirror.specs.Mirrors.{Mirror, made}
+use Rattle.muck_bodies.specs.Bodies.{bodies_of, IsStart}
+use Rattle.muck_bodies.specs.declared.beginning.Start.{Start}
 use Rattle.muck_follow.specs.declared.act.Act.{Act}
-use Rattle.muck_follow.specs.Following.{reply_of, left_by, replies}
+use Rattle.muck_follow.specs.Following.{reply_of, left_by, replies, told}
 
 -- a front of what all lines have replied, and the mirror that is behind them
 pub record SoFar (acts rest : List Act) (bodies : List (List ℕ)) (m n : Mirror) (before now : Option (List ℕ)) : Type 0 where
@@ -72,7 +74,7 @@ cut_short acts rest act bodies m n a b c text so is front =
 
 -- the lines that are left, with the next of them
 pub rest_is : (acts : List Act) (i : ℕ) (act : Act) (d : Act) → i < length acts → act ≡ get_or acts i d → drop i acts ≡ act ∷ drop (i + 1) acts
-rest_is acts i act d lt is = drop_more i acts d lt ∙ ap (λ x. x ∷ drop (i + 1) acts) (sym is)
+rest_is acts i act d lt is = drop_more acts i d lt ∙ ap (λ x. x ∷ drop (i + 1) acts) (sym is)
 
 pub none_left : (acts : List Act) (i : ℕ) → length acts ≤ i → drop i acts ≡ []
 none_left acts i le = drop_of_length-le acts le
@@ -100,3 +102,19 @@ lines_done acts i bodies m n a b le so = all_written acts bodies m n a b (subst 
 pub on_error : (A E : Type 0) (r : Result A E) (P : Type 0) → P → OnErr r P
 on_error A E (Ok v) P p = tt
 on_error A E (Err e) P p = p
+
+-- The replies of the mirror that was made are those of the mirror of the store.
+
+pub told_is : (acts : List Act) (s : Chosen) (file counts : List ℕ) (start : Start) (m : Mirror) → IsStart start s counts → file ≡ counts → m ≡ made start.generation start.first → replies acts (bodies_of file) m ≡ told acts s counts
+told_is acts s file counts start m is same new =
+    ap (λ l. replies acts (bodies_of l) m) same
+    ∙ ap (replies acts (bodies_of counts)) (new ∙ ap (λ g. made g start.first) is.generation ∙ ap (made s.held.generation) is.first)
+
+pub second_counts : (s : Chosen) (a b file : List ℕ) (start : Start) → IsStart start s (pick s.second a b) → start.second ≡ true → file ≡ b → file ≡ pick s.second a b
+second_counts s a b file start is second same = same ∙ ap (λ k. pick k a b) (sym (sym is.second ∙ second))
+
+pub first_counts : (s : Chosen) (a b file : List ℕ) (start : Start) → IsStart start s (pick s.second a b) → start.second ≡ false → file ≡ a → file ≡ pick s.second a b
+first_counts s a b file start is second same = same ∙ ap (λ k. pick k a b) (sym (sym is.second ∙ second))
+
+pub on_error_as : (A E : Type 0) (r : Result A E) (a b : Option (List ℕ)) (x y : List ℕ) → x ≡ y → OnErr r (AppendsFront a b x) → OnErr r (AppendsFront a b y)
+on_error_as A E r a b x y e h = let P : List ℕ → Type 0 = λ l. OnErr r (AppendsFront a b l) in subst P e h

@@ -45,7 +45,7 @@ fn run<K: Sink, D: Disk>(
 ///
 /// `DiskFault` comes only where the count of faults of a disk rose, `WriteFault` only where that of the sink did; a front of the replies was written then, as it was where
 /// memory was wanted.
-#[tactic(auto, using(crate::proofs::Fronts::follows))]
+
 pub fn follow<K: Sink, D: Disk>(
     alloc: Global,
     acts: &[Act],

@@ -34,7 +34,7 @@ fn is_decimal(bytes: &[u8]) -> bool
 
 // The number that the bytes write in decimal, where it is below 2^64.
 fn decimal_number(bytes: &[u8]) -> Option<u64>
-    ensures value { result ≡ decimal_number bytes.now }
+    ensures { result ≡ decimal_number bytes.now }
 {
     if !is_decimal(bytes) {
         return None;

@@ -1,4 +1,4 @@
-use Rattle.std.proofs.Common.{◌∙◌, arith}
+use Rattle.std.proofs.Common.{refl, ◌∙◌, arith}
 use Rattle.muck_log.proofs.Mounting.{quiet_too}
 use Rattle.muck_log.proofs.Moments.{started}
 use Rattle.muck_follow.proofs.Replies.{nothing_yet, line_done, line_cut_short, lines_done, stopped, on_error}
@@ -7,8 +7,8 @@ use Rattle.muck_follow.proofs.following.run.Goals as goal
 pub loop-act-preserved : goal.loop-act-preserved
 loop-act-preserved g c = record {
   told = λ t.
-      line_done c.args.acts.now c.loop-act.act-index _ _ _ (g.D.Disk.seen c.loop-act.disk) _ _ _ _ _ _ _ c.loop-act-test.true c.act-item.is (c.loop-act.invariant.seen t)
-      (c.loop-act.invariant.told t) (c.in_ok-text.ensures.text t) (c.in_ok-text.ensures.left t) c.in_ok-write_all.ensures.ok;
+      line_done c.args.acts.now c.loop-act.act-index _ _ _ (g.D.Disk.seen c.loop-act.disk) _ _ _ _ _ _ _ c.loop-act-test.true refl (c.loop-act.invariant.seen t)
+      (c.loop-act.invariant.told t) (c.deref.ensures.value ∙ c.in_ok-text.ensures.text t) (c.in_ok-text.ensures.left t) c.in_ok-write_all.ensures.ok;
   fine = c.in_ok-write_all.ensures.fine ∙ c.loop-act.invariant.fine;
   attached = c.reply.ensures.attached ∙ c.loop-act.invariant.attached;
   seen = λ t. c.reply.ensures.seen t ∙ c.loop-act.invariant.seen t;
@@ -21,9 +21,9 @@ returns-in_err-text-clause-front g c t = on_error _ _ c.from_residual.result _ (
 
 pub returns-in_err-write_all-clause-front : goal.returns-in_err-write_all-clause-front
 returns-in_err-write_all-clause-front g c t =
-    on_error _ _ c.from_residual.result _
-    (line_cut_short c.args.acts.now c.loop-act.act-index _ _ _ (g.D.Disk.seen c.loop-act.disk) _ _ _ _ _ _ c.loop-act-test.true c.act-item.is (c.loop-act.invariant.seen t)
-    (c.loop-act.invariant.told t) (c.in_ok-text.ensures.text t) c.in_err-write_all.ensures.front)
+    on_error _ _ c.from_residual-in_err-write_all.result _
+    (line_cut_short c.args.acts.now c.loop-act.act-index _ _ _ (g.D.Disk.seen c.loop-act.disk) _ _ _ _ _ _ c.loop-act-test.true refl (c.loop-act.invariant.seen t)
+    (c.loop-act.invariant.told t) (c.deref.ensures.value ∙ c.in_ok-text.ensures.text t) c.in_err-write_all.ensures.front)
 
 pub returns-clause-whole : goal.returns-clause-whole
 returns-clause-whole g c t = lines_done _ _ _ _ _ _ _ c.loop-act-test.false (c.loop-act.invariant.told t)
