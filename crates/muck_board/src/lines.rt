@@ -49,13 +49,18 @@ fn end_behind(lines: &[u8], over: usize) -> usize
     passed + count_before(lines.split_at(passed).1, b'\r') + 2
 }
 
-// Lets the first bytes go, and moves the others to the front.
+// Lets the first bytes go, and moves the others to the front: at once, where they are no more than those.
 fn drop_front(bytes: &mut Vec<u8>, n: usize)
     requires { n ≤ length bytes.old.items }
     ensures { bytes.new.items ≡ drop n bytes.old.items }
 {
     let left = bytes.len() - n;
-    bytes.copy_within(n.., 0);
+    if left > n {
+        bytes.copy_within(n.., 0);
+    } else {
+        let (front, rest) = bytes.split_at_mut(n);
+        front.split_at_mut(left).0.copy_from_slice(rest);
+    }
     bytes.truncate(left);
 }
 
