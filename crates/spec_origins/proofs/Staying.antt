@@ -1,7 +1,7 @@
 -- Behind each entry what isn't there is nobody's trigger or program, and nobody edits it.
-use Rattle.std.proofs.Common.{◌≡◌, ◌⊎◌, ◌==◌, ◌&&◌, ℕ, ℤ, Bool, true, false, not, cond, List, [], ◌∷◌, refl, sym, ◌∙◌, ap, subst, Option, Some, None, inl, inr}
+use Rattle.std.proofs.Common.{◌≡◌, ◌⊎◌, ◌==◌, ℕ, ℤ, Bool, true, false, not, cond, List, [], ◌∷◌, refl, sym, ◌∙◌, ap, subst, Option, Some, None, inl, inr}
 use Rattle.std.specs.Prelude.{codes, nat_lt, is_some, length, Result, Ok, Err}
-use Rattle.std.specs.Option.{option_map, option_map_or, option_and_then}
+use Rattle.std.specs.Option.{option_map_or}
 use Rattle.std.specs.Ordering.{int_eq}
 use Rattle.std.specs.Str.{bytes_eq}
 use Rattle.std.proofs.lemmas.Bool.{cond_both, and_parts}
@@ -11,15 +11,15 @@ use Rattle.muck_model.specs.declared.dbref.Denial.{Denial}
 use Rattle.muck_model.specs.declared.edit.EditState.{EditState}
 use Rattle.muck_model.specs.declared.event.Entry.{Entry}
 use Rattle.muck_model.specs.declared.event.Event.{Event}
-use Rattle.muck_model.specs.declared.event.Event.TheVariants.{Opened, Input, Closed, Exec, Claim, Slice, Lost, Take, Cut, Stored, DumpFailed}
+use Rattle.muck_model.specs.declared.event.Event.TheVariants.{Opened, Closed, Exec, Slice, Cut, Stored, DumpFailed}
 use Rattle.muck_model.specs.declared.tune.Tune.{Tune}
 use Rattle.spec_live.specs.declared.object.Object.{Object}
 use Rattle.spec_live.specs.declared.saving.Saving.{Saving}
-use Rattle.spec_live.specs.Objects.{Entry as Kept, nothing, object_at, mark_in}
+use Rattle.spec_live.specs.Objects.{Entry as Kept, object_at, mark_in}
 use Rattle.spec_live.specs.Saving.{pending, done as saved, due_again}
 use Rattle.spec_live.specs.Connections.{Connection}
-use Rattle.spec_live.specs.Boards.{early_board, opened, closed, line_added, bytes_taken, edited_one}
-use Rattle.spec_live.specs.Lives.{Live, followed, reading, unchanged, on_board, tell, tell_player, leave}
+use Rattle.spec_live.specs.Boards.{early_board, opened, line_added, bytes_taken, edited_one}
+use Rattle.spec_live.specs.Lives.{Live, tell, tell_player, leave}
 use Rattle.spec_live.proofs.Keeping.{Keeps, keeps_more}
 use Rattle.spec_rights.specs.declared.act.Actor.{Actor}
 use Rattle.spec_rights.specs.declared.act.Act.TheVariants.{Start as StartAct, Edit as EditAct}
@@ -30,7 +30,6 @@ use Rattle.spec_rights.proofs.Shown.{quiet_tell_player}
 use Rattle.spec_rights.proofs.Telling.{Told, told_itself, told_as}
 use Rattle.muf_model.specs.declared.fault.MufFault.{MufFault}
 use Rattle.muf_model.specs.declared.prims.Primitive.{Primitive as Name}
-use Rattle.muf_model.specs.Datum.{Datum}
 use Rattle.muf_model.specs.Tree.{Tree}
 use Rattle.muf_model.specs.Source.{Program, Source, locked_of}
 use Rattle.muf_model.specs.Unit.{Outcome as UnitOutcome, goes, faulted, asks, unit, fault}
@@ -53,8 +52,9 @@ use Rattle.spec_commands.specs.declared.edit.EditCommand.{EditCommand}
 use Rattle.spec_commands.specs.declared.edit.EditCommand.TheVariants.{Insert, Delete, Show, Compile as CompileLine, Quit}
 use Rattle.spec_commands.specs.declared.edit.EditStep.{EditStep}
 use Rattle.spec_commands.specs.declared.edit.EditStep.TheVariants.{Stay, Compile, Left}
-use Rattle.spec_commands.specs.Editing.{editor_exited, is_open, edited, edit_done, edit_some, edited_at, edit_command, line_inserted, with_line, stepped, exiting, illegal, lines_most}
+use Rattle.spec_commands.specs.Editing.{editor_exited, is_open, edited, edit_done, edit_some, edited_at, edit_command, line_inserted, stepped, lines_most}
 use Rattle.spec_commands.specs.Finding.{actor_of}
+use Rattle.spec_commands.specs.Going.{ended}
 use Rattle.spec_commands.specs.Talk.{at_login, waits, gone_away}
 use Rattle.spec_commands.proofs.Edited.{edited_proper}
 use Rattle.spec_commands.proofs.Lines.{seating_at_login}
@@ -65,12 +65,12 @@ use Rattle.spec_commands.proofs.Permitted.{Leaves}
 use Rattle.spec_events.specs.declared.starting.Agent.{Agent}
 use Rattle.spec_events.specs.declared.starting.Call.{Call as Started}
 use Rattle.spec_events.specs.World.{World, booted, connection, askers_of, on_live, on_queue}
-use Rattle.spec_events.specs.Dumping.{resaved, dump_stored, dump_failed, told_each}
+use Rattle.spec_events.specs.Dumping.{resaved, dump_stored, dump_failed}
 use Rattle.spec_events.specs.Following.{settled}
 use Rattle.spec_events.specs.Starting.{new_process, by_command, begun, start_told, start_judged, launched}
 use Rattle.spec_events.specs.Lines.{with_editor, next_editor, after_edit, edited_line, in_editor, editor_on, by_keeper, typed, left_by, followed_up, in_world, program_aborted, is_abort, given_line, line_for, line_done, done}
-use Rattle.spec_events.specs.Slices.{acting, Deed, does, rests, fails, lifted, row_done, process_done, deed, program_error, stands_at, ended_one, broken, out, one_counted, went, after_deed, unit_done, limit_fault, within_limit, turn, world_of, seat, unit_of, Taken, run_of, last_world, slice_most, awake, sliced}
-use Rattle.spec_events.specs.Sourced.{Each, OfSource, Standing, AreSourced, Sourced, BuiltOf, SourcedSince, Until}
+use Rattle.spec_events.specs.Slices.{acting, Deed, does, rests, fails, lifted, row_done, process_done, deed, program_error, stands_at, broken, out, one_counted, went, after_deed, unit_done, limit_fault, within_limit, turn, world_of, seat, unit_of, Taken, run_of, last_world, slice_most, awake, sliced}
+use Rattle.spec_events.specs.Sourced.{Each, OfSource, Standing, Sourced, BuiltOf, SourcedSince, Until}
 use Rattle.spec_events.specs.Steps.{effect, happened}
 use Rattle.spec_events.specs.Histories.{AllLawful}
 use Rattle.spec_events.proofs.Endings.{IsTold}
@@ -82,12 +82,11 @@ use Rattle.spec_events.proofs.Taken.{told_turn}
 use Rattle.spec_events.proofs.Turns.{gone_away_untouched}
 use Rattle.spec_events.proofs.Typed.{typed_open}
 use Rattle.spec_origins.specs.Origins.{Comes, StartedIn, LostIn, no_process}
-use Rattle.spec_origins.specs.Seats.{editor_at, Seated, AllSeated}
-use Rattle.spec_origins.specs.There.{IsThere, AllThere, StaysThere}
+use Rattle.spec_origins.specs.Seats.{Seated, AllSeated}
+use Rattle.spec_origins.specs.There.{IsThere, StaysThere}
 use Rattle.spec_origins.proofs.Going.{each_among, goes_woken, from_itself, holds_begun}
 use Rattle.spec_origins.proofs.Histories.{told_happened}
 use Rattle.spec_origins.proofs.Keepers.{plays_typed, sits_login, sits_edited}
-use Rattle.spec_origins.proofs.Lapsing.{objects_settled}
 use Rattle.spec_origins.proofs.Lines.{kept_left, objects_up, objects_after, queue_after}
 use Rattle.spec_origins.proofs.Named.{Stands, Names, Naming, names_or, names_played, so_there}
 use Rattle.spec_origins.proofs.Seated.{DeedMild, done_mild, none_own, seat_turn, launched_sits, after_sits}
@@ -148,6 +147,9 @@ module _ (es : List Kept) (d : ℕ) where
   unfolding launched
   launched_triggers a c w k h = judged_triggers c (verdict w.live.objects a (StartAct c.program)) w k h
 
+editor_is : (es : List Kept) (s t : EditState) → ◌≡◌ {A = Option EditState} (Some s) (Some t) → Stands es s.program → Stands es t.program
+editor_is es s t e h = let k : s ≡ t = cc in subst (λ (u : EditState). Stands es u.program) k h
+
 up_held : (d : ℕ) (player : Dbref) (outcome : Outcome) (w : World) → Names w.live outcome → Now w → Held w.live.objects (followed_up d player outcome w)
 unfolding tuned edited_one
 up_held d player (Start program trigger line arg) w k h =
@@ -160,7 +162,7 @@ up_held d player (Start program trigger line arg) w k h =
 up_held d player Leave w k h = record { triggers = h.triggers; editors = editors_sit w.live.objects w.live.board.connections (leave d w.live).board.connections ((sits_leave d).law w.live).seats h.editors }
 up_held d player (Edit program) w k h = record {
   triggers = h.triggers;
-  editors = editors_put w.live.objects d (Some (editor_on program w.live)) (λ s e. subst (λ (o : Option EditState). option_map_or (λ t. Stands w.live.objects t.program) o ⊥) e k) w.live.board.connections h.editors;
+  editors = editors_put w.live.objects d (Some (editor_on program w.live)) (λ s e. editor_is w.live.objects (editor_on program w.live) s e k) w.live.board.connections h.editors;
 }
 up_held d player Done w k h = h
 up_held d player NotMine w k h = h
@@ -216,8 +218,8 @@ same_edited d a s line = at s.inserting
 
 next_there : (es : List Kept) (step : EditStep) (s : EditState) → Stands es s.program → (t : EditState) → next_editor step s ≡ Some t → Stands es t.program
 next_there es Left s h t e = absurd (none-some t e)
-next_there es Stay s h t e = subst (λ (o : Option EditState). option_map_or (λ t. Stands es t.program) o ⊥) e h
-next_there es Compile s h t e = subst (λ (o : Option EditState). option_map_or (λ t. Stands es t.program) o ⊥) e h
+next_there es Stay s h t e = editor_is es s t e h
+next_there es Compile s h t e = editor_is es s t e h
 
 edited_held : (d : ℕ) (player : Dbref) (s : EditState) (line : List ℕ) (w : World) → Stands w.live.objects s.program → Now w → Now (edited_line d player s line w)
 unfolding edited_line edited_one
@@ -404,6 +406,9 @@ closes : (es : List Kept) (b : Bool) (o q : Option EditState) → q ≡ cond b N
 closes es true o q e h s at = absurd (none-some s (sym e ∙ at))
 closes es false o q e h s at = h s (sym e ∙ at)
 
+dumped : (w v : World) (f : Saving → Saving) → v.live.objects ≡ (resaved f w.live).objects → Held w.live.objects v → Now v
+dumped w v f e k = now_by w v (λ d at. none_same (resaved f w.live).objects v.live.objects e d (none_resaved f w.live.objects d at)) k
+
 happened_held : (event : Event) (w : World) (party : ℕ) → IsTold w.live → Seated event w (happened w party event) → Now w → Now (happened w party event)
 unfolding opened line_added bytes_taken claimed released ended_tied
 happened_held (Exec d) w party told s h = done_held d (connection d w) w h
@@ -415,14 +420,8 @@ happened_held (Closed n) w party told s h =
 happened_held (Cut k) w party told s h = now_by w (happened w party (Cut k)) (none_resaved pending w.live.objects) (record { triggers = h.triggers; editors = h.editors })
 happened_held (Stored k) w party told s h =
     dumped w (happened w party (Stored k)) saved ((quiet_told_each (askers_of w.dumps) (dump_stored k)).law (resaved saved w.live)).objects (record { triggers = h.triggers; editors = λ d t e. h.editors d t (sym (s.editors d) ∙ e) })
-  where
-    dumped : (w v : World) (f : Saving → Saving) → v.live.objects ≡ (resaved f w.live).objects → Held w.live.objects v → Now v
-    dumped w v f e k = now_by w v (λ d at. none_same (resaved f w.live).objects v.live.objects e d (none_resaved f w.live.objects d at)) k
 happened_held (DumpFailed k) w party told s h =
     dumped w (happened w party (DumpFailed k)) due_again ((quiet_told_each (askers_of w.dumps) dump_failed).law (resaved due_again w.live)).objects (record { triggers = h.triggers; editors = λ d t e. h.editors d t (sym (s.editors d) ∙ e) })
-  where
-    dumped : (w v : World) (f : Saving → Saving) → v.live.objects ≡ (resaved f w.live).objects → Held w.live.objects v → Now v
-    dumped w v f e k = now_by w v (λ d at. none_same (resaved f w.live).objects v.live.objects e d (none_resaved f w.live.objects d at)) k
 happened_held event w party told s h = record { triggers = h.triggers; editors = λ d t e. h.editors d t (sym (s.editors d) ∙ e) }
 
 -- Programs: what was built has a source, so that it is there.
@@ -460,9 +459,10 @@ unfolding effect
 stays_there Stood w [] told h sourced seated = tt
 stays_there Stood w (entry ∷ entries) told h sourced seated =
     let v : World = effect w entry in
-    let now : Now v = happened_held entry.event w entry.party told seated.0 h in
-    (record { triggers = now.triggers; programs = programs_there (Until Stood w entry) v sourced.1; editors = now.editors },
-    stays_there (Until Stood w entry) v entries (told_happened entry.event w entry.party told) now sourced.2 seated.1)
+    let now : Now v = happened_held entry.event w entry.party told seated.0 h in (
+      record { triggers = now.triggers; programs = programs_there (Until Stood w entry) v sourced.1; editors = now.editors },
+      stays_there (Until Stood w entry) v entries (told_happened entry.event w entry.party told) now sourced.2 seated.1,
+    )
 
 pub stays_there_booted : (objects : List Kept) (tune : Tune) (moment start : ℕ) → ((n : ℕ) → mark_in objects n ≡ None) → (entries : List Entry) → AllLawful (booted objects tune moment start) entries → StaysThere (booted objects tune moment start) entries
 unfolding booted empty_queue early_board

@@ -24,8 +24,7 @@ use Rattle.spec_events.specs.World.{World}
 use Rattle.spec_events.specs.Following.{settled}
 use Rattle.spec_events.specs.Sourced.{Each}
 use Rattle.spec_events.proofs.Sourcing.{each_more}
-use Rattle.spec_origins.specs.Clearing.{IsCleared}
-use Rattle.spec_origins.specs.Origins.{GoesOn, From, was_there, is_new, Comes, no_process}
+use Rattle.spec_origins.specs.Origins.{From, was_there, is_new, Comes, no_process}
 use Rattle.spec_origins.specs.Seats.{SameEditor}
 use Rattle.spec_origins.proofs.Clearing.{settled_clears}
 use Rattle.spec_origins.proofs.Going.{each_among, from_itself, holds_settled}
@@ -153,8 +152,8 @@ pub held_cleared : (es : List Entry) (u : World) → Told es u.live.objects → 
 held_cleared es u t h = record {
   triggers = each_every (λ n. mark_in fs n ≡ Some Gone) (FromThere es) (FromThere fs) (λ n p. has_trigger (dbref_of n) p ≡ false) one (settled u).queue.processes h.triggers (λ n m. (settled_clears n u m).triggers);
   editors = λ d s at. there_still es fs t s.program (h.editors d s at) (λ n m e.
-  never_both (same (dbref_of n) s.program) (same_eq (dbref_of n) s.program (sym e))
-  (sym (ap (λ (o : Option EditState). option_map_or (λ (s : EditState). same (dbref_of n) s.program) o false) at) ∙ closed_at n d (settled u).live.board.connections (settled_clears n u m).editors));
+      never_both (same (dbref_of n) s.program) (same_eq (dbref_of n) s.program (sym e))
+      (sym (ap (λ (o : Option EditState). option_map_or (λ (s : EditState). same (dbref_of n) s.program) o false) at) ∙ closed_at n d (settled u).live.board.connections (settled_clears n u m).editors));
 }
   where
     fs : List Entry
