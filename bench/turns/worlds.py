@@ -101,3 +101,9 @@ def lenders():
 def lender_of_many():
     """#4 lends 40,800."""
     return stored(row_of(1, 0, FIRST, lender(40_800)), IN_ZERO, FIRST)
+
+
+@functools.cache
+def lenders_of_one():
+    """#4 to #2003 lend one definition each, of the same name."""
+    return stored(row_of(2000, 0, FIRST, lender(1)), IN_ZERO, FIRST)

@@ -11,8 +11,12 @@ use std::marker::Model;
 /// The most bytes that went and are kept before what waits.
 const WASTE_MOST: usize = 131_072;
 
+/// The most bytes of memory that are kept where nothing waits.
+const IDLE_MOST: usize = 1_024;
+
 /// What is left of a line that was begun to be taken, and whole lines behind it. All stand in one piece of memory, each with its
-/// end, and what went stays there until it is as much as may wait: so lines come and go without memory of their own.
+/// end, and what went stays there until it is as much as may wait: so lines come and go without memory of their own. Then what is
+/// left moves to the front. A large piece of memory is let go once nothing waits.
 #[derive(Drop)]
 pub struct Lines {
     alloc: Global,
@@ -33,7 +37,7 @@ impl Model for Lines {
 
     ghost view = { λ l. record { begun = take l.begun (drop l.at l.bytes.items); lines = lines_in (drop l.from l.bytes.items) } };
 
-    ghost invariant = { λ l. (l.at + l.begun ≤ length l.bytes.items) × (l.from ≤ length l.bytes.items) × IsLines (drop l.from l.bytes.items) };
+    ghost invariant = { λ l. (l.at + l.begun ≤ l.from) × (l.from ≤ length l.bytes.items) × IsLines (drop l.from l.bytes.items) };
 }
 
 // Where the first line ends that ends behind so many bytes, or with the last of them.
@@ -43,6 +47,21 @@ fn end_behind(lines: &[u8], over: usize) -> usize
 {
     let passed = if over < 2 { 0 } else { over - 2 };
     passed + count_before(lines.split_at(passed).1, b'\r') + 2
+}
+
+// Lets the first bytes go, and moves the others to the front: at once, where they are no more than those.
+fn drop_front(bytes: &mut Vec<u8>, n: usize)
+    requires { n ≤ length bytes.old.items }
+    ensures { bytes.new.items ≡ drop n bytes.old.items }
+{
+    let left = bytes.len() - n;
+    if left > n {
+        bytes.copy_within(n.., 0);
+    } else {
+        let (front, rest) = bytes.split_at_mut(n);
+        front.split_at_mut(left).0.copy_from_slice(rest);
+    }
+    bytes.truncate(left);
 }
 
 impl Lines {
@@ -95,6 +114,22 @@ impl Lines {
         true
     }
 
+    // Where nothing is left, lets a large piece of memory go.
+    fn let_go(&mut self)
+        ensures { self.new ≡ self.old }
+    {
+        if self.begun > 0 || self.from < self.bytes.len() {
+            return;
+        }
+        if self.bytes.capacity() > IDLE_MOST {
+            self.bytes = Vec::new(self.alloc);
+        } else {
+            self.bytes.clear();
+        }
+        self.at = 0;
+        self.from = 0;
+    }
+
     /// Lets the first bytes go of the line that was begun.
     pub fn advance(&mut self, n: usize)
         requires { n ≤ length self.old.begun }
@@ -102,6 +137,7 @@ impl Lines {
     {
         self.at += n;
         self.begun -= n;
+        self.let_go();
     }
 
     /// Lets the oldest whole lines go until no more than so many bytes are left.
@@ -113,20 +149,18 @@ impl Lines {
         self.from += end_behind(whole, whole.len() - room);
     }
 
-    // Frees what went, where that is much, or no whole line waits.
-    fn compact(&mut self) -> Result<(), NoMemory>
+    // Moves what is left to the front, where much went, or no whole line waits.
+    fn compact(&mut self)
         ensures { self.new ≡ self.old }
     {
         if self.from < WASTE_MOST && self.from < self.bytes.len() {
-            return Ok(());
+            return;
         }
-        let mut bytes = Vec::new(self.alloc);
-        bytes.extend_from_slice(self.begun())?;
-        bytes.extend_from_slice(self.whole())?;
-        self.bytes = bytes;
+        let front = self.from - self.begun;
+        self.bytes.copy_within(self.at..self.at + self.begun, front);
+        drop_front(&mut self.bytes, front);
         self.at = 0;
         self.from = self.begun;
-        Ok(())
     }
 
     /// Puts the lines of a text behind the others.
@@ -134,7 +168,7 @@ impl Lines {
         ensures ok { OnOk result (self.new ≡ record self.old { lines = self.old.lines ++ sent.now }) }
         ensures err { OnErr result (self.new ≡ self.old) }
     {
-        self.compact()?;
+        self.compact();
         self.bytes.extend_from_slice(sent.as_slice())?;
         Ok(())
     }

@@ -1,12 +1,13 @@
-// What a name stands for near a player: each object there is looked at once.
+// What a name stands for near a player: each object there is looked at once for its whole name, and only where no name equals
+// the text once more for parts of names and exits.
 ghost use Rattle.std.specs.Prelude.{◌≡◌, [], ◌∷◌, false};
 ghost use Rattle.std.specs.Option.{option_or, option_map};
 ghost use Rattle.std.specs.List.{filter, flat_map};
-ghost use Rattle.muck_match.specs.declared.naming.Fit.TheVariants.{Part};
+ghost use Rattle.muck_match.specs.declared.naming.Fit.TheVariants.{Whole};
 ghost use Rattle.muck_match.specs.Scenery.{sees, is_thing};
 ghost use Rattle.muck_match.specs.Exits.{first, hits_on};
 ghost use Rattle.muck_match.specs.Naming.{chosen, joined, one_of, or_else, answers, named};
-ghost use Rattle.muck_match.specs.inner.Glances.{Sees, SeesMore};
+ghost use Rattle.muck_match.specs.inner.Glances.{Sees};
 
 use crate::Scene;
 use crate::exits::{ExitHit, hit_besides, hit_on};
@@ -14,28 +15,43 @@ use crate::naming::{Fit, Found, answers, is_nobody, joined};
 use crate::sights::{is_nothing, is_thing, place_in};
 use muck_model::Dbref;
 
-/// What a look at some objects found: those whose name equals the text. Only where there is none of these, it has found
-/// those of whose name a word begins with the text, and the first exit on things among them that it names.
+/// What a look at some objects found: those of whose name a word begins with the text, and the first exit on things among
+/// them that it names.
 #[derive(Clone, Copy, Drop)]
 pub struct Glance {
-    pub whole: Found,
     pub part: Found,
     pub hit: Option<ExitHit>,
 }
 
-// With one object more of whose name a word may begin with the text.
+// With one object more that may answer to the text.
 #[tactic(auto, using(crate::proofs::Looks::one_fits, crate::proofs::Looks::one_fails))]
-fn part_more<S: Scene>(scene: &S, text: &[u8], part: Found, d: Dbref) -> Found
-    ensures { result ≡ joined part (chosen (filter (answers Part text.now (S.shown scene.now)) (d ∷ []))) }
+fn one_more<S: Scene>(scene: &S, fit: Fit, text: &[u8], found: Found, d: Dbref) -> Found
+    ensures { result ≡ joined found (chosen (filter (answers fit text.now (S.shown scene.now)) (d ∷ []))) }
 {
-    if matches!(part, Found::Many) {
+    if matches!(found, Found::Many) {
         return Found::Many;
     }
-    if answers(scene, Fit::Part, text, d) {
-        joined(part, Found::One(d))
+    if answers(scene, fit, text, d) {
+        joined(found, Found::One(d))
     } else {
-        part
+        found
     }
+}
+
+// Those in an object whose name equals the text. It ends where there is a second.
+fn equal_in<S: Scene>(scene: &S, text: &[u8], owner: Dbref) -> Found
+    ensures { result ≡ chosen (filter (answers Whole text.now (S.shown scene.now)) ((S.shown scene.now).contents owner)) }
+{
+    let mut found = Found::None;
+    let mut at = scene.first_content(owner);
+    while !is_nothing(at) {
+        found = one_more(scene, Fit::Whole, text, found, at);
+        if matches!(found, Found::Many) {
+            return found;
+        }
+        at = scene.next(at);
+    }
+    found
 }
 
 // With the exits on one object more, where it is a thing.
@@ -55,43 +71,19 @@ fn hit_more<S: Scene>(scene: &S, text: &[u8], hit: Option<ExitHit>, d: Dbref) ->
     }
 }
 
-// With one object more.
-fn seen_more<S: Scene>(scene: &S, text: &[u8], seen: Glance, d: Dbref) -> Glance
-    ensures { SeesMore (S.shown scene.now) text.now seen result d }
-{
-    if answers(scene, Fit::Whole, text, d) {
-        let whole = joined(seen.whole, Found::One(d));
-        return Glance {
-            whole,
-            part: seen.part,
-            hit: seen.hit,
-        };
-    }
-    if !is_nobody(seen.whole) {
-        return seen;
-    }
-    Glance {
-        whole: seen.whole,
-        part: part_more(scene, text, seen.part, d),
-        hit: hit_more(scene, text, seen.hit, d),
-    }
-}
-
-// What the contents of an object show. It ends where a second name equals the text.
+// What the contents of an object show.
 fn look_into<S: Scene>(scene: &S, text: &[u8], owner: Dbref) -> Glance
     ensures { Sees (S.shown scene.now) text.now owner result [] }
 {
     let mut seen = Glance {
-        whole: Found::None,
         part: Found::None,
         hit: None,
     };
     let mut at = scene.first_content(owner);
     while !is_nothing(at) {
-        seen = seen_more(scene, text, seen, at);
-        if matches!(seen.whole, Found::Many) {
-            return seen;
-        }
+        let part = one_more(scene, Fit::Part, text, seen.part, at);
+        let hit = hit_more(scene, text, seen.hit, at);
+        seen = Glance { part, hit };
         at = scene.next(at);
     }
     seen
@@ -111,16 +103,17 @@ fn exit_or_part(hit: Option<ExitHit>, part: Found) -> Found
 pub fn named<S: Scene>(scene: &S, text: &[u8], player: Dbref) -> Found
     ensures { result ≡ named (S.shown scene.now) player text.now }
 {
-    let carried = look_into(scene, text, player);
-    if matches!(carried.whole, Found::Many) {
+    let carried = equal_in(scene, text, player);
+    if matches!(carried, Found::Many) {
         return Found::Many;
     }
     let place = place_in(scene, player);
-    let beside = look_into(scene, text, place);
-    let whole = joined(carried.whole, beside.whole);
+    let whole = joined(carried, equal_in(scene, text, place));
     if !is_nobody(whole) {
         return whole;
     }
-    let hit = hit_besides(scene, text, player, carried.hit, beside.hit);
-    exit_or_part(hit, joined(carried.part, beside.part))
+    let own = look_into(scene, text, player);
+    let beside = look_into(scene, text, place);
+    let hit = hit_besides(scene, text, player, own.hit, beside.hit);
+    exit_or_part(hit, joined(own.part, beside.part))
 }

@@ -12,6 +12,9 @@ use std::marker::Model;
 /// As many bytes as are kept of a connection whose output was written: most that it is sent at once fits.
 const ROOM_LEAST: usize = 256;
 
+// So many times what is queued for a connection may wait while lines come, so that more of it goes out in one write.
+const WAITS_MOST: usize = 8;
+
 /// A link that is open: its cutter, the bytes that were taken and not written yet, and what it answered.
 #[derive(Drop)]
 pub struct Peer {
@@ -23,6 +26,10 @@ pub struct Peer {
     pub(crate) len: usize,
     // How many lines were entered since bytes were taken.
     pub(crate) entered: usize,
+    // How often it was held back since bytes were taken.
+    pub(crate) held: usize,
+    // Whether it is held back now.
+    pub(crate) waits: bool,
     // Whether a read answered the end.
     pub(crate) ended: bool,
     // Whether a read or a write failed.
@@ -77,6 +84,8 @@ impl Peer {
             at: 0,
             len: 0,
             entered: 0,
+            held: 0,
+            waits: false,
             ended: false,
             faulted: false,
             refused: false,
@@ -89,6 +98,22 @@ impl Peer {
         ensures { result ≡ self.now.number }
     {
         self.number
+    }
+
+    /// Whether a whole line was read and not entered yet. Nothing depends on the answer but when something is done.
+    pub fn has_line(&self) -> bool {
+        self.cutter.has_line()
+    }
+
+    /// Holds back what is queued for the connection while lines come, a few times, so that more of it goes out in one write; answers whether it does.
+    pub fn holds_back(&mut self, lines_come: bool) -> bool
+        ensures { self.new ≡ self.old }
+    {
+        self.waits = lines_come && self.held < WAITS_MOST;
+        if self.waits {
+            self.held += 1;
+        }
+        self.waits
     }
 
     /// Whether bytes were taken and not written yet.

@@ -28,6 +28,11 @@ pub enum Chose {
 }
 
 impl Peer {
+    // Whether so many bytes that wait are taken now.
+    fn takes_now(&self, queued: usize) -> bool {
+        queued > 0 && (!self.waits || queued >= BYTES_MANY)
+    }
+
     /// Whether something is to be done for the connection in this world. Nothing depends on the answer but when it is done.
     pub fn wants(&self, world: &World) -> bool
         requires { (now world.now).dead ≡ false }
@@ -35,7 +40,7 @@ impl Peer {
         if self.may_close(world) {
             return true;
         }
-        if !self.has_unsent() && world.queued(self.number) > 0 {
+        if !self.has_unsent() && self.takes_now(world.queued(self.number)) {
             return true;
         }
         self.cutter.has_line() && world.may_hear(self.number)
@@ -64,6 +69,7 @@ impl Peer {
         self.at = 0;
         self.len = n;
         self.entered = 0;
+        self.held = 0;
         Chose::Went
     }
 

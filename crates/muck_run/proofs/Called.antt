@@ -15,7 +15,7 @@ use Rattle.muck_run.specs.Outcome.{HasRead, HasBegun, IsUnbegun, IsUntouched, En
 use Rattle.muck_run.specs.inner.Ends.{refusal_of, MayNotOpen, IsMountWhy, MayRefuse, IsScriptWhy, HasPlayed, NeverPlayed, MayEnd, MayEndDump, booted_from}
 use Rattle.muck_run.specs.declared.why.Why.{Why}
 use Rattle.muck_run.specs.declared.why.Why.TheVariants.{Fine, BadScript, NoMemory, ReadFault, WriteFault, DiskFault, Damaged, StoreFull}
-use Rattle.muck_run.proofs.Started.{licensed_from, sourced_from, denials_from, origins_from, seats_from, stops_from, known_from}
+use Rattle.muck_run.proofs.Started.{licensed_from, sourced_from, denials_from, origins_from, seats_from, stops_from, there_from, known_from}
 use Rattle.muck_run.proofs.Untouched.{untouched_still, untouched_on}
 
 -- Files that aren't opened, and stores that aren't mounted.
@@ -127,6 +127,7 @@ module _ {S K D : Type 0} (left : S → Option (List ℕ)) (faults : S → ℕ) 
       origins = origins_from 0 log.chosen.held.world tale;
       seats = seats_from 0 log.chosen.held.world tale p.lawful;
       stops = stops_from 0 log.chosen.held.world tale;
+      there = there_from 0 log.chosen.held.world tale p.lawful;
       passwords = known_from 0 log.chosen.held.world tale p.lawful;
       acts = acts;
       read = read;

@@ -33,9 +33,11 @@ use Rattle.spec_denials.proofs.Histories.{all_denials_named}
 use Rattle.spec_origins.specs.Origins.{AllOrigins}
 use Rattle.spec_origins.specs.Seats.{AllSeated}
 use Rattle.spec_origins.specs.Stops.{AllStops}
+use Rattle.spec_origins.specs.There.{StaysThere}
 use Rattle.spec_origins.proofs.Histories.{all_origins_booted}
 use Rattle.spec_origins.proofs.Waiting.{all_seated_booted}
 use Rattle.spec_origins.proofs.Stopping.{all_stops}
+use Rattle.spec_origins.proofs.Staying.{stays_there_booted}
 use Rattle.spec_events.proofs.Passwords.{all_known_booted}
 use Rattle.spec_events.proofs.SourcedEvents.{all_sourced_booted}
 use Rattle.spec_events.proofs.Turns.{all_licensed_booted}
@@ -115,6 +117,9 @@ seats_from began kept es lawful = all_seated_booted (loaded kept.objects) kept.t
 
 pub stops_from : (began : ℕ) (kept : Kept) (es : List Happened) → AllStops (booted_at began kept) es
 stops_from began kept es = all_stops (booted_at began kept) es
+
+pub there_from : (began : ℕ) (kept : Kept) (es : List Happened) → AllLawful (booted_at began kept) es → StaysThere (booted_at began kept) es
+there_from began kept es lawful = stays_there_booted (loaded kept.objects) kept.tune began began (unmarked kept.objects) es lawful
 
 pub known_from : (began : ℕ) (kept : Kept) (es : List Happened) → AllLawful (booted_at began kept) es → AllKnown (booted_at began kept) es
 known_from began kept es lawful = all_known_booted (loaded kept.objects) kept.tune began began (unmarked kept.objects) es lawful

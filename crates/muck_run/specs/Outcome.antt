@@ -19,6 +19,7 @@ use Rattle.spec_denials.specs.Denials.{AllDenialsNamed}
 use Rattle.spec_origins.specs.Origins.{AllOrigins}
 use Rattle.spec_origins.specs.Seats.{AllSeated}
 use Rattle.spec_origins.specs.Stops.{AllStops}
+use Rattle.spec_origins.specs.There.{StaysThere}
 use Rattle.muck_script.specs.declared.act.Act.{Act}
 use Rattle.muck_script.specs.Script.{script_of}
 use Rattle.muck_script.specs.Story.{Dumped, stored, failed, outcomes_of, dump_entries, story, text_of, transcript}
@@ -147,8 +148,8 @@ pub record IsStart (tells : Bool) (a b : List ℕ) (began : ℕ) (w : World) (mo
 
 -- What happened in a run that began in the world w: each entry was lawful where it stands, and changed only what is open there; what was built and what ran was of
 -- the source that its program had there; what a unit was denied, it was by the rule that denies an act that it asked for, and where it went on each of these was allowed; each
--- process was whose it should be, and others kept theirs, and so the lines that wait and the editors of connections; only the porter and who may had it stop; whoever has a player
--- gave its password; and the tale and what was written are those of the script that was read.
+-- process was whose it should be, and others kept theirs, and so the lines that wait and the editors of connections; only the porter and who may had it stop; what wasn't there was
+-- nobody's trigger or program, and nobody edited it; whoever has a player gave its password; and the tale and what was written are those of the script that was read.
 pub record HasHappened {S K : Type 0} (left : S → Option (List ℕ)) (faults : S → ℕ) (written : K → Option (List ℕ)) (breaks : K → ℕ) (w : World) (why : Why) (s t : S) (k l : K) (tale : List Entry) : Type 0 where
   pub lawful : AllLawful w tale
   pub licensed : AllLicensed w tale
@@ -157,6 +158,7 @@ pub record HasHappened {S K : Type 0} (left : S → Option (List ℕ)) (faults :
   pub origins : AllOrigins w tale
   pub seats : AllSeated w tale
   pub stops : AllStops w tale
+  pub there : StaysThere w tale
   pub passwords : AllKnown w tale
   pub acts : List Act
   pub read : HasRead left faults s t acts

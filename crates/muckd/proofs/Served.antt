@@ -30,7 +30,7 @@ use Rattle.muck_run.specs.inner.Ends.{IsBootable, IsNoteOf, booted_at, unbegun_a
 use Rattle.muck_run.specs.declared.why.Why.{Why}
 use Rattle.muck_run.specs.declared.why.Why.TheVariants.{Fine, Usage, NoMemory, DiskFault, Damaged, ListenFault, StoreFull, Spent}
 use Rattle.muck_run.proofs.Called.{holds_still, either_since}
-use Rattle.muck_run.proofs.Started.{rests_started, licensed_from, sourced_from, denials_from, origins_from, seats_from, stops_from, known_from}
+use Rattle.muck_run.proofs.Started.{rests_started, licensed_from, sourced_from, denials_from, origins_from, seats_from, stops_from, there_from, known_from}
 use Rattle.muck_run.proofs.Untouched.{untouched_still, untouched_on}
 
 -- The answers of the server, as the call gives them.
@@ -166,6 +166,7 @@ module _ {L C D : Type 0} (shows : Bool) (told : L → Told) (listening : L → 
     origins = origins_from began log.chosen.held.world tale;
     seats = seats_from began log.chosen.held.world tale s.lawful;
     stops = stops_from began log.chosen.held.world tale;
+    there = there_from began log.chosen.held.world tale s.lawful;
     passwords = known_from began log.chosen.held.world tale s.lawful;
     shared = s.shared;
     over = s.over;

@@ -15,6 +15,7 @@ use Rattle.spec_denials.specs.Denials.{AllDenialsNamed}
 use Rattle.spec_origins.specs.Origins.{AllOrigins}
 use Rattle.spec_origins.specs.Seats.{AllSeated}
 use Rattle.spec_origins.specs.Stops.{AllStops}
+use Rattle.spec_origins.specs.There.{StaysThere}
 use Rattle.spec_serve.specs.Marks.{counts_in, IsLinksNote}
 use Rattle.spec_serve.specs.Promises.{Tally}
 use Rattle.muck_porter.specs.Times.{Timely}
@@ -88,6 +89,7 @@ pub record HasServed {L C D : Type 0} (shows : Bool) (told : L → Told) (listen
   pub origins : AllOrigins start tale
   pub seats : AllSeated start tale
   pub stops : AllStops start tale
+  pub there : StaysThere start tale
   pub passwords : AllKnown start tale
   pub shared : IsShared workers tale
   pub over : ¬ (HasRunOut cause tale) → AllOver workers tale

@@ -4,3 +4,4 @@ pub mod EditRows
 pub mod ProgramRows
 pub mod TalkRows
 pub mod GoingRows
+pub mod WalkRows

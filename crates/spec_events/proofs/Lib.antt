@@ -26,6 +26,7 @@ pub mod Runs
 pub mod Logging
 pub mod Owning
 pub mod Turns
+mod Knowing
 pub mod Passwords
 pub mod Claims
 mod Errors

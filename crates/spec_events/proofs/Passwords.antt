@@ -36,6 +36,7 @@ use Rattle.spec_events.specs.Steps.{is_died, is_allowed, is_lawful, happened, ef
 use Rattle.spec_events.specs.Licences.{LineLicensed, TurnLicensed, UnitLicensed, answering, Chained, SliceLicensed, EventLicensed}
 use Rattle.spec_events.specs.Histories.{after, AllLawful, AllLicensed}
 use Rattle.spec_events.specs.Passwords.{credentials, Proves, Stays, IsKnown, AllKnown}
+use Rattle.spec_events.proofs.Knowing.{has_password}
 use Rattle.spec_events.proofs.Quietly.{quiet_told_each}
 use Rattle.spec_events.proofs.Login.{greeted, greeted_open}
 use Rattle.spec_events.proofs.Done.{player-same_ties}
@@ -229,7 +230,7 @@ unfolding waits
 gains_login d line lines w first e p h =
     elim (gives_at_login d line (waits d lines w.live) e p h) [
       | inl k ↦ inl (sym (kept_quiet e (waits d lines) (quiet_waits d lines) w.live) ∙ k)
-      | inr k ↦ inr (sym k.0, subst (λ n. Proves n p w) (sym k.0) (record { line = line; lines = lines; waits = first; name = k.1.0; password = k.1.1; gives = k.2; proves = k.3 }))
+      | inr k ↦ inr (sym k.0, subst (λ n. Proves n p w) (sym k.0) (record { line = line; lines = lines; waits = first; name = k.1.0; password = k.1.1; gives = k.2; proves = has_password k.1.0 k.1.1 w.live.objects p k.3 }))
     ]
 
 gains_line : (d : ℕ) (r : Option ℤ) (player : Option Dbref) (editor : Option EditState) (line : List ℕ) (lines : List (List ℕ)) (w : World) →

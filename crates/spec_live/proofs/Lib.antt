@@ -20,3 +20,4 @@ pub mod Followers
 pub mod EditorLaws
 pub mod Keeping
 pub mod PathLaws
+pub mod PasswordLaws

@@ -36,7 +36,7 @@ gone_by j x old new m (Some p) c e f (inr l) = absurd (never (sym c ∙ (and_par
 pub marks_lapse : (a : Actor) (free : Freedom) (w v : Live) → ((x : Dbref) → free.edits x ≡ false) → IsTold w → SameMarks (judge a free w.objects) w.objects v.objects → IsLapsing w v
 marks_lapse a free w v none told marks k m e = inl (gone_by (judge a free w.objects) (dbref_of k) _ _ m (object_at (dbref_of k) v.objects) (none (dbref_of k)) (told k) e (marks k))
 
-objects_settled : (x : Dbref) (w : World) → object_at x (settled w).live.objects ≡ object_at x w.live.objects
+pub objects_settled : (x : Dbref) (w : World) → object_at x (settled w).live.objects ≡ object_at x w.live.objects
 unfolding settled
 objects_settled x w = told_at x (swept 0 w.live.objects w).live.objects ∙ ap (object_at x) (quietly_swept 0 w.live.objects w).objects
 

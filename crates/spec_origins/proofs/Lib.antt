@@ -15,3 +15,6 @@ pub mod Waiting
 mod Outcomes
 pub mod Stopping
 pub mod Clearing
+mod Named
+mod There
+pub mod Staying

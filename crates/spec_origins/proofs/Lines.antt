@@ -145,7 +145,7 @@ module _ (Lost : Dbref → Type 0) where
   kept_behind a line q v NotMine = kept_ended (line_ends a q line v) q
   kept_behind a line q v outcome = kept_itself q
 
-  kept_left : (d : ℕ) (a : Actor) (line : List ℕ) (w : Live) (q : Queue) → Kept q (left_by d a line w q)
+  pub kept_left : (d : ℕ) (a : Actor) (line : List ℕ) (w : Live) (q : Queue) → Kept q (left_by d a line w q)
   unfolding left_by
   kept_left d a line w q = kept_behind a line q (played d a line w).0 (played d a line w).1
 
@@ -185,7 +185,7 @@ queue_so : (d : ℕ) (program : Dbref) (r : Result Tree Flaw) (w : World) → (c
 queue_so d program (Ok tree) w = refl
 queue_so d program (Err flaw) w = refl
 
-queue_after : (d : ℕ) (program : Dbref) (step : EditStep) (w : World) → (after_edit d program step w).queue ≡ w.queue
+pub queue_after : (d : ℕ) (program : Dbref) (step : EditStep) (w : World) → (after_edit d program step w).queue ≡ w.queue
 unfolding compiled
 queue_after d program Compile w = queue_so d program (built_tree w.live.objects program) w
 queue_after d program Stay w = refl

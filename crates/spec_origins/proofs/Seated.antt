@@ -90,13 +90,13 @@ live_begun m c w = live_built m c (formed w.live.objects c.program w.library) w
 -- Deeds.
 
 -- they are seated as they were, and no object changes
-abbrev Mild : World → World → Type 0
+abbrev pub Mild : World → World → Type 0
 Mild w v = Sits w.live v.live × (v.live.objects ≡ w.live.objects)
 
 mild_as : (w v : World) → v.live ≡ w.live → Mild w v
 mild_as w v e = (subst (Sits w.live) (sym e) (sits_order.itself w.live), ap (λ (x : Live). x.objects) e)
 
-abbrev DeedMild : World → Deed World → Type 0
+abbrev pub DeedMild : World → Deed World → Type 0
 DeedMild w (does t v) = Mild w v
 DeedMild w (rests t v) = Mild w v
 DeedMild w (fails f v) = Mild w v
@@ -166,14 +166,20 @@ row_sits a s w (gives stack live) told r h = (h, marks_lapse a nobody w.live liv
 row_sits a s w (refuses f) told r h = sits_order.itself w.live
 row_sits a s w (breaks f live) told r h = h
 
+pub done_mild : (pid : ℤ) (x : Agent) (p : Name) (s : Source) (w : World) → DeedMild w (process_done pid x p s w)
+unfolding process_done
+done_mild pid x p s w =
+    let a : Actor = acting x s w.live.objects in
+    effect_mild w pid x s (processed p (place_in pid s w) a (locked_of s.marks) s.stack w.live w.queue)
+    (rows.processed_leaves (λ q. Unit {0}) (λ d. ⊥) (place_in pid s w) (λ f g q h. tt) (λ i second event q h. tt) (λ i q h. tt) p a (locked_of s.marks) s.stack w.live w.queue tt)
+    (leaves p (place_in pid s w) a (locked_of s.marks) s.stack w.live w.queue)
+
 deed_sits : (pid : ℤ) (x : Agent) (p : Name) (s : Source) (w : World) → IsTold w.live → DeedSits w (deed pid x p s w)
-unfolding deed row_done process_done
+unfolding deed row_done
 deed_sits pid x p s w told =
     let a : Actor = acting x s w.live.objects in
     cond_both (is_process p) (process_done pid x p s w) (row_done x p s w) (DeedSits w)
-    (λ e. mild_sits w (process_done pid x p s w) told (effect_mild w pid x s (processed p (place_in pid s w) a (locked_of s.marks) s.stack w.live w.queue)
-    (rows.processed_leaves (λ q. Unit {0}) (λ d. ⊥) (place_in pid s w) (λ f g q h. tt) (λ i second event q h. tt) (λ i q h. tt) p a (locked_of s.marks) s.stack w.live w.queue tt)
-    (leaves p (place_in pid s w) a (locked_of s.marks) s.stack w.live w.queue)))
+    (λ e. mild_sits w (process_done pid x p s w) told (done_mild pid x p s w))
     (λ e. row_sits (answers_for p a w.live.objects) s w (shared p a x.descr (locked_of s.marks) s.stack w.live) told (shared_open p a x.descr (locked_of s.marks) s.stack w.live) (sits_shared p a x.descr (locked_of s.marks) s.stack w.live))
 
 -- Units.
@@ -215,7 +221,7 @@ module _ (pid : ℤ) (ts : List Taken) (start : List Connection) where
   seat_within x s w (Some f) told loses h = seat_on (ended_one pid w) (broken pid x.player s.program.number f w) ((sits_tell_player x.player (program_error s.program.number f)).law w.live) h
   seat_within x s w None told loses h = seat_unit x s (one_counted pid w) (unit s) told loses h
 
-  seat_turn : (tune : Tune) (x : Agent) (s : Source) (w : World) → Among (unit_of x s w (turn tune pid x s w)) ts → IsTold w.live → Seat w → Seat (world_of (turn tune pid x s w))
+  pub seat_turn : (tune : Tune) (x : Agent) (s : Source) (w : World) → Among (unit_of x s w (turn tune pid x s w)) ts → IsTold w.live → Seat w → Seat (world_of (turn tune pid x s w))
   unfolding turn
   seat_turn tune x s w among told h =
       let taken : Taken = unit_of x s w (turn tune pid x s w) in
@@ -244,7 +250,7 @@ judged_sits : (d : ℕ) (c : Started) (o : Option Denial) (w : World) → Sits w
 judged_sits d c (Some denial) w = (sits_refused d denial).law w.live
 judged_sits d c None w = told_sits d w (begun (by_command d c.program w) c w) (live_begun (by_command d c.program w) c w)
 
-launched_sits : (d : ℕ) (a : Actor) (c : Started) (w : World) → Sits w.live (launched d a c w).live
+pub launched_sits : (d : ℕ) (a : Actor) (c : Started) (w : World) → Sits w.live (launched d a c w).live
 unfolding launched
 launched_sits d a c w = judged_sits d c (verdict w.live.objects a (Start c.program)) w
 
@@ -252,7 +258,7 @@ so_sits : (d : ℕ) (program : Dbref) (r : Result Tree Flaw) (w : World) → Sit
 so_sits d program (Ok tree) w = (sits_tell d compiler_done).law w.live
 so_sits d program (Err flaw) w = (sits_tell d (flaw_text flaw)).law w.live
 
-after_sits : (d : ℕ) (program : Dbref) (step : EditStep) (w : World) → Sits w.live (after_edit d program step w).live
+pub after_sits : (d : ℕ) (program : Dbref) (step : EditStep) (w : World) → Sits w.live (after_edit d program step w).live
 unfolding compiled
 after_sits d program Compile w = so_sits d program (built_tree w.live.objects program) w
 after_sits d program Stay w = sits_order.itself w.live

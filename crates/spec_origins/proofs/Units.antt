@@ -270,7 +270,7 @@ module _ (pid : ℤ) (ts : List Taken) (start : Queue) where
       unit_holds x s (one_counted pid w) (unit s) refl told mine may loses
       (own_holds (counted 1) (λ p. record { number = refl; origin = record { player = refl; program = refl; command = refl; trigger = inl refl }; tied = inl refl }) w.queue h)
 
-  turn_holds : (tune : Tune) (x : Agent) (s : Source) (w : World) → seat pid w ≡ Some (x, s) → Among (unit_of x s w (turn tune pid x s w)) ts → IsTold w.live → Holds w.queue → Holds (world_of (turn tune pid x s w)).queue
+  pub turn_holds : (tune : Tune) (x : Agent) (s : Source) (w : World) → seat pid w ≡ Some (x, s) → Among (unit_of x s w (turn tune pid x s w)) ts → IsTold w.live → Holds w.queue → Holds (world_of (turn tune pid x s w)).queue
   unfolding turn
   turn_holds tune x s w e among told h =
       let it = sits pid x s w e in

@@ -43,7 +43,7 @@ waits_lines d n lines w = ap (λ (o : Option Connection). option_map (λ (c : Co
     at true (Some c) = refl
     at false o = refl
 
-waits_editor : (d n : ℕ) (lines : List (List ℕ)) (w : Live) → editor_in d (waits n lines w).board.connections ≡ editor_in d w.board.connections
+pub waits_editor : (d n : ℕ) (lines : List (List ℕ)) (w : Live) → editor_in d (waits n lines w).board.connections ≡ editor_in d w.board.connections
 unfolding waits
 waits_editor d n lines w = ap (λ (o : Option Connection). option_and_then (λ (c : Connection). c.editor) o) (found_changed d n (λ c. record c { waiting = lines }) (λ c. refl) w.board.connections) ∙ at (n == d) (found d w.board.connections)
   where

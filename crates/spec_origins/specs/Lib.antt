@@ -2,3 +2,4 @@ pub mod Origins
 pub mod Seats
 pub mod Stops
 pub mod Clearing
+pub mod There

@@ -11,6 +11,7 @@ ghost use Rattle.spec_events.specs.World.{World, booted};
 ghost use Rattle.spec_origins.specs.Origins.{AllOrigins};
 ghost use Rattle.spec_origins.specs.Seats.{AllSeated};
 ghost use Rattle.spec_origins.specs.Stops.{AllStops};
+ghost use Rattle.spec_origins.specs.There.{StaysThere};
 
 /// Says of every history of a world that is booted with objects of which nothing is to be told, whose each process is, and what it is tied to. It does nothing.
 pub fn keeps_origins()
@@ -30,4 +31,9 @@ pub fn keeps_stops()
 /// Says that an object that is gone is nobody's trigger and that nobody edits it, once that was told. It does nothing.
 pub fn clears_what_is_gone()
     ensures { (n : ℕ) (w : World) → mark_in w.live.objects n ≡ Some Gone → IsCleared (dbref_of n) (settled w) }
+{}
+
+/// Says of every lawful history of such a world that behind each entry what isn't there is nobody's trigger or program, and that nobody edits it. It does nothing.
+pub fn keeps_what_is_there()
+    ensures { (objects : List Kept) (tune : Tune) (moment start : ℕ) → ((n : ℕ) → mark_in objects n ≡ None) → (entries : List Entry) → AllLawful (booted objects tune moment start) entries → StaysThere (booted objects tune moment start) entries }
 {}

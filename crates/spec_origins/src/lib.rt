@@ -4,4 +4,4 @@
 
 mod laws;
 
-pub use laws::{clears_what_is_gone, keeps_origins, keeps_seats, keeps_stops};
+pub use laws::{clears_what_is_gone, keeps_origins, keeps_seats, keeps_stops, keeps_what_is_there};

@@ -1,23 +1,15 @@
--- What a walk over objects has seen of those whom a name means.
-use Rattle.std.specs.Prelude.{◌≡◌, ℕ, true, false, List, [], ◌∷◌}
+-- What a walk over objects has seen of those whom a name means in part.
+use Rattle.std.specs.Prelude.{◌≡◌, ℕ, false, List}
 use Rattle.std.specs.List.{filter, flat_map}
 use Rattle.std.specs.Option.{option_or}
 use Rattle.muck_model.specs.declared.dbref.Dbref.{Dbref}
 use Rattle.muck_match.specs.Scenery.{Scenery, sees, is_thing, things_in}
 use Rattle.muck_match.specs.Exits.{first, hits_on}
-use Rattle.muck_match.specs.Naming.{chosen, joined, is_nobody, answers}
-use Rattle.muck_match.specs.declared.naming.Fit.TheVariants.{Whole, Part}
+use Rattle.muck_match.specs.Naming.{chosen, joined, answers}
+use Rattle.muck_match.specs.declared.naming.Fit.TheVariants.{Part}
 use Rattle.muck_match.specs.declared.glances.Glance.{Glance}
 
 -- What was seen, with what those that are left show, is what the contents of an object show.
 pub record Sees (w : Scenery) (text : List ℕ) (owner : Dbref) (seen : Glance) (left : List Dbref) : Type 0 where
-  pub whole : joined seen.whole (chosen (filter (answers Whole text w) left)) ≡ chosen (filter (answers Whole text w) (w.contents owner))
-  pub part : is_nobody seen.whole ≡ true → joined seen.part (chosen (filter (answers Part text w) left)) ≡ chosen (filter (answers Part text w) (w.contents owner))
-  pub hit : is_nobody seen.whole ≡ true → option_or seen.hit (first (flat_map (hits_on w false text) (filter (sees (λ s. is_thing s.kind) w) left))) ≡ first (flat_map (hits_on w false text) (things_in w owner))
-
--- one object more was seen
-pub record SeesMore (w : Scenery) (text : List ℕ) (seen new : Glance) (d : Dbref) : Type 0 where
-  pub whole : new.whole ≡ joined seen.whole (chosen (filter (answers Whole text w) (d ∷ [])))
-  pub none : is_nobody new.whole ≡ true → is_nobody seen.whole ≡ true
-  pub part : is_nobody new.whole ≡ true → new.part ≡ joined seen.part (chosen (filter (answers Part text w) (d ∷ [])))
-  pub hit : is_nobody new.whole ≡ true → new.hit ≡ option_or seen.hit (first (flat_map (hits_on w false text) (filter (sees (λ s. is_thing s.kind) w) (d ∷ []))))
+  pub part : joined seen.part (chosen (filter (answers Part text w) left)) ≡ chosen (filter (answers Part text w) (w.contents owner))
+  pub hit : option_or seen.hit (first (flat_map (hits_on w false text) (filter (sees (λ s. is_thing s.kind) w) left))) ≡ first (flat_map (hits_on w false text) (things_in w owner))

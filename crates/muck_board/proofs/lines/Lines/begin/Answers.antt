@@ -17,7 +17,7 @@ invariant_of-self c =
     let is : c.whole-whole.result.now ≡ lines_bytes (lines_in (drop s.from s.bytes.items)) = c.whole-whole.ensures ∙ ap (λ (w : Waiting). lines_bytes w.lines) (sym c.self.view_is) in
     let some : 0 < length c.whole-whole.result.now = omega (arith, eqb-false _ 0 (sym c.is_empty.ensures ∙ c.if-is_empty.false)) in
     let at = begins_at s.bytes.items c.whole-whole.result.now s.from c.count_before-len.result c.self.invariant.1 c.self.invariant.2 is some c.count_before-len.ensures.at in
-    (at.within, at.within, at.each)
+    (omega arith, at.within, at.each)
 
 pub returns : goal.returns
 returns c =

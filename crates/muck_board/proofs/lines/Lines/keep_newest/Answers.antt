@@ -17,7 +17,7 @@ invariant_of-self c =
     let s = c.self.inside in
     let is : c.whole-whole.result.now ≡ lines_bytes (lines_in (drop s.from s.bytes.items)) = c.whole-whole.ensures ∙ ap (λ (w : Waiting). lines_bytes w.lines) (sym c.self.view_is) in
     let at = kept_at s.bytes.items c.whole-whole.result.now s.from c.end_behind.result c.args.room c.self.invariant.1 c.self.invariant.2 is (omega (arith, c.requires, ap length c.whole-whole.ensures)) c.end_behind.ensures in
-    (c.self.invariant.0, at.within, at.each)
+    (omega (arith, c.self.invariant.0), at.within, at.each)
 
 pub returns : goal.returns
 returns c =

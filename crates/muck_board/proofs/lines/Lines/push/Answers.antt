@@ -11,13 +11,13 @@ invariant_of-self-2 c =
     let as_many = ap length c.in_ok-extend_from_slice.ensures.items in
     let more = length-append s.bytes.items c.as_slice.result.now in
     let at = pushed_at s.bytes.items new c.as_slice.result.now s.from c.args.sent.now c.self.invariant.1 c.self.invariant.2 c.in_ok-extend_from_slice.ensures.items c.as_slice.ensures.bytes c.as_slice.ensures.each in
-    (omega (arith, as_many, more, c.self.invariant.0), omega (arith, as_many, more, c.self.invariant.1), at.each)
+    (c.self.invariant.0, omega (arith, as_many, more, c.self.invariant.1), at.each)
 
 pub returns-clause-ok : goal.returns-clause-ok
 returns-clause-ok c =
     let s = c.self.inside in
     let new = c.extend_from_slice.new.self.items in
     let at = pushed_at s.bytes.items new c.as_slice.result.now s.from c.args.sent.now c.self.invariant.1 c.self.invariant.2 c.in_ok-extend_from_slice.ensures.items c.as_slice.ensures.bytes c.as_slice.ensures.each in
-    let window = same_window s.bytes.items new c.as_slice.result.now s.at s.begun c.self.invariant.0 c.in_ok-extend_from_slice.ensures.items in
+    let window = same_window s.bytes.items new c.as_slice.result.now s.at s.begun (omega (arith, c.self.invariant.0, c.self.invariant.1)) c.in_ok-extend_from_slice.ensures.items in
     let seen : ◌≡◌ {A = Waiting} (record { begun = take s.begun (drop s.at new); lines = lines_in (drop s.from new) }) (record { begun = take s.begun (drop s.at s.bytes.items); lines = lines_in (drop s.from s.bytes.items) ++ c.args.sent.now }) = λ i. record { begun = window i; lines = at.lines i } in
     seen ∙ ap {A = Waiting} {B = Waiting} (λ w. record w { lines = w.lines ++ c.args.sent.now }) (c.self.view_is ∙ c.compact.ensures)

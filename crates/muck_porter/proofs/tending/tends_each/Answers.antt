@@ -1,7 +1,7 @@
 use Rattle.std.proofs.Common.{rules, refl, ◌∙◌}
 use Rattle.atomic_table.proofs.Lists.{at_index}
 use Rattle.muck_porter.proofs.Doing.{tends_more, loses_more}
-use Rattle.muck_porter.proofs.tending.tends_all.Goals as goal
+use Rattle.muck_porter.proofs.tending.tends_each.Goals as goal
 
 pub loop-at-init : goal.loop-at-init
 loop-at-init g c = (refl, refl, (λ t v b coming n known bk. bk), (λ t. refl))

@@ -1,6 +1,6 @@
 use Rattle.std.proofs.Common.{◌≡◌, ◌-◌, true, vec_len}
 use Rattle.muck_porter.specs.inner.Moves.{Tends}
-use Rattle.muck_porter.proofs.tending.tends_all.Given as goal
+use Rattle.muck_porter.proofs.tending.tends_each.Given as goal
 
 abbrev pub invariant-loop-at : goal.invariant-loop-at
 invariant-loop-at g l =
