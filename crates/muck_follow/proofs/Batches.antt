@@ -1,6 +1,6 @@
 -- The bodies of a store are the batches that a mirror takes.
 use Rattle.std.proofs.Common.{◌≡◌, inl, inr, ℕ, zero, suc, ◌+◌, ◌-◌, ◌<◌, ◌≤◌, ◌^◌, Bool, true, false, eqb, leb, ltb, List, [], ◌∷◌, ◌++◌, length, take, drop, get_or, Option, Some, None, Result, Ok, Err, refl, sym, ◌∙◌, ap, subst, arith, length-take, length-drop, take-append-drop, append_assoc}
-use Rattle.std.specs.Prelude.{if◌then◌else◌, codes, bytes_eq, ◌&&◌, ◌||◌, option_map, option_and_then}
+use Rattle.std.specs.Prelude.{if◌then◌else◌, codes, bytes_eq, ◌&&◌, ◌||◌, option_and_then}
 use Rattle.std.specs.Option.{option_map_or}
 use Rattle.std.specs.Int.{w64, to_be_bytes, from_be_bytes}
 use Rattle.std.proofs.lemmas.List.{get_or-drop, get_or-take, drop-drop}
@@ -15,10 +15,10 @@ use Rattle.muck_log.specs.Body.{Body, body_of, magic}
 use Rattle.muck_log.specs.World.{World, start, laid, laid_over, batch_if}
 use Rattle.muck_log.specs.File.{Held, join, follows, after_number, begin}
 use Rattle.muck_log.proofs.Fronts.{cond_some, map_some, and_then_some}
-use Rattle.muck_mirror.specs.Bodies.{literal_at, version_at, Head, head_at, Body as Read, placed, body_in}
+use Rattle.muck_mirror.specs.Bodies.{literal_at, version_at, head_at, Body as Read, placed, body_in}
 use Rattle.muck_mirror.specs.Laying.{laid_in}
-use Rattle.muck_mirror.specs.Fronts.{IsBatch, AreBatches, laid_body, or_else_world, front_world}
-use Rattle.muck_bodies.specs.Bodies.{bodies, bodies_of, number_of, first_number, Lead}
+use Rattle.muck_mirror.specs.Fronts.{AreBatches, laid_body, or_else_world, front_world}
+use Rattle.muck_bodies.specs.Bodies.{bodies, number_of, first_number, Lead}
 use Rattle.muck_follow.specs.Fronts.{AreBytes}
 
 -- Parts of bytes are bytes.

@@ -1,14 +1,14 @@
 -- What the mirror of a store holds.
-use Rattle.std.proofs.Common.{◌≡◌, ℕ, zero, suc, ◌+◌, ◌<◌, ◌≤◌, ◌^◌, Bool, true, false, eqb, List, [], ◌∷◌, ◌++◌, length, Option, Some, None, Ok, refl, sym, ◌∙◌, ap, subst, arith}
-use Rattle.std.specs.Prelude.{find, if◌then◌else◌, slice_get, All}
+use Rattle.std.proofs.Common.{◌≡◌, ℕ, suc, ◌<◌, ◌≤◌, ◌^◌, Bool, true, false, eqb, List, [], ◌∷◌, ◌++◌, length, Option, Some, None, refl, sym, ◌∙◌, ap, arith}
+use Rattle.std.specs.Prelude.{find, if◌then◌else◌}
 use Rattle.std.proofs.lemmas.List.Elements.{All-append, All-nil, All-cons}
-use Rattle.std.proofs.lemmas.Option.{same_Some, none-some}
+use Rattle.std.proofs.lemmas.Option.{none-some}
 use Rattle.muck_log.specs.World.{start}
-use Rattle.muck_log.specs.Store.{Chosen, stored, pick}
-use Rattle.muck_mirror.specs.Mirrors.{Mirror, made}
-use Rattle.muck_mirror.specs.Fronts.{Call, left_by as left_by_call, after_calls, IsOneOf, AllOneOf, Holds}
+use Rattle.muck_log.specs.Store.{Chosen, pick}
+use Rattle.muck_mirror.specs.Mirrors.{Mirror}
+use Rattle.muck_mirror.specs.Fronts.{Call, left_by as left_by_call, after_calls, IsOneOf, AllOneOf}
 use Rattle.muck_mirror.proofs.Fronts.{holds}
-use Rattle.muck_bodies.specs.Bodies.{bodies, bodies_of, body_numbered, number_of, first_number, Lead}
+use Rattle.muck_bodies.specs.Bodies.{bodies_of, body_numbered, number_of, first_number}
 use Rattle.muck_bodies.proofs.Stores.{lead_there}
 use Rattle.muck_follow.specs.declared.act.Act.{Act}
 use Rattle.muck_follow.specs.declared.act.Act.TheVariants.{Nothing, Feed}

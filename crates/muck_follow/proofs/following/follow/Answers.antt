@@ -1,4 +1,3 @@
-use Rattle.std.proofs.Common.{◌≡◌, Ok, ◌∙◌}
 use Rattle.muck_log.specs.Store.{pick}
 use Rattle.muck_follow.proofs.Fronts.{follows}
 use Rattle.muck_follow.proofs.Replies.{told_is, first_counts, second_counts, on_error_as}
