@@ -4,6 +4,8 @@
 ghost use Rattle.std.specs.Prelude.{◌<◌, ◌^◌};
 
 #[cfg(test)]
+mod mirrors;
+#[cfg(test)]
 mod records;
 #[cfg(test)]
 mod runs;
