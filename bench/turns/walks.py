@@ -25,7 +25,7 @@ ROWS = [
     *both("match in a room of 99,000 things", '"lantern" match pop', 45, world=worlds.full_room),
     *both("match 99,000 places deep", '"lantern" match pop', 23, world=worlds.deep),
     *both("envprop 99,000 places deep", 'me @ "lantern" envprop pop pop', 15, world=worlds.deep),
-    section("notify of 4,096 line ends to 60 connections", SLICE, 26, "me @ v @ notify", TELL, setup=OTHERS, over="preempt_units: each unit copies the text for each connection"),
+    section("notify of 4,096 line ends to 60 connections", SLICE, 26, "me @ v @ notify", TELL, setup=OTHERS),
     rounds_of("moveto of the last of 99,000 things: a section", SLICE, None, 1900, f"{worlds.MANY + worlds.FIRST} swap - dbref #2 moveto", index="", world=worlds.full_room, over=SECTION),
     line("say, beside nothing that takes long", *['"a'] * 1000, world=worlds.small),
     line("look in a room of 99,000 things", *["look"] * 10, world=worlds.full_room),
