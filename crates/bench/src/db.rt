@@ -1,5 +1,5 @@
 // Makes things in a world, moves them between two rooms, recycles linked rooms and looks for a player whom nobody knows.
-ghost use Rattle.std.specs.Prelude.{◌≡◌, length, IfOk};
+ghost use Rattle.std.specs.Prelude.{◌≡◌, length, IfSome};
 
 use muck_db::{Db, DbFault};
 use muck_match::player;
@@ -16,19 +16,21 @@ const THERE: Dbref = Dbref(3);
 
 const FIRST_THING: u32 = 4;
 
-fn a_name(alloc: Global) -> Result<Line, DbFault>
-    ensures { IfOk result (λ line. length line ≡ 7) }
+const NAME: &[u8; 7] = b"a thing";
+
+/// A name of these bytes.
+pub(crate) fn name_of(alloc: Global, bytes: &[u8]) -> Option<Line>
+    ensures { IfSome result (λ line. length line ≡ length bytes.now) }
 {
-    match Line::new(alloc, b"a thing") {
-        Ok(line) => Ok(line),
-        Err(_) => Err(DbFault::NoMemory),
-    }
+    Line::new(alloc, bytes).ok()
 }
 
 // An object of One's.
 fn make(db: &mut Db, alloc: Global, kind: Kind, place: Dbref) -> Result<Dbref, DbFault> {
-    let name = a_name(alloc)?;
-    db.create(alloc, kind, name, ONE, place)
+    match name_of(alloc, NAME) {
+        Some(name) => db.create(alloc, kind, name, ONE, place),
+        None => Err(DbFault::NoMemory),
+    }
 }
 
 fn make_rooms(db: &mut Db, alloc: Global) -> Result<(), DbFault> {
@@ -117,7 +119,7 @@ fn work(db: &mut Db, alloc: Global, things: u32, moves: u32, rooms: u32) -> Resu
 
 // How many objects there are, and how many of so many searches find someone.
 fn counted(db: &Db, alloc: Global, searches: u32) -> Option<String> {
-    let name = a_name(alloc).ok()?;
+    let name = name_of(alloc, NAME)?;
     let found = found(db, &name, searches);
     let objects = db.objects();
     format!(in alloc; "{objects} objects, {found} found").ok()

@@ -18,16 +18,26 @@ const ROOM_ZERO: Dbref = Dbref(0);
 
 const ONE: Dbref = Dbref(1);
 
-// A loop that writes one property, one that reads it, one that moves a thing to and fro and names it, or one that does all these
-// and also goes on to the next property and looks upward.
+// A loop that writes one property.
+const PUT: &str = ": main pop begin #0 \"_p5\" 7 setprop repeat ;";
+
+// One that reads it.
+const GET: &str = ": main pop begin #0 \"_p5\" getprop pop repeat ;";
+
+// One that moves a thing to and fro and names it.
+const MOVE: &str = ": main pop begin #2 #3 moveto #2 #0 moveto #2 \"Gem\" setname repeat ;";
+
+// One that does all these, and also goes on to the next property and looks upward.
+const ALL: &str =
+    ": main pop begin #0 \"_p5\" 7 setprop #0 \"_p5\" getprop pop #0 \"_p5\" nextprop pop #1 \"_p5\" envprop pop pop #2 #3 moveto #2 #0 moveto #2 \"Gem\" setname repeat ;";
+
+// A text in a match costs the prover by its length, and a constant doesn't.
 fn source_of(name: &str) -> &'static str {
     match name {
-        "put" => ": main pop begin #0 \"_p5\" 7 setprop repeat ;",
-        "get" => ": main pop begin #0 \"_p5\" getprop pop repeat ;",
-        "move" => ": main pop begin #2 #3 moveto #2 #0 moveto #2 \"Gem\" setname repeat ;",
-        _ => {
-            ": main pop begin #0 \"_p5\" 7 setprop #0 \"_p5\" getprop pop #0 \"_p5\" nextprop pop #1 \"_p5\" envprop pop pop #2 #3 moveto #2 #0 moveto #2 \"Gem\" setname repeat ;"
-        }
+        "put" => PUT,
+        "get" => GET,
+        "move" => MOVE,
+        _ => ALL,
     }
 }
 
