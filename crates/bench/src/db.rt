@@ -1,6 +1,4 @@
 // Makes things in a world, moves them between two rooms, recycles linked rooms and looks for a player whom nobody knows.
-ghost use Rattle.std.specs.Prelude.{◌≡◌, length, IfSome};
-
 use muck_db::{Db, DbFault};
 use muck_match::player;
 use muck_model::{Dbref, Kind, Line};
@@ -18,18 +16,11 @@ const FIRST_THING: u32 = 4;
 
 const NAME: &[u8; 7] = b"a thing";
 
-/// A name of these bytes.
-pub(crate) fn name_of(alloc: Global, bytes: &[u8]) -> Option<Line>
-    ensures { IfSome result (λ line. length line ≡ length bytes.now) }
-{
-    Line::new(alloc, bytes).ok()
-}
-
 // An object of One's.
 fn make(db: &mut Db, alloc: Global, kind: Kind, place: Dbref) -> Result<Dbref, DbFault> {
-    match name_of(alloc, NAME) {
-        Some(name) => db.create(alloc, kind, name, ONE, place),
-        None => Err(DbFault::NoMemory),
+    match Line::of_text(alloc, NAME) {
+        Ok(name) => db.create(alloc, kind, name, ONE, place),
+        Err(_) => Err(DbFault::NoMemory),
     }
 }
 
@@ -119,7 +110,7 @@ fn work(db: &mut Db, alloc: Global, things: u32, moves: u32, rooms: u32) -> Resu
 
 // How many objects there are, and how many of so many searches find someone.
 fn counted(db: &Db, alloc: Global, searches: u32) -> Option<String> {
-    let name = name_of(alloc, NAME)?;
+    let name = Line::of_text(alloc, NAME).ok()?;
     let found = found(db, &name, searches);
     let objects = db.objects();
     format!(in alloc; "{objects} objects, {found} found").ok()

@@ -1,5 +1,4 @@
 // Three players in a room with many things: one says something again and again, and then looks around again and again.
-use crate::db::name_of;
 use muck_board::Board;
 use muck_db::{Db, DbFault};
 use muck_model::{Dbref, Kind, Line, Tune};
@@ -27,7 +26,7 @@ pub(crate) const TUNE: Tune = Tune {
 /// So many more objects of a kind in Room Zero.
 pub(crate) fn make(db: &mut Db, alloc: Global, kind: Kind, count: u32) -> Option<()> {
     for _ in 0..count {
-        let name = name_of(alloc, b"Two")?;
+        let name = Line::of_text(alloc, b"Two").ok()?;
         db.create(alloc, kind, name, ONE, ROOM_ZERO).ok()?;
     }
     Some(())
