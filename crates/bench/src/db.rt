@@ -1,6 +1,4 @@
 // Makes things in a world, moves them between two rooms, recycles linked rooms and looks for a player whom nobody knows.
-ghost use Rattle.std.specs.Prelude.{◌≡◌, length, IfOk};
-
 use muck_db::{Db, DbFault};
 use muck_match::player;
 use muck_model::{Dbref, Kind, Line};
@@ -16,19 +14,14 @@ const THERE: Dbref = Dbref(3);
 
 const FIRST_THING: u32 = 4;
 
-fn a_name(alloc: Global) -> Result<Line, DbFault>
-    ensures { IfOk result (λ line. length line ≡ 7) }
-{
-    match Line::new(alloc, b"a thing") {
-        Ok(line) => Ok(line),
-        Err(_) => Err(DbFault::NoMemory),
-    }
-}
+const NAME: &[u8; 7] = b"a thing";
 
 // An object of One's.
 fn make(db: &mut Db, alloc: Global, kind: Kind, place: Dbref) -> Result<Dbref, DbFault> {
-    let name = a_name(alloc)?;
-    db.create(alloc, kind, name, ONE, place)
+    match Line::of_text(alloc, NAME) {
+        Ok(name) => db.create(alloc, kind, name, ONE, place),
+        Err(_) => Err(DbFault::NoMemory),
+    }
 }
 
 fn make_rooms(db: &mut Db, alloc: Global) -> Result<(), DbFault> {
@@ -117,7 +110,7 @@ fn work(db: &mut Db, alloc: Global, things: u32, moves: u32, rooms: u32) -> Resu
 
 // How many objects there are, and how many of so many searches find someone.
 fn counted(db: &Db, alloc: Global, searches: u32) -> Option<String> {
-    let name = a_name(alloc).ok()?;
+    let name = Line::of_text(alloc, NAME).ok()?;
     let found = found(db, &name, searches);
     let objects = db.objects();
     format!(in alloc; "{objects} objects, {found} found").ok()

@@ -18,17 +18,31 @@ const ROOM_ZERO: Dbref = Dbref(0);
 
 const ONE: Dbref = Dbref(1);
 
-// A loop that writes one property, one that reads it, one that moves a thing to and fro and names it, or one that does all these
-// and also goes on to the next property and looks upward.
-fn source_of(name: &str) -> &'static str {
+// Writes a property.
+const PUT: &str = " #0 \"_p5\" 7 setprop";
+
+// Reads it.
+const GET: &str = " #0 \"_p5\" getprop pop";
+
+// Goes on to the next property, and looks upward.
+const WALK: &str = " #0 \"_p5\" nextprop pop #1 \"_p5\" envprop pop pop";
+
+// Moves a thing to and fro, and names it.
+const MOVE: &str = " #2 #3 moveto #2 #0 moveto #2 \"Gem\" setname";
+
+// What the loop of a program does.
+fn parts_of(name: &str) -> [&'static str; 4] {
     match name {
-        "put" => ": main pop begin #0 \"_p5\" 7 setprop repeat ;",
-        "get" => ": main pop begin #0 \"_p5\" getprop pop repeat ;",
-        "move" => ": main pop begin #2 #3 moveto #2 #0 moveto #2 \"Gem\" setname repeat ;",
-        _ => {
-            ": main pop begin #0 \"_p5\" 7 setprop #0 \"_p5\" getprop pop #0 \"_p5\" nextprop pop #1 \"_p5\" envprop pop pop #2 #3 moveto #2 #0 moveto #2 \"Gem\" setname repeat ;"
-        }
+        "put" => [PUT, "", "", ""],
+        "get" => [GET, "", "", ""],
+        "move" => [MOVE, "", "", ""],
+        _ => [PUT, GET, WALK, MOVE],
     }
+}
+
+fn source_of(alloc: Global, name: &str) -> Option<String> {
+    let [first, second, third, fourth] = parts_of(name);
+    format!(in alloc; ": main pop begin{first}{second}{third}{fourth} repeat ;").ok()
 }
 
 // Room Zero gets so many properties.
@@ -129,7 +143,8 @@ fn worked(
 /// The program `put`, `get`, `move` or `all` runs for so many units, where Room Zero has so many properties; answers how many
 /// units these were.
 pub fn run(alloc: Global, program: &str, units: u32, properties: u32) -> Option<String> {
-    let code = compiled(alloc, source_of(program))?;
+    let source = source_of(alloc, program)?;
+    let code = compiled(alloc, source.as_str())?;
     let mut frame = empty_frame(alloc)?;
     let mut db = Db::starting(alloc).ok()?;
     worked(alloc, &code, &mut frame, &mut db, (units, properties))

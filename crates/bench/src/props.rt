@@ -29,15 +29,20 @@ fn fill(alloc: Global, props: &mut Props, count: u32) -> Option<()> {
     Some(())
 }
 
+// A step of a walk over all children of the top; answers whether there was one.
+fn walk(alloc: Global, props: &Props, last: &mut Option<Path>) -> Option<bool> {
+    *last = props.next(alloc, None, last.as_ref()).ok()?;
+    Some(last.is_some())
+}
+
 // The steps of a walk over all children of the top.
 fn walked(alloc: Global, props: &Props) -> Option<u64> {
     let mut steps = 0u64;
     let mut last = None;
     for _ in 0..u32::MAX {
-        let Some(child) = props.next(alloc, None, last.as_ref()).ok()? else {
+        if !walk(alloc, props, &mut last)? {
             break;
-        };
-        last = Some(child);
+        }
         steps = steps.saturating_add(1);
     }
     Some(steps)

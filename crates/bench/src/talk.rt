@@ -1,6 +1,4 @@
 // Three players in a room with many things: one says something again and again, and then looks around again and again.
-ghost use Rattle.std.specs.Prelude.{◌≡◌, length, IfSome};
-
 use muck_board::Board;
 use muck_db::{Db, DbFault};
 use muck_model::{Dbref, Kind, Line, Tune};
@@ -25,28 +23,28 @@ pub(crate) const TUNE: Tune = Tune {
     dump_interval: 900,
 };
 
-fn a_name(alloc: Global) -> Option<Line>
-    ensures { IfSome result (λ line. length line ≡ 3) }
-{
-    Line::new(alloc, b"Two").ok()
-}
-
 /// So many more objects of a kind in Room Zero.
 pub(crate) fn make(db: &mut Db, alloc: Global, kind: Kind, count: u32) -> Option<()> {
     for _ in 0..count {
-        let name = a_name(alloc)?;
+        let name = Line::of_text(alloc, b"Two").ok()?;
         db.create(alloc, kind, name, ONE, ROOM_ZERO).ok()?;
     }
     Some(())
 }
 
+// A connection for a player; `false` where memory was refused.
+fn seat(board: &mut Board, d: u32, player: Dbref) -> bool {
+    let is_open = board.open(d, b"hi").is_ok();
+    board.seat(d, player);
+    is_open
+}
+
 // A connection for each of the three players.
 fn seat_all(board: &mut Board) -> Option<()> {
-    for d in 1..4u32 {
-        board.open(d, b"hi").ok()?;
-        board.seat(d, Dbref(d as i32));
-    }
-    Some(())
+    let is_first = seat(board, 1, ONE);
+    let is_second = seat(board, 2, Dbref(2));
+    let is_third = seat(board, 3, Dbref(3));
+    (is_first && is_second && is_third).then_some(())
 }
 
 // All that waits to be sent is taken; answers how many bytes.

@@ -7,12 +7,20 @@ use muf_run::run_local;
 use muf_token::{MemIncludes, tokens};
 use std::alloc::Global;
 
-// An empty counted loop, a loop of stack words, or a loop that calls a word of one unit.
+// An empty counted loop.
+const LOOP: &str = ": main pop 1 2000000000 1 for pop repeat ;";
+
+// A loop of stack words.
+const STACK: &str = ": main pop 1 begin dup 1 + swap pop repeat ;";
+
+// A loop that calls a word of one unit.
+const CALL: &str = ": f ; : main pop begin f repeat ;";
+
 fn source_of(name: &str) -> &'static str {
     match name {
-        "loop" => ": main pop 1 2000000000 1 for pop repeat ;",
-        "stack" => ": main pop 1 begin dup 1 + swap pop repeat ;",
-        _ => ": f ; : main pop begin f repeat ;",
+        "loop" => LOOP,
+        "stack" => STACK,
+        _ => CALL,
     }
 }
 
@@ -26,8 +34,10 @@ pub(crate) fn compiled(alloc: Global, source: &str) -> Option<Code> {
 
 /// A frame whose stack has the argument alone.
 pub(crate) fn empty_frame(alloc: Global) -> Option<Frame> {
-    let argument = Line::new(alloc, b"").ok()?;
-    Frame::new(alloc, argument).ok()
+    match Frame::new(alloc, Line::new(alloc, b"").ok()?) {
+        Ok(frame) => Some(frame),
+        Err(_) => None,
+    }
 }
 
 /// A frame begins the last word of the code.

@@ -19,22 +19,72 @@ const SAID: [&str; 5] = [
 // A call of a file that no run comes to.
 const NEVER: u64 = 1_000;
 
+// A file in memory of these bytes, of which the call of this number, from 0 on, fails.
+fn disk_of(alloc: Global, bytes: &[u8], call: u64) -> Result<FailDisk, Fail> {
+    Ok(FailDisk::new(MemDisk::new(alloc, bytes)?, call))
+}
+
+// The status of a run on two files.
+fn status_of(
+    alloc: Global,
+    source: &mut MemSource,
+    sink: &mut MemSink,
+    first: &mut FailDisk,
+    second: &mut FailDisk,
+) -> u8 {
+    let (why, _) = run(alloc, "w", source, sink, first, second);
+    why.status()
+}
+
+// The status of a run on files of these bytes, of whose calls none fails.
+fn again(
+    alloc: Global,
+    source: &mut MemSource,
+    sink: &mut MemSink,
+    first: &[u8],
+    second: &[u8],
+) -> Result<u8, Fail> {
+    let mut first = disk_of(alloc, first, NEVER)?;
+    let mut second = disk_of(alloc, second, NEVER)?;
+    Ok(status_of(alloc, source, sink, &mut first, &mut second))
+}
+
+// The status of a run on a new store whose first file fails this call, and that of one behind it on what it left; `said` gets what the first one wrote.
+fn twice(
+    alloc: Global,
+    source: &mut MemSource,
+    sink: &mut MemSink,
+    call: u64,
+    said: &mut Vec<u8>,
+) -> Result<(u8, u8), Fail> {
+    let mut first = disk_of(alloc, &[], call)?;
+    let mut second = disk_of(alloc, &[], NEVER)?;
+    let status = status_of(alloc, source, sink, &mut first, &mut second);
+    said.extend_from_slice(sink.bytes())?;
+    // (the source has come to its end)
+    let behind = again(
+        alloc,
+        source,
+        sink,
+        first.disk().bytes(),
+        second.disk().bytes(),
+    )?;
+    Ok((status, behind))
+}
+
 // The status of a run of this script whose sink fails the write of this number, from 1 on, and whose first file the call of that
-// number, from 0 on; what it wrote; and the status of an empty run on what it left.
-fn ended(alloc: Global, script: &str, write: u64, call: u64) -> Result<(u8, Vec<u8>, u8), Fail> {
-    let mut failing = Vec::new(alloc);
-    failing.push(write)?;
+// number, from 0 on; and the status of an empty run on what it left. `said` gets what it wrote.
+fn ended(
+    alloc: Global,
+    script: &str,
+    write: u64,
+    call: u64,
+    said: &mut Vec<u8>,
+) -> Result<(u8, u8), Fail> {
+    let failing = Vec::from_slice(alloc, &[write])?;
     let mut sink = MemSink::new(alloc, failing);
     let mut source = MemSource::new(script.as_bytes().to_vec(alloc)?, Vec::new(alloc));
-    let mut first = FailDisk::new(MemDisk::new(alloc, &[])?, call);
-    let mut second = FailDisk::new(MemDisk::new(alloc, &[])?, NEVER);
-    let (why, _) = run(alloc, "w", &mut source, &mut sink, &mut first, &mut second);
-    let said = sink.bytes().to_vec(alloc)?;
-    let mut first = FailDisk::new(MemDisk::new(alloc, first.disk().bytes())?, NEVER);
-    let mut second = FailDisk::new(MemDisk::new(alloc, second.disk().bytes())?, NEVER);
-    // (the source has come to its end)
-    let (again, _) = run(alloc, "w", &mut source, &mut sink, &mut first, &mut second);
-    Ok((why.status(), said, again.status()))
+    twice(alloc, &mut source, &mut sink, call, said)
 }
 
 // The writes before the one that fails stand, and nothing is written after it.
@@ -42,8 +92,9 @@ fn ended(alloc: Global, script: &str, write: u64, call: u64) -> Result<(u8, Vec<
 fn each_write_fails(rt: HostRuntime) -> Result<(), Fail> {
     let mut stands = Vec::new(rt.alloc());
     for (write, piece) in (1u64..).zip(SAID) {
-        let (first, said, again) = ended(rt.alloc(), HELLO, write, NEVER)?;
-        assert_eq!(rt; (first, again), (5, 0), "write {write}");
+        let mut said = Vec::new(rt.alloc());
+        let statuses = ended(rt.alloc(), HELLO, write, NEVER, &mut said)?;
+        assert_eq!(rt; statuses, (5, 0), "write {write}");
         assert_eq!(rt; said.as_slice(), stands.as_slice(), "write {write}");
         stands.extend_from_slice(piece.as_bytes())?;
     }
@@ -56,9 +107,10 @@ fn each_write_fails(rt: HostRuntime) -> Result<(), Fail> {
 fn each_disk_call_fails(rt: HostRuntime) -> Result<(), Fail> {
     for (script, statuses) in [(HELLO, "666666666000"), ("dump\n", "6660000006666000")] {
         for (call, status) in (0u64..).zip(statuses.bytes()) {
-            let (first, _, again) = ended(rt.alloc(), script, 0, call)?;
+            let mut said = Vec::new(rt.alloc());
+            let (first, behind) = ended(rt.alloc(), script, 0, call, &mut said)?;
             assert_eq!(rt;
-                (first.saturating_add(b'0'), again),
+                (first.saturating_add(b'0'), behind),
                 (status, 0),
                 "call {call}"
             );

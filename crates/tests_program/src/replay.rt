@@ -2,44 +2,21 @@
 // slashes. A row `2> look` is typed on a connection, which comes first where it isn't there, and is welcomed; then all turns are
 // taken, and a connection that is leaving goes. A row `3: exec` is a call behind its answer. Then comes what each is sent.
 use crate::close;
-use muck_db::{Db, Persisted};
 use muck_machine::{Sliced, World};
-use muck_model::{Dbref, Flags, Kind, Line, NoMemory, Tune};
+use muck_model::{Line, NoMemory};
 use muck_script::{farewell_text, lines_text, settle};
 use spec_commands::{cut_word, trim};
-use spec_live::BUILDER;
 use std::alloc::Global;
 use std::test::Fail;
 
-// A player may have two processes, and one of level 2 may take 100 units.
-const TUNE: Tune = Tune {
-    instr_slice: 100,
-    preempt_units: 100,
-    m1_units: 100,
-    m2_units: 100,
-    process_limit: 3,
-    player_processes: 2,
-    mpi_commands: 1,
-    dump_interval: 1,
-};
-
 // Room Zero with One, and with #2, Ann, who may build, #3, Bob, who may not, and #4, Two, who may write programs; each has its
-// name as its password. It begins at another second than the program's world, and with other random numbers.
-fn town(alloc: Global) -> Result<World, Fail> {
-    let mut db = Db::starting(alloc)?;
-    for name in [*b"Ann", *b"Bob", *b"Two"] {
-        let word = Line::new(alloc, &name)?;
-        let player = db.create(alloc, Kind::Player, word.copy(alloc)?, Dbref(1), Dbref(0))?;
-        db.set_password(alloc, player, 7, &word)?;
-    }
-    db.set_flags(Dbref(2), Flags(BUILDER))?;
-    db.set_level(Dbref(4), 2)?;
-    if db.next_changed().is_some() {
-        return Err(Fail::new("there is a change to tell of before the world begins"));
-    }
-    let from = Persisted { db, tune: TUNE };
-    Ok(World::boot(alloc, from, 1_000_000, 5)?)
-}
+// name as its password. A player may have two processes, and one of level 2 may take 100 units.
+const TOWN: &str = r#"1> connect One potrzebie / 1< Room Zero(#0R)
+1> @pcreate Ann=Ann / 1< Created Ann(#2P). / 1> @pcreate Bob=Bob / 1< Created Bob(#3P). / 1> @pcreate Two=Two / 1< Created Two(#4P).
+1> @set *Ann=B / 1< Flag set. / 1> @set *Two=M2 / 1< Flag set. / 1> @tune instr_slice=100 / 1< Parameter set.
+1> @tune preempt_units=100 / 1< Parameter set. / 1> @tune m1_units=100 / 1< Parameter set. / 1> @tune m2_units=100 / 1< Parameter set.
+1> @tune process_limit=3 / 1< Parameter set. / 1> @tune player_processes=2 / 1< Parameter set.
+1> @tune mpi_commands=1 / 1< Parameter set. / 1> @tune dump_interval=1 / 1< Parameter set. / 1> QUIT / 1< Come back later! / 1 closed"#;
 
 // The process that is to go on runs for a slice, as another party than the porter has it; answers its number, or 0.
 fn run(world: &mut World) -> Result<u32, NoMemory> {
@@ -72,34 +49,41 @@ fn wait(world: &mut World, seconds: u32) -> bool {
     true
 }
 
+// Whether a call without a text was made, on the connection, of the party or for the seconds of this digit.
+fn made(world: &mut World, word: &[u8], digit: u8) -> Result<bool, Fail> {
+    let d = u32::from(digit);
+    match word {
+        b"open" => Ok(world.opened(d)?),
+        b"close" => Ok(close(world, d)?),
+        b"lose" => Ok(lose(world, d)?),
+        b"wait" => Ok(wait(world, d)),
+        b"idle" => Ok(world.idle(digit)),
+        b"tied" => Ok(world.tied(d)),
+        b"died" => {
+            world.died(0);
+            Ok(world.is_dead())
+        }
+        b"halt" if !world.is_dead() => {
+            world.halt();
+            Ok(world.is_stopping())
+        }
+        _ => Err(Fail::new("a row is no call")),
+    }
+}
+
 // The answer of a call: a number, or 1 for yes and 0 for no.
 fn call(alloc: Global, world: &mut World, row: &[u8]) -> Result<u32, Fail> {
     let (word, rest) = cut_word(row);
     let (number, text) = cut_word(rest);
-    let d = u32::from(number.first().unwrap_or(&b'0').saturating_sub(b'0'));
-    let yes = match word {
-        b"open" => world.opened(d)?,
-        b"send" => world.input(d, Line::new(alloc, text)?)?,
-        b"close" => close(world, d)?,
-        b"died" => {
-            world.died(0);
-            world.is_dead()
-        }
-        b"halt" if !world.is_dead() => {
-            world.halt();
-            world.is_stopping()
-        }
-        b"exec" => return Ok(world.exec(0)?.unwrap_or(0)),
-        b"claim" => return Ok(world.claim(3).map_or(0, i32::unsigned_abs)),
-        b"run" => return Ok(run(world)?),
-        b"lose" => lose(world, d)?,
-        b"wait" => wait(world, d),
-        b"idle" => world.idle(d as u8),
-        b"tied" => world.tied(d),
-        b"settle" => return Ok(settle(world)?),
-        _ => return Err(Fail::new("a row is no call")),
-    };
-    Ok(u32::from(yes))
+    let digit = number.first().unwrap_or(&b'0').saturating_sub(b'0');
+    match word {
+        b"send" => Ok(u32::from(world.input(u32::from(digit), Line::new(alloc, text)?)?)),
+        b"exec" => Ok(world.exec(0)?.unwrap_or(0)),
+        b"claim" => Ok(world.claim(3).map_or(0, i32::unsigned_abs)),
+        b"run" => Ok(run(world)?),
+        b"settle" => Ok(settle(world)?),
+        _ => Ok(u32::from(made(world, word, digit)?)),
+    }
 }
 
 // A line is typed, and done.
@@ -113,52 +97,98 @@ fn typed(alloc: Global, world: &mut World, d: u32, text: &[u8]) -> Result<u32, F
     Ok(d)
 }
 
-// What each connection is sent; where it may part, one that is leaving goes.
-fn served(alloc: Global, world: &mut World, parts: bool) -> Result<Vec<u8>, Fail> {
-    let mut shown = Vec::new(alloc);
+// What a connection is sent; where it may part and is leaving, it goes.
+fn serve(
+    alloc: Global,
+    world: &mut World,
+    shown: &mut Vec<u8>,
+    d: u32,
+    parts: bool,
+) -> Result<(), Fail> {
     let mut buf = [0; 512];
+    let count = world.take(d, &mut buf);
+    shown.extend_from_slice(&lines_text(alloc, d, &buf[..count])?)?;
+    if parts && world.leaving(d) && close(world, d)? {
+        shown.extend_from_slice(&farewell_text(alloc, d)?)?;
+    }
+    Ok(())
+}
+
+// What each connection is sent.
+fn serve_all(
+    alloc: Global,
+    world: &mut World,
+    shown: &mut Vec<u8>,
+    parts: bool,
+) -> Result<(), Fail> {
     for d in 1..=9 {
-        let count = world.take(d, &mut buf);
-        shown.extend_from_slice(&lines_text(alloc, d, &buf[..count])?)?;
-        if parts && world.leaving(d) && close(world, d)? {
-            shown.extend_from_slice(&farewell_text(alloc, d)?)?;
-        }
+        serve(alloc, world, shown, d, parts)?;
     }
-    Ok(shown)
+    Ok(())
 }
 
-// The rows of a text with what comes of them on this world.
-fn replayed(alloc: Global, world: &mut World, text: &[u8]) -> Result<Vec<u8>, Fail> {
-    let mut found = Vec::new(alloc);
+// A row that is done, behind its answer.
+fn show_row(shown: &mut Vec<u8>, answer: u32, done: &[u8]) -> Result<(), Fail> {
+    shown.push(b'0' + answer.min(9) as u8)?;
+    shown.extend_from_slice(done)?;
+    shown.push(b'\n')?;
+    Ok(())
+}
+
+// A row is done and shown, with what comes of it.
+fn play(alloc: Global, world: &mut World, shown: &mut Vec<u8>, part: &[u8]) -> Result<(), Fail> {
+    let Some((digit, done)) = part.split_first() else {
+        return Ok(());
+    };
+    let [sign, b' ', row @ ..] = done else {
+        return Ok(());
+    };
+    let answer = match *sign {
+        b':' => call(alloc, world, row)?,
+        b'>' => typed(alloc, world, u32::from(digit.saturating_sub(b'0')), row)?,
+        _ => return Ok(()),
+    };
+    show_row(shown, answer, done)?;
+    serve_all(alloc, world, shown, *sign == b'>')
+}
+
+// The rows of a text, with what comes of them on this world.
+fn play_all(
+    alloc: Global,
+    world: &mut World,
+    shown: &mut Vec<u8>,
+    text: &[u8],
+) -> Result<(), Fail> {
     for part in text.split(|byte| b"\n/".contains(byte)) {
-        let [digit, sign, b' ', row @ ..] = trim(part) else {
-            continue;
-        };
-        let answer = match *sign {
-            b':' => call(alloc, world, row)?,
-            b'>' => typed(alloc, world, u32::from(digit.saturating_sub(b'0')), row)?,
-            _ => continue,
-        };
-        found.push(b'0' + answer.min(9) as u8)?;
-        found.extend_from_slice(&trim(part)[1..])?;
-        found.push(b'\n')?;
-        found.extend_from_slice(&served(alloc, world, *sign == b'>')?)?;
+        play(alloc, world, shown, trim(part))?;
     }
-    Ok(found)
+    Ok(())
 }
 
-/// Replays a text on a new town; answers the first line that comes otherwise.
-pub fn first_wrong(alloc: Global, text: &str) -> Result<Option<String>, Fail> {
-    let mut world = town(alloc)?;
-    let found = replayed(alloc, &mut world, text.as_bytes());
+// The rows of a text, with what comes of them on a new world.
+fn replayed(alloc: Global, shown: &mut Vec<u8>, text: &[u8]) -> Result<(), Fail> {
+    let mut world = World::starting(alloc)?;
+    let played = play_all(alloc, &mut world, shown, text);
     // to drop it here would want a proof for each type that it holds
     let _ = world.into_tale();
-    let found = found?;
-    let wanted = text.as_bytes().split(|byte| b"\n/".contains(byte));
+    played
+}
+
+// The first line that stands otherwise in a text.
+fn differing(alloc: Global, found: &[u8], text: &[u8]) -> Result<Option<String>, Fail> {
+    let wanted = text.split(|byte| b"\n/".contains(byte));
     let wanted = wanted.chain([b"".as_slice()]);
     let mut pairs = found.split(|byte| *byte == b'\n').zip(wanted);
     match pairs.find(|(a, b)| trim(a) != trim(b)) {
         Some((line, _)) => Ok(Some(String::from_utf8(line.to_vec(alloc)?)?)),
         None => Ok(None),
     }
+}
+
+/// Makes the town, and replays a text on it; answers the first line that comes otherwise.
+pub fn first_wrong(alloc: Global, text: &str) -> Result<Option<String>, Fail> {
+    let text = format!(in alloc; "{TOWN}\n{text}")?;
+    let mut found = Vec::new(alloc);
+    replayed(alloc, &mut found, text.as_bytes())?;
+    differing(alloc, &found, text.as_bytes())
 }
