@@ -8,7 +8,7 @@ use Rattle.muck_links.specs.Sessions.{Told}
 use Rattle.muck_model.specs.declared.event.Entry.{Entry}
 use Rattle.muck_model.specs.declared.note.Note.{Note}
 use Rattle.muck_model.specs.declared.note.Counted.{Counted}
-use Rattle.muck_log.specs.Store.{Chosen, LogState, stored}
+use Rattle.muck_log.specs.Store.{LogState, stored}
 use Rattle.muck_log.specs.World.{IsFine}
 use Rattle.muck_log.specs.inner.Mount.{IsMountedAs}
 use Rattle.spec_dumps.specs.Fronts.{file_most}
@@ -21,7 +21,8 @@ use Rattle.muck_crew.specs.inner.Runs.{IsFresh}
 use Rattle.muck_server.specs.Served.{IsServed, IsUnserved as Never, HasEnded}
 use Rattle.muck_crew.specs.declared.why.Why.{Why as Ended}
 use Rattle.muck_crew.specs.declared.why.Why.TheVariants as ended
-use Rattle.muckd.specs.Words.{Command, run, drill, serve, is_scripted}
+use Rattle.muck_mirroring.specs.Mirroring.{MirrorsAs}
+use Rattle.muckd.specs.Words.{Command, run, drill, serve, mirror, is_scripted}
 use Rattle.muck_run.specs.Drill.{HasDrilled}
 use Rattle.muck_run.specs.Outcome.{IsUntouched, EndsAs, EndsFull}
 use Rattle.muck_run.specs.inner.Dumps.{note_of}
@@ -273,9 +274,16 @@ drilled_scripted written faults n ListenFault before now tale ends = ends
 drilled_scripted written faults n (Spent turns) before now tale ends = ends
 drilled_scripted written faults n why before now tale ends = tt
 
+pub mirrored_scripted : (why : Why) (U B : Type 0) → MirrorsAs why U B → MayScript why
+mirrored_scripted ListenFault U B ends = ends
+mirrored_scripted (Spent turns) U B ends = ends
+mirrored_scripted why U B ends = tt
+
 -- whatever the command is
-pub scripted_may : (command : Option Command) (why : Why) → (is_scripted command ≡ false → why ≡ Usage) → ((store : List ℕ) → command ≡ Some (run store) → MayScript why) → ((n : ℕ) → command ≡ Some (drill n) → MayScript why) → MayScript why
-scripted_may None why usage runs drills = subst MayScript (sym (usage refl)) tt
-scripted_may (Some (run store)) why usage runs drills = runs store refl
-scripted_may (Some (drill n)) why usage runs drills = drills n refl
-scripted_may (Some (serve store port workers)) why usage runs drills = subst MayScript (sym (usage refl)) tt
+pub scripted_may : (command : Option Command) (why : Why) → (is_scripted command ≡ false → why ≡ Usage) → ((store : List ℕ) → command ≡ Some (run store) → MayScript why) → ((n : ℕ) → command ≡ Some (drill n) → MayScript why)
+    → ((store : List ℕ) → command ≡ Some (mirror store) → MayScript why) → MayScript why
+scripted_may None why usage runs drills mirrors = subst MayScript (sym (usage refl)) tt
+scripted_may (Some (run store)) why usage runs drills mirrors = runs store refl
+scripted_may (Some (drill n)) why usage runs drills mirrors = drills n refl
+scripted_may (Some (mirror store)) why usage runs drills mirrors = mirrors store refl
+scripted_may (Some (serve store port workers)) why usage runs drills mirrors = subst MayScript (sym (usage refl)) tt

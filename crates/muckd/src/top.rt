@@ -3,8 +3,9 @@ ghost use Rattle.std.specs.Prelude.{◌≡◌, ◌↔◌, ◌⊎◌, ◌≤◌, 
 ghost use Rattle.muck_io.specs.Faults.{Rose};
 ghost use Rattle.muck_log.specs.Store.{Chosen, stored};
 ghost use Rattle.muckd.specs.Serving.{is_served, IsUnserved, HasServed, ServesAs};
-ghost use Rattle.muckd.specs.Words.{run, drill, serve, command_of, seen_command, is_scripted};
+ghost use Rattle.muckd.specs.Words.{run, drill, serve, mirror, command_of, seen_command, is_scripted, is_mirrored};
 ghost use Rattle.std.specs.Option.{option_map};
+ghost use Rattle.muck_mirroring.specs.Mirroring.{MirrorDone};
 ghost use Rattle.muck_run.specs.Drill.{HasDrilled};
 ghost use Rattle.muck_run.specs.Outcome.{status_of, HasBegun, EndsAs, EndsFull, IsUnbegun, IsFirstOutside, IsInGrammar};
 
@@ -13,6 +14,7 @@ use crate::serving::serve_store;
 use muck_disk::Disk;
 use muck_io::{Clock, Gate, Rest, Sink, Source};
 use muck_links::Links;
+use muck_mirroring::mirror;
 use muck_model::Tale;
 use muck_run::{Why, drill, run};
 use std::alloc::Global;
@@ -29,8 +31,9 @@ pub struct Done {
 
 /// Does all that a script does, and waits for nobody. The words `run STORE` open the files `STORE.a` and `STORE.b` as the two disks, mount
 /// the store that they hold, read the script whole from the source, run it on that world, write its transcript to the sink and dump the
-/// world in the end. The words `drill N` play a fixed script on the starting world and write a summary of it. No other words are a
-/// command here, those of `serve` neither. STORE has 1 to 200 bytes and doesn't begin with `-`; N is 1 to 1000, in decimal without sign
+/// world in the end. The words `drill N` play a fixed script on the starting world and write a summary of it. The words `mirror STORE` mount
+/// that store, read the script of a mirror, have a mirror follow the store by it, and write its replies; nothing is written to a file. No other
+/// words are a command here, those of `serve` neither. STORE has 1 to 200 bytes and doesn't begin with `-`; N is 1 to 1000, in decimal without sign
 /// or leading zeros.
 ///
 /// The first cause stands: the words, then opening and mounting, then reading the script, then its grammar, then the run, then the last
@@ -50,8 +53,8 @@ pub fn by_script<S: Source, K: Sink, D: Disk>(
     ensures usage { (result.why ≡ Why.Usage) ↔ (is_scripted (command_of (map string_bytes words.now)) ≡ false) }
     ensures untouched { result.why ≡ Why.Usage → (script.new ≡ script.old) × (out.new ≡ out.old) × (first.new ≡ first.old) × (second.new ≡ second.old) × (result.tale.entries ≡ []) }
 
-    // The first line outside the grammar has this number.
-    ensures bad_script { (line : ℕ) → result.why ≡ Why.BadScript line → IsFirstOutside (S.left script.old) line }
+    // The first line outside the grammar has this number; for those of `mirror` their own clause says so, of their grammar.
+    ensures bad_script { (line : ℕ) → is_mirrored (command_of (map string_bytes words.now)) ≡ false → result.why ≡ Why.BadScript line → IsFirstOutside (S.left script.old) line }
 
     // With the words of `run`, either nothing happened, and nothing was written, to the sink or to a file; or one history happened, from
     // the world that the two files held: by the lines of the script, lawfully, and with leave. It says what was written, how the last dump
@@ -61,6 +64,10 @@ pub fn by_script<S: Source, K: Sink, D: Disk>(
 
     // With those of `drill`, its summary was written, and nothing was read or touched besides.
     ensures drill { (n : ℕ) → command_of (map string_bytes words.now) ≡ Some (drill n) → HasDrilled K.written K.faults n result.why out.old out.new result.tale.entries × (script.new ≡ script.old) × (first.new ≡ first.old) × (second.new ≡ second.old) }
+
+    // With those of `mirror`, nothing was written to a file, nothing happened in a world, and what was written are the replies to the lines of the script,
+    // or a front of them. The mirror holds the stored world of a front of the batches of the store. Each answer has its cause.
+    ensures mirror { (store : List ℕ) → command_of (map string_bytes words.now) ≡ Some (mirror store) → MirrorDone S.left S.faults K.written K.faults D.tells D.attached D.seen D.moment D.images D.faults store result.why script.old script.new out.old out.new first.old second.old first.new second.new × (result.tale.entries ≡ []) }
 
     // A fault is answered only where that count rose in this call; and where it isn't answered it did not rise, so that the
     // first cause stands.
@@ -91,7 +98,7 @@ pub fn by_script<S: Source, K: Sink, D: Disk>(
     }
 }
 
-/// Does all that the program does. The words of a script, and those of a drill, do what [`by_script`] says, and touch neither links nor clock.
+/// Does all that the program does. The words of a script, of a drill and of a mirror do what [`by_script`] says, and touch neither links nor clock.
 /// The words `serve STORE PORT WORKERS` open and mount the store, listen on the port, and serve the world to all who come, by a porter, so many
 /// workers and a dumper beside each other, until it is stopped; then the world is dumped. PORT is 1 to 65535 and WORKERS 1 to 8, in decimal
 /// without sign or leading zeros.
@@ -136,14 +143,18 @@ pub fn muckd<
     // With those of `drill`, its summary was written, and nothing was read or touched besides.
     ensures drill { (n : ℕ) → command_of (map string_bytes words.now) ≡ Some (drill n) → HasDrilled K.written K.faults n result.why out.old out.new result.tale.entries × (script.new ≡ script.old) × (first.new ≡ first.old) × (second.new ≡ second.old) }
 
+    // With those of `mirror`, nothing was written to a file, nothing happened in a world, and what was written are the replies to the lines of the script,
+    // or a front of them. The mirror holds the stored world of a front of the batches of the store. Each answer has its cause.
+    ensures mirror { (store : List ℕ) → command_of (map string_bytes words.now) ≡ Some (mirror store) → MirrorDone S.left S.faults K.written K.faults D.tells D.attached D.seen D.moment D.images D.faults store result.why script.old script.new out.old out.new first.old second.old first.new second.new × (result.tale.entries ≡ []) }
+
     // With those of `serve`, either nothing happened, nobody was let in, and nothing was written to a file; or one history happened, from the
     // world that the two files held, at the clock's second: all parties added to it, lawfully, and with leave. It says what the links carried,
     // how the last dump came out, and what the files hold, whatever a crash leaves of them. The answer says which of the two, but for want of
     // memory and faults of the store.
     ensures serve { (store : List ℕ) (port workers : ℕ) → command_of (map string_bytes words.now) ≡ Some (serve store port workers) → ServesAs result.why (IsUnserved (L.tells links.old) L.told C.answers D.tells D.seen D.moment D.images port links.old links.new clock.old clock.new first.old second.old first.new second.new result.tale.entries result.tale.counted) (HasServed (L.tells links.old) L.told L.listening C.answers D.tells D.attached D.seen D.moment D.images D.faults store port workers result.why links.old links.new clock.old clock.new first.old second.old first.new second.new result.tale.entries result.tale.notes result.tale.counted) }
 
-    // The first line outside the grammar has this number.
-    ensures bad_script { (line : ℕ) → result.why ≡ Why.BadScript line → IsFirstOutside (S.left script.old) line }
+    // The first line outside the grammar has this number; for those of `mirror` their own clause says so, of their grammar.
+    ensures bad_script { (line : ℕ) → is_mirrored (command_of (map string_bytes words.now)) ≡ false → result.why ≡ Why.BadScript line → IsFirstOutside (S.left script.old) line }
 
     // A fault is answered only where that count rose in this call; and where it isn't answered those of the source and the sink did not
     // rise, so that the first cause stands.
@@ -193,7 +204,7 @@ pub fn muckd<
                 tale,
             }
         }
-        Some(Command::Run(_) | Command::Drill(_)) | None => {
+        Some(Command::Run(_) | Command::Drill(_) | Command::Mirror(_)) | None => {
             by_script(alloc, words, script, out, first, second)
         }
     }
@@ -210,9 +221,10 @@ fn obey<S: Source, K: Sink, D: Disk>(
 ) -> (Why, Tale)
     ensures usage { (result.0 ≡ Why.Usage) ↔ (is_scripted (option_map seen_command command.entry) ≡ false) }
     ensures untouched { result.0 ≡ Why.Usage → (script.new ≡ script.old) × (out.new ≡ out.old) × (first.new ≡ first.old) × (second.new ≡ second.old) × (result.1.entries ≡ []) }
-    ensures bad_script { (line : ℕ) → result.0 ≡ Why.BadScript line → IsFirstOutside (S.left script.old) line }
+    ensures bad_script { (line : ℕ) → is_mirrored (option_map seen_command command.entry) ≡ false → result.0 ≡ Why.BadScript line → IsFirstOutside (S.left script.old) line }
     ensures run { (store : List ℕ) → option_map seen_command command.entry ≡ Some (run store) → EndsAs result.0 (IsUnbegun D.tells D.seen D.moment D.images out.old out.new first.old second.old first.new second.new result.1.entries) (HasBegun S.left S.faults K.written K.faults D.tells D.attached D.seen D.moment D.images D.faults store result.0 script.old script.new out.old out.new first.old second.old first.new second.new result.1.entries result.1.notes) }
     ensures drill { (n : ℕ) → option_map seen_command command.entry ≡ Some (drill n) → HasDrilled K.written K.faults n result.0 out.old out.new result.1.entries × (script.new ≡ script.old) × (first.new ≡ first.old) × (second.new ≡ second.old) }
+    ensures mirror { (store : List ℕ) → option_map seen_command command.entry ≡ Some (mirror store) → MirrorDone S.left S.faults K.written K.faults D.tells D.attached D.seen D.moment D.images D.faults store result.0 script.old script.new out.old out.new first.old second.old first.new second.new × (result.1.entries ≡ []) }
     ensures read_fault { result.0 ≡ Why.ReadFault → Rose (S.faults script.old) (S.faults script.new) }
     ensures write_fault { result.0 ≡ Why.WriteFault → Rose (K.faults out.old) (K.faults out.new) }
     ensures source_stands { (result.0 ≡ Why.ReadFault → ⊥) → S.faults script.new ≡ S.faults script.old }
@@ -225,6 +237,10 @@ fn obey<S: Source, K: Sink, D: Disk>(
     match command {
         Some(Command::Run(name)) => run(alloc, name, script, out, first, second),
         Some(Command::Drill(rounds)) => drill(alloc, u64::from(rounds), out),
+        Some(Command::Mirror(name)) => (
+            mirror(alloc, name, script, out, first, second),
+            Tale::none(),
+        ),
         Some(
             Command::Serve {
                 store: _,

@@ -1,7 +1,7 @@
 use Rattle.std.proofs.Common.{inl, inr, sym, subst, map, ◌∙◌}
 use Rattle.std.specs.Prelude.{string_bytes}
 use Rattle.muckd.specs.Words.{command_of}
-use Rattle.muckd.proofs.Served.{listening_failed, served_full, serves_all, MayScript, ends_scripted, drilled_scripted, scripted_may}
+use Rattle.muckd.proofs.Served.{listening_failed, served_full, serves_all, MayScript, ends_scripted, drilled_scripted, mirrored_scripted, scripted_may}
 use Rattle.muckd.proofs.top.muckd.Goals as goal
 
 pub returns-in-Some-Serve-clause-complete_serve : goal.returns-in-Some-Serve-clause-complete_serve
@@ -20,11 +20,13 @@ returns-in-Some-Run-clause-listen_fault g c = λ e.
     absurd
     (subst MayScript e
     (scripted_may (command_of (map string_bytes c.args.words.now)) c.by_script.result.why c.by_script.ensures.usage.1
-    (λ store is. ends_scripted _ _ _ (c.by_script.ensures.run store is)) (λ n is. drilled_scripted _ _ n _ _ _ _ (c.by_script.ensures.drill n is).0)))
+    (λ store is. ends_scripted _ _ _ (c.by_script.ensures.run store is)) (λ n is. drilled_scripted _ _ n _ _ _ _ (c.by_script.ensures.drill n is).0)
+    (λ store is. mirrored_scripted _ _ _ (c.by_script.ensures.mirror store is).0.ends)))
 
 pub returns-in-Some-Run-clause-spent : goal.returns-in-Some-Run-clause-spent
 returns-in-Some-Run-clause-spent g c = λ turns e.
     absurd
     (subst MayScript e
     (scripted_may (command_of (map string_bytes c.args.words.now)) c.by_script.result.why c.by_script.ensures.usage.1
-    (λ store is. ends_scripted _ _ _ (c.by_script.ensures.run store is)) (λ n is. drilled_scripted _ _ n _ _ _ _ (c.by_script.ensures.drill n is).0)))
+    (λ store is. ends_scripted _ _ _ (c.by_script.ensures.run store is)) (λ n is. drilled_scripted _ _ n _ _ _ _ (c.by_script.ensures.drill n is).0)
+    (λ store is. mirrored_scripted _ _ _ (c.by_script.ensures.mirror store is).0.ends)))
