@@ -319,7 +319,7 @@ impl Log {
     /// Writes a batch of the records of a world, by rising number, and answers its number. The batch may leave out what
     /// `base` keeps. Records that equal those of the world that the batch is laid over are left out of what is written:
     /// what is kept, or the starting world where a new generation is opened. So it makes the whole world, where that has no
-    /// fewer objects than are kept. All memory is taken before the first write.
+    /// fewer objects than are kept. What is written is moved into what is kept. All memory is taken before the first write.
     ///
     /// Each record of the batch has a spelling, and the batch, laid over that world, makes one that hangs together with
     /// every value within its limits. It isn't judged here: what a world cuts has a spelling, and the batch of a consistent
