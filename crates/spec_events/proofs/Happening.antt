@@ -12,7 +12,7 @@ use Rattle.spec_events.specs.declared.starting.Call.{Call}
 use Rattle.spec_events.specs.World.{World, on_queue, with_library}
 use Rattle.spec_events.specs.Starting.{by_hook, new_process, begun}
 use Rattle.spec_events.specs.Steps.{happened, effect}
-use Rattle.spec_events.proofs.Starting.{begun_keeps}
+use Rattle.spec_events.proofs.Begun.{begun_keeps}
 
 pub effect-is : (w : World) (e : Entry) → effect w e ≡ happened w e.party e.event
 unfolding effect

@@ -12,7 +12,7 @@ pub mod Units
 pub mod Modes
 mod Effects
 pub mod Sections
-pub mod Starting
+pub mod Begun
 pub mod Happening
 pub mod Numbers
 pub mod Taken

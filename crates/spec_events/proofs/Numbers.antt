@@ -38,7 +38,7 @@ use Rattle.spec_events.specs.Slices.{awake, slice_most, sliced}
 use Rattle.spec_events.specs.Steps.{effect, happened}
 use Rattle.spec_events.proofs.Modes.{numbered_changed, numbered_without, numbered_added, settled_numbered}
 use Rattle.spec_events.proofs.Sections.{run_numbered}
-use Rattle.spec_events.proofs.Starting.{begun_keeps}
+use Rattle.spec_events.proofs.Begun.{begun_keeps}
 use Rattle.spec_events.proofs.Happening.{effect-keeps}
 use Rattle.spec_events.proofs.Killed.{numbered_left}
 

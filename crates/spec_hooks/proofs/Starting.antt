@@ -22,7 +22,7 @@ use Rattle.spec_events.specs.Starting.{by_hook, new_process, begun}
 use Rattle.spec_events.specs.Sourced.{Each}
 use Rattle.spec_events.proofs.Sourcing.{each_append}
 use Rattle.spec_events.proofs.SourcedUnits.{formed_sourced}
-use Rattle.spec_events.proofs.Starting.{begun_keeps, live_begun}
+use Rattle.spec_events.proofs.Begun.{begun_keeps, live_begun}
 use Rattle.spec_hooks.specs.declared.cause.Cause.{Cause}
 use Rattle.spec_hooks.specs.declared.cause.Fire.{Fire}
 use Rattle.spec_hooks.specs.Causes.{causes}

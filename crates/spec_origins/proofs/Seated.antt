@@ -56,7 +56,7 @@ use Rattle.spec_events.specs.Endings.{Lapsed}
 use Rattle.spec_events.specs.Sourced.{Each}
 use Rattle.spec_events.proofs.Endings.{IsTold}
 use Rattle.spec_events.proofs.Slicing.{run_holds}
-use Rattle.spec_events.proofs.Starting.{live_joined, live_begun}
+use Rattle.spec_events.proofs.Begun.{live_joined, live_begun}
 use Rattle.spec_events.proofs.Taken.{told_turn}
 use Rattle.spec_origins.specs.Origins.{Among, LostIn}
 use Rattle.spec_origins.proofs.Going.{among_more}

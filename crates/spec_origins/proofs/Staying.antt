@@ -81,7 +81,7 @@ use Rattle.spec_events.proofs.Slicing.{run_holds}
 use Rattle.spec_events.proofs.SourcedEvents.{all_sourced_booted}
 use Rattle.spec_events.proofs.Sourcing.{each_more, each_filter, each_without, each_changed}
 use Rattle.spec_events.proofs.Taken.{told_turn}
-use Rattle.spec_events.proofs.Starting.{live_begun}
+use Rattle.spec_events.proofs.Begun.{live_begun}
 use Rattle.spec_events.proofs.Turns.{gone_away_untouched, told_effect}
 use Rattle.spec_events.proofs.Typed.{typed_open}
 use Rattle.spec_origins.specs.Origins.{Comes, StartedIn, LostIn, no_process}

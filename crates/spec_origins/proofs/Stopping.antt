@@ -53,7 +53,7 @@ use Rattle.spec_events.specs.Starting.{by_command, joined, begun, start_told, st
 use Rattle.spec_events.specs.Lines.{with_editor, next_editor, compiled_so, compiled, after_edit, edited_line, in_editor, left_by, typed, followed_up, in_world, command, program_aborted, given_line, is_abort, line_for, line_done, done}
 use Rattle.spec_events.specs.Slices.{acting, Deed, does, rests, fails, behind, lifted, row_done, called_word, word_entered, form_entered, form_called, program_called, child_of, with_number, child_joined, forked, queued_command, with_process, queued, place_in, effected, process_done, deed, stands_at, out, one_counted, went, after_deed, unit_done, limit_fault, within_limit, turn, world_of, slice_most, run_of, last_world, awake, sliced}
 use Rattle.spec_events.proofs.Happening.{effect-stopping}
-use Rattle.spec_events.proofs.Starting.{joined_keeps, begun_keeps}
+use Rattle.spec_events.proofs.Begun.{joined_keeps, begun_keeps}
 use Rattle.spec_events.proofs.Slicing.{run_holds}
 
 -- a deed leads to a world of which that is so

@@ -28,7 +28,7 @@ use Rattle.spec_events.proofs.Quietly.{quietly_live, quiet_told_each}
 use Rattle.spec_events.proofs.Done.{going_quietly, going_live, done_going}
 use Rattle.spec_events.proofs.Happening.{effect-keeps}
 use Rattle.spec_events.proofs.Sourcing.{each_more}
-use Rattle.spec_events.proofs.Starting.{live_begun}
+use Rattle.spec_events.proofs.Begun.{live_begun}
 use Rattle.spec_events.proofs.Taken.{sliced_going}
 use Rattle.spec_origins.specs.Origins.{From, was_there, is_new, Comes, LineOrigins, TurnOrigins, EventOrigins, no_process, StartedIn, LostIn, is_connected, AreTied}
 use Rattle.spec_origins.proofs.Going.{each_among, from_itself, holds_begun}
