@@ -1,5 +1,5 @@
 -- Lines and slices leave all claims.
-use Rattle.std.proofs.Common.{◌≡◌, ℕ, ℤ, pos, ◌+ℤ◌, suc, Bool, true, false, cond, List, [], ◌∷◌, refl, ◌∙◌, Option, Some, None}
+use Rattle.std.proofs.Common.{◌≡◌, ℕ, ℤ, pos, suc, Bool, true, false, cond, List, [], ◌∷◌, refl, ◌∙◌, Option, Some, None}
 use Rattle.std.specs.Prelude.{nat_lt, Result, Ok, Err}
 use Rattle.std.specs.Option.{option_map_or}
 use Rattle.muck_model.specs.declared.dbref.Dbref.{Dbref}
@@ -24,11 +24,11 @@ use Rattle.spec_commands.specs.Talk.{waits}
 use Rattle.spec_commands.specs.Commands.{played}
 use Rattle.spec_admin.specs.Lines.{line_ends, after_line}
 use Rattle.muf_model.specs.declared.fault.MufFault.{MufFault}
-use Rattle.muf_model.specs.declared.fault.MufFault.TheVariants.{ProcessLimit, CallsFull}
+use Rattle.muf_model.specs.declared.fault.MufFault.TheVariants.{CallsFull}
 use Rattle.muf_model.specs.declared.prims.Primitive.{Primitive as Name}
 use Rattle.muf_model.specs.Datum.{Datum, int}
 use Rattle.muf_model.specs.Tree.{Definition, Tree}
-use Rattle.muf_model.specs.Source.{Program, Source, last_word, locked_of, calls_of, handed, entered}
+use Rattle.muf_model.specs.Source.{Program, Source, locked_of, calls_of, handed, entered}
 use Rattle.muf_model.specs.Unit.{Outcome, goes, faulted, asks, unit, fault, calls_most}
 use Rattle.spec_prims.specs.Asking.{numbered}
 use Rattle.spec_prims.specs.Row.{Row, gives as row_gives, refuses as row_refuses, breaks as row_breaks}
@@ -38,7 +38,7 @@ use Rattle.muck_library.specs.Programs.{built_tree}
 use Rattle.muck_library.specs.Library.{Library, formed}
 use Rattle.muck_queue.specs.declared.mode.Mode.TheVariants.{Background}
 use Rattle.muck_queue.specs.declared.process.Process.{Process}
-use Rattle.muck_queue.specs.Queues.{Queue, process, on_process, without, added, is_full, reader, ended_running, trigger_cleared, told_line}
+use Rattle.muck_queue.specs.Queues.{Queue, process, on_process, without, added, reader, ended_running, trigger_cleared, told_line}
 use Rattle.spec_processes.specs.ProcessRows.{Effect, gives, waits as pauses, forks, enters, starts, refuses, is_process, later}
 use Rattle.spec_processes.proofs.Leaves.{Leaves, leaves}
 use Rattle.spec_events.specs.declared.starting.Agent.{Agent}
@@ -46,9 +46,10 @@ use Rattle.spec_events.specs.declared.starting.Call.{Call as Started}
 use Rattle.spec_events.specs.declared.starting.Manner.{Manner}
 use Rattle.spec_events.specs.World.{World, on_live, on_queue, with_library}
 use Rattle.spec_events.specs.Following.{followed, swept, settled}
-use Rattle.spec_events.specs.Starting.{beginning, by_command, new_process, joined, word_started, form_started, built_started, begun, start_told, start_judged, launched}
+use Rattle.spec_events.specs.Starting.{by_command, joined, begun, start_told, start_judged, launched}
 use Rattle.spec_events.specs.Lines.{with_editor, next_editor, compiled_so, compiled, after_edit, edited_line, in_editor, ended_behind, left_by, typed, followed_up, in_world, command, program_aborted, given_line, is_abort, line_for, line_done, done}
 use Rattle.spec_events.specs.Slices.{acting, Deed, does, rests, fails, behind, lifted, row_done, called_word, word_entered, form_entered, form_called, program_called, child_of, with_number, child_joined, forked, queued_command, with_process, queued, place_in, effected, process_done, deed, stands_at, out, one_counted, went, after_deed, unit_done, limit_fault, within_limit, turn, world_of, slice_most, run_of, last_world, awake, sliced}
+use Rattle.spec_events.proofs.Begun.{joined_keeps, begun_keeps}
 use Rattle.spec_events.proofs.Slicing.{run_holds}
 
 -- a deed leads to a world of which that is so
@@ -88,26 +89,11 @@ Begun w r = Same w r.0
 
 same_joined : (p : Process) (w : World) → Begun w (joined p w)
 unfolding added
-same_joined p w = either (is_full p.player w.live.board.tune w.queue)
-  where
-    either : (b : Bool) → Begun w (cond b (w, Err ProcessLimit) (on_queue (added p) w, Ok (w.queue.last +ℤ pos 1)))
-    either true = refl
-    either false = refl
-
-same_word : (m : Manner) (c : Started) (tree : Tree) (word : Option Definition) (w : World) → Begun w (word_started m c tree word w)
-same_word m c tree None w = refl
-same_word m c tree (Some word) w = same_joined (new_process m c (beginning c tree word w)) w
-
-same_form : (m : Manner) (c : Started) (form : Option Tree) (w : World) → Begun w (form_started m c form w)
-same_form m c None w = refl
-same_form m c (Some tree) w = same_word m c tree (last_word tree.words) w
-
-same_built : (m : Manner) (c : Started) (made : Option Tree × Library) (w : World) → Begun w (built_started m c made w)
-same_built m c (form, library) w = same_form m c form (with_library library w)
+same_joined p w = joined_keeps (λ u. Same w u) p w refl refl
 
 same_begun : (m : Manner) (c : Started) (w : World) → Begun w (begun m c w)
-unfolding begun
-same_begun m c w = same_built m c (formed w.live.objects c.program w.library) w
+unfolding added
+same_begun m c w = begun_keeps (λ u. Same w u) m c (λ s u k. k) w refl
 
 same_told : (d : ℕ) (w : World) (r : World × Result ℤ MufFault) → Begun w r → Same w (start_told d r)
 same_told d w (v, Ok pid) q = q

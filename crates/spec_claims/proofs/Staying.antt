@@ -14,6 +14,7 @@ use Rattle.spec_events.specs.World.{World, connection}
 use Rattle.spec_events.specs.Steps.{has_claim, is_lawful, is_allowed, is_died, happened, effect}
 use Rattle.spec_events.specs.Slices.{sliced}
 use Rattle.spec_events.specs.Histories.{after, AllLawful}
+use Rattle.spec_events.proofs.Happening.{effect-claims}
 use Rattle.spec_events.proofs.Modes.{same_pid}
 use Rattle.spec_claims.specs.inner.Claims.{IsSole, AreOthers}
 use Rattle.spec_claims.proofs.Kept.{same_done, same_sliced}
@@ -169,10 +170,9 @@ module _ (party : ℕ) (pid : ℤ) (w : World) (sole : IsSole party pid w) (othe
   stays_event Died lawful = sole
 
 pub sole_stays : (party : ℕ) (pid : ℤ) (es : List Entry) (w : World) → IsSole party pid w → AllLawful w es → AreOthers party es → IsSole party pid (after w es)
-unfolding effect
 sole_stays party pid [] w sole lawful others = sole
 sole_stays party pid (e ∷ es) w sole lawful others =
-    sole_stays party pid es (effect w e) (stays_event party pid w sole e.party others.0 e.event lawful.0) lawful.1 others.1
+    sole_stays party pid es (effect w e) (ap (filter (is_on pid)) (effect-claims w e) ∙ stays_event party pid w sole e.party others.0 e.event lawful.0) lawful.1 others.1
 
 -- Behind a claim and others' entries it is this party's still.
 pub claim_stays : (w : World) (front : List Entry) (party : ℕ) (pid : ℤ) (es : List Entry) → AllLawful w (front ++ record { party = party; event = Claim pid } ∷ es) → AreOthers party es →

@@ -6,10 +6,11 @@ use Rattle.std.specs.Option.{option_map, option_map_or}
 use Rattle.muck_model.specs.declared.event.Entry.{Entry}
 use Rattle.muck_model.specs.declared.event.Event.{Event}
 use Rattle.muck_model.specs.declared.event.Event.TheVariants.{Opened, Input, Closed, Moment, Exec, Planned, Claim, Slice, Commit, Lost, Idle, Take, Cut, Stored, DumpFailed, Halt, StopSeen, Died}
-use Rattle.spec_events.specs.World.{World, connection, others_than, runs_dump}
+use Rattle.spec_events.specs.World.{World, Dumps, connection, others_than, runs_dump}
 use Rattle.spec_events.specs.Steps.{effect, happened}
 use Rattle.spec_events.specs.Histories.{History, after, now}
 use Rattle.spec_events.proofs.Done.{done_going}
+use Rattle.spec_events.proofs.Happening.{effect-dumps}
 use Rattle.spec_events.proofs.Taken.{sliced_going}
 use Rattle.spec_events.proofs.Runs.{now-grew}
 use Rattle.spec_events.specs.Logged.{is_dump}
@@ -52,11 +53,10 @@ none_later true b e = cc
 none_later false b e = e
 
 number_after : (es : List Entry) (w : World) → list_any (λ (e : Entry). is_dump e.event) es ≡ false → number_of (after w es).dumps.running ≡ number_of w.dumps.running
-unfolding effect
 number_after [] w none = refl
 number_after (e ∷ es) w none =
     number_after es (effect w e) (none_later (is_dump e.event) (list_any (λ (x : Entry). is_dump x.event) es) none)
-    ∙ number_happened e.event w e.party (none_first (is_dump e.event) (list_any (λ (x : Entry). is_dump x.event) es) none)
+    ∙ ap (λ (d : Dumps). number_of d.running) (effect-dumps w e) ∙ number_happened e.event w e.party (none_first (is_dump e.event) (list_any (λ (x : Entry). is_dump x.event) es) none)
 
 number_quiet : (h k : History) → Quietly h k → number_of (now k).dumps.running ≡ number_of (now h).dumps.running
 number_quiet h k q = ap (λ (w : World). number_of w.dumps.running) (now-grew h k q.entries q.grew) ∙ number_after q.entries (now h) q.none

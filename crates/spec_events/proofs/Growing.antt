@@ -1,10 +1,11 @@
 -- A world never has fewer objects than it had: what is recycled stays at its number as garbage.
-use Rattle.std.proofs.Common.{ℕ, ◌≤◌, zero, suc, List, [], ◌∷◌, length, take, refl, ap, arith}
+use Rattle.std.proofs.Common.{ℕ, ◌≤◌, zero, suc, List, [], ◌∷◌, length, take, refl, sym, ap, subst, arith}
 use Rattle.muck_model.specs.declared.event.Entry.{Entry}
 use Rattle.muck_model.specs.declared.event.Event.{Event}
 use Rattle.muck_model.specs.declared.event.Event.TheVariants.{Closed, Exec, Slice, Cut, Stored, DumpFailed}
 use Rattle.spec_live.specs.Objects.{Entry as Object}
 use Rattle.spec_live.specs.Saving.{pending, all_saving}
+use Rattle.spec_live.specs.Lives.{Live}
 use Rattle.spec_live.proofs.Savings.{length_resaved}
 use Rattle.spec_commands.specs.Talk.{gone_away}
 use Rattle.spec_rights.proofs.Licences.{as_many, no_fewer_both}
@@ -12,6 +13,7 @@ use Rattle.spec_events.specs.World.{World, connection}
 use Rattle.spec_events.specs.Steps.{effect, happened}
 use Rattle.spec_events.specs.Histories.{after}
 use Rattle.spec_events.proofs.Done.{done_going}
+use Rattle.spec_events.proofs.Happening.{effect-live}
 use Rattle.spec_events.proofs.Taken.{sliced_going}
 use Rattle.spec_events.proofs.Turns.{gone_away_untouched}
 use Rattle.spec_events.proofs.Reached.{stored-going, failed-going}
@@ -25,11 +27,13 @@ no_fewer_happened (Stored k) w party = (stored-going k w).no_fewer
 no_fewer_happened (DumpFailed k) w party = (failed-going w).no_fewer
 no_fewer_happened event w party = as_many w.live.objects w.live.objects refl
 
+no_fewer_effect : (w : World) (e : Entry) → length w.live.objects ≤ length (effect w e).live.objects
+no_fewer_effect w e = subst (λ (l : Live). length w.live.objects ≤ length l.objects) (sym (effect-live w e)) (no_fewer_happened e.event w e.party)
+
 -- behind any entries
 pub no_fewer_after : (w : World) (es : List Entry) → length w.live.objects ≤ length (after w es).live.objects
-unfolding effect
 no_fewer_after w [] = as_many w.live.objects w.live.objects refl
-no_fewer_after w (e ∷ es) = no_fewer_both w.live.objects (effect w e).live.objects (after (effect w e) es).live.objects (no_fewer_happened e.event w e.party) (no_fewer_after (effect w e) es)
+no_fewer_after w (e ∷ es) = no_fewer_both w.live.objects (effect w e).live.objects (after (effect w e) es).live.objects (no_fewer_effect w e) (no_fewer_after (effect w e) es)
 
 -- and of two fronts of a history behind the longer one
 pub no_fewer_front : (w : World) (h : List Entry) (n m : ℕ) → n ≤ m → length (after w (take n h)).live.objects ≤ length (after w (take m h)).live.objects

@@ -12,6 +12,8 @@ pub mod Units
 pub mod Modes
 mod Effects
 pub mod Sections
+pub mod Begun
+pub mod Happening
 pub mod Numbers
 pub mod Taken
 mod Remaining

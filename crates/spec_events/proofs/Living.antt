@@ -1,10 +1,12 @@
 -- No event but Died makes a world dead, and none brings one back.
-use Rattle.std.proofs.Common.{◌≡◌, ℕ, false, refl}
+use Rattle.std.proofs.Common.{◌≡◌, ◌∙◌, ℕ, false, refl}
+use Rattle.muck_model.specs.declared.event.Entry.{Entry}
 use Rattle.muck_model.specs.declared.event.Event.{Event}
 use Rattle.muck_model.specs.declared.event.Event.TheVariants.{Opened, Input, Closed, Moment, Exec, Planned, Claim, Slice, Commit, Lost, Idle, Take, Cut, Stored, DumpFailed, Halt, StopSeen, Died}
 use Rattle.spec_events.specs.World.{World, connection}
-use Rattle.spec_events.specs.Steps.{happened, is_died}
+use Rattle.spec_events.specs.Steps.{effect, happened, is_died}
 use Rattle.spec_events.proofs.Done.{done_going}
+use Rattle.spec_events.proofs.Happening.{effect-dead}
 use Rattle.spec_events.proofs.Taken.{sliced_going}
 
 pub dead-happened : (event : Event) (w : World) (party : ℕ) → is_died event ≡ false → (happened w party event).dead ≡ w.dead
@@ -26,3 +28,6 @@ dead-happened (DumpFailed k) w party e = refl
 dead-happened Halt w party e = refl
 dead-happened StopSeen w party e = refl
 dead-happened Died w party e = cc
+
+pub dead-effect : (w : World) (e : Entry) → is_died e.event ≡ false → (effect w e).dead ≡ w.dead
+dead-effect w e other = effect-dead w e ∙ dead-happened e.event w e.party other

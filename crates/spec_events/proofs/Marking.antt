@@ -1,11 +1,12 @@
 -- Behind entries among which no dump begins, what isn't due wasn't before, and is as it was.
-use Rattle.std.proofs.Common.{◌≡◌, ℕ, false, List, [], ◌∷◌, refl}
+use Rattle.std.proofs.Common.{◌≡◌, ℕ, false, List, [], ◌∷◌, refl, ap}
 use Rattle.std.specs.List.{list_any}
 use Rattle.std.proofs.lemmas.Bool.{or_parts}
 use Rattle.muck_model.specs.declared.event.Entry.{Entry}
 use Rattle.muck_model.specs.declared.event.Event.{Event}
 use Rattle.muck_model.specs.declared.event.Event.TheVariants.{Closed, Exec, Slice, Cut, Stored, DumpFailed}
 use Rattle.spec_live.specs.Saving.{Marked}
+use Rattle.spec_live.specs.Lives.{Live}
 use Rattle.spec_live.proofs.Marking.{marked_itself, marked_both, marked_as}
 use Rattle.spec_commands.specs.Talk.{gone_away}
 use Rattle.spec_events.specs.World.{World, connection}
@@ -13,6 +14,7 @@ use Rattle.spec_events.specs.Steps.{effect, happened}
 use Rattle.spec_events.specs.Histories.{after}
 use Rattle.spec_events.specs.Logged.{is_cut}
 use Rattle.spec_events.proofs.Done.{done_going}
+use Rattle.spec_events.proofs.Happening.{effect-live}
 use Rattle.spec_events.proofs.Taken.{sliced_going}
 use Rattle.spec_events.proofs.Turns.{gone_away_untouched}
 use Rattle.spec_events.proofs.Reached.{stored-going, failed-going}
@@ -27,10 +29,12 @@ marked_happened (Stored k) w party none = (stored-going k w).marked
 marked_happened (DumpFailed k) w party none = (failed-going w).marked
 marked_happened event w party none = marked_itself w.live.objects
 
+marked_effect : (w : World) (e : Entry) → is_cut e.event ≡ false → Marked w.live.objects (effect w e).live.objects
+marked_effect w e none = marked_as w.live.objects (happened w e.party e.event).live.objects (effect w e).live.objects (ap (λ (l : Live). l.objects) (effect-live w e)) (marked_happened e.event w e.party none)
+
 -- of any such entries
 pub marked_after : (w : World) (es : List Entry) → list_any (λ (e : Entry). is_cut e.event) es ≡ false → Marked w.live.objects (after w es).live.objects
-unfolding effect
 marked_after w [] none = marked_itself w.live.objects
 marked_after w (e ∷ es) none =
     let apart = or_parts (is_cut e.event) (list_any (λ (x : Entry). is_cut x.event) es) none in
-    marked_both w.live.objects (effect w e).live.objects (after (effect w e) es).live.objects (marked_happened e.event w e.party apart.0) (marked_after (effect w e) es apart.1)
+    marked_both w.live.objects (effect w e).live.objects (after (effect w e) es).live.objects (marked_effect w e apart.0) (marked_after (effect w e) es apart.1)

@@ -6,6 +6,7 @@ use Rattle.muck_model.specs.declared.dbref.Denial.{Denial}
 use Rattle.muck_model.specs.declared.dbref.Dbref.{Dbref}
 use Rattle.muck_model.specs.declared.tune.Tune.{Tune}
 use Rattle.muck_model.specs.declared.edit.EditState.{EditState}
+use Rattle.muck_model.specs.declared.event.Entry.{Entry as Happened}
 use Rattle.muck_model.specs.declared.event.Event.{Event}
 use Rattle.muck_model.specs.declared.event.Event.TheVariants.{Closed, Exec, Claim, Slice, Lost}
 use Rattle.spec_live.specs.Connections.{Connection}
@@ -14,13 +15,10 @@ use Rattle.spec_rights.specs.declared.act.Actor.{Actor}
 use Rattle.spec_rights.specs.declared.act.Act.TheVariants.{Start}
 use Rattle.spec_rights.specs.Verdict.{verdict}
 use Rattle.muf_model.specs.declared.fault.MufFault.{MufFault}
-use Rattle.muf_model.specs.Source.{last_word}
-use Rattle.muf_model.specs.Tree.{Definition, Tree}
+use Rattle.muf_model.specs.Tree.{Tree}
 use Rattle.muck_library.specs.declared.flaw.Flaw.{Flaw}
-use Rattle.muck_library.specs.Library.{formed}
 use Rattle.muck_library.specs.Programs.{built_tree}
-use Rattle.muck_queue.specs.declared.process.Process.{Process}
-use Rattle.muck_queue.specs.Queues.{Queue, empty_queue, is_full, is_tied_to, claimed, released, ended_tied, told_line, woken, reader}
+use Rattle.muck_queue.specs.Queues.{Queue, empty_queue, is_tied_to, claimed, released, ended_tied, told_line, woken, reader}
 use Rattle.muck_queue.specs.inner.Numbered.{IsNumbered}
 use Rattle.muck_queue.proofs.Numbered.{rises_kept}
 use Rattle.muck_queue.proofs.Woken.{woken_number}
@@ -33,13 +31,15 @@ use Rattle.spec_commands.specs.Finding.{actor_of}
 use Rattle.spec_commands.specs.Talk.{waits}
 use Rattle.spec_events.specs.declared.starting.Call.{Call}
 use Rattle.spec_events.specs.declared.starting.Manner.{Manner}
-use Rattle.spec_events.specs.World.{World, starting, booted, on_live, with_library}
-use Rattle.spec_events.specs.Starting.{beginning, by_command, new_process, joined, word_started, form_started, begun, start_told, start_judged, launched}
+use Rattle.spec_events.specs.World.{World, starting, booted, on_live}
+use Rattle.spec_events.specs.Starting.{by_command, by_hook, new_process, begun, start_told, start_judged, launched}
 use Rattle.spec_events.specs.Lines.{with_editor, compiled_so, compiled, next_editor, after_edit, edited_line, in_editor, typed, left_by, followed_up, in_world, command, given_line, is_abort, line_for, line_done, done}
 use Rattle.spec_events.specs.Slices.{awake, slice_most, sliced}
-use Rattle.spec_events.specs.Steps.{happened}
+use Rattle.spec_events.specs.Steps.{effect, happened}
 use Rattle.spec_events.proofs.Modes.{numbered_changed, numbered_without, numbered_added, settled_numbered}
 use Rattle.spec_events.proofs.Sections.{run_numbered}
+use Rattle.spec_events.proofs.Begun.{begun_keeps}
+use Rattle.spec_events.proofs.Happening.{effect-keeps}
 use Rattle.spec_events.proofs.Killed.{numbered_left}
 
 -- the numbers of its processes rise
@@ -48,20 +48,8 @@ Rising w = IsNumbered w.queue
 
 -- Programs that are started.
 
-joined_rising : (p : Process) (w : World) → Rising w → Rising (joined p w).0
-joined_rising p w h = cond_both (is_full p.player w.live.board.tune w.queue) _ _ (λ (r : World × Result ℤ MufFault). Rising r.0) (λ e. h) (λ e. numbered_added p w.queue h)
-
-word_rising : (m : Manner) (c : Call) (tree : Tree) (o : Option Definition) (w : World) → Rising w → Rising (word_started m c tree o w).0
-word_rising m c tree None w h = h
-word_rising m c tree (Some word) w h = joined_rising (new_process m c (beginning c tree word w)) w h
-
-form_rising : (m : Manner) (c : Call) (o : Option Tree) (w : World) → Rising w → Rising (form_started m c o w).0
-form_rising m c None w h = h
-form_rising m c (Some tree) w h = word_rising m c tree (last_word tree.words) w h
-
 begun_rising : (m : Manner) (c : Call) (w : World) → Rising w → Rising (begun m c w).0
-unfolding begun
-begun_rising m c w h = let r = formed w.live.objects c.program w.library in form_rising m c r.0 (with_library r.1 w) h
+begun_rising m c w h = begun_keeps Rising m c (λ s u k. numbered_added (new_process m c s) u.queue k) w h
 
 told_rising : (d : ℕ) (w : World) (r : Result ℤ MufFault) → Rising w → Rising (start_told d (w, r))
 told_rising d w (Ok pid) h = h
@@ -159,6 +147,9 @@ rising_happened (Claim pid) w party h = claimed_numbered pid party w.queue h
 rising_happened (Slice pid) w party h = released_numbered pid (sliced pid w).queue (sliced_rising pid w h)
 rising_happened (Lost pid) w party h = released_numbered pid w.queue h
 rising_happened event w party h = h
+
+pub numbered_effect : (w : World) (e : Happened) → Rising w → Rising (effect w e)
+numbered_effect w e h = effect-keeps Rising (λ c u there k. begun_rising (by_hook u) c u k) w e (rising_happened e.event w e.party h)
 
 -- and those of a world that is booted, in which nothing runs, too
 pub rising_booted : (objects : List Entry) (tune : Tune) (moment start : ℕ) → Rising (booted objects tune moment start)

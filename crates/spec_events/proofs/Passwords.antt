@@ -14,7 +14,7 @@ use Rattle.muck_model.specs.declared.event.Event.TheVariants.{Opened, Input, Clo
 use Rattle.spec_live.specs.Objects.{Entry as Kept, mark_in, nothing}
 use Rattle.spec_live.specs.Connections.{Connection, has_number, changed_in, placed, without, left, seated, newcomer}
 use Rattle.spec_live.specs.Saving as saving
-use Rattle.spec_live.specs.Boards.{player_in, opened, closed, line_added, bytes_taken, seated_one, leaving_one, early_board}
+use Rattle.spec_live.specs.Boards.{Board, player_in, opened, closed, line_added, bytes_taken, seated_one, leaving_one, early_board}
 use Rattle.spec_live.specs.Lives.{Live, Change, followed, reading, either, tell, leave, enter, on_board}
 use Rattle.spec_rights.specs.declared.act.Actor.{Actor}
 use Rattle.spec_rights.proofs.Licences.{Quiet, ties_same}
@@ -40,6 +40,7 @@ use Rattle.spec_events.proofs.Knowing.{has_password}
 use Rattle.spec_events.proofs.Quietly.{quiet_told_each}
 use Rattle.spec_events.proofs.Login.{greeted, greeted_open}
 use Rattle.spec_events.proofs.Done.{player-same_ties}
+use Rattle.spec_events.proofs.Happening.{effect-is, effect-board}
 use Rattle.spec_events.proofs.Reached.{rising-happened, apart}
 use Rattle.spec_events.proofs.Turns.{all_licensed_booted, all_licensed_starting}
 
@@ -301,16 +302,15 @@ rising_event event party w true a r = absurd cc
 rising_event event party w false a r = rising-happened event party w a r
 
 pub rising_effect : (w : World) (entry : Entry) → is_lawful w entry ≡ true → IsRising w.live.board.connections → IsRising (effect w entry).live.board.connections
-unfolding effect is_lawful
-rising_effect w entry l r = rising_event entry.event entry.party w w.dead l r
+unfolding is_lawful
+rising_effect w entry l r = subst (λ (b : Board). IsRising b.connections) (sym (effect-board w entry)) (rising_event entry.event entry.party w w.dead l r)
 
 known : (w : World) (entries : List Entry) → IsRising w.live.board.connections → AllLawful w entries → AllLicensed w entries → (d : ℕ) (p : Dbref) → player_in d (after w entries).live.board ≡ Some p →
     ((player_in d w.live.board ≡ Some p) × Stays d entries) ⊎ IsKnown w entries d p
-unfolding effect
 known w [] r l m d p h = inl (h, tt)
 known w (entry ∷ entries) r l m d p h =
     elim (known (effect w entry) entries (rising_effect w entry l.0 r) l.1 m.1 d p h) [
-      | inl k ↦ elim (gained entry.event entry.party w r m.0 d p k.0) [
+      | inl k ↦ elim (gained entry.event entry.party w r (subst (EventLicensed entry.event w) (effect-is w entry) m.0) d p (ap (player_in d) (sym (effect-board w entry)) ∙ k.0)) [
         | inl g ↦ inl (g.0, (g.1, k.1))
         | inr g ↦ inr (inl (g.0, g.1, k.1))
       ]

@@ -1,5 +1,5 @@
 -- Lawful entries lead from sound worlds to sound worlds.
-use Rattle.std.proofs.Common.{◌≡◌, ℕ, ◌<◌, ◌≤◌, lit≤, Bool, true, false, not, ◌&&◌, ◌||◌, cond, List, [], ◌∷◌, length, refl, sym, ◌∙◌, ap, arith, Option, Some, None, ltb, ◌==◌, ◌≢◌}
+use Rattle.std.proofs.Common.{◌≡◌, ℕ, ◌<◌, ◌≤◌, lit≤, Bool, true, false, not, ◌&&◌, ◌||◌, cond, List, [], ◌∷◌, length, refl, sym, ◌∙◌, ap, subst, arith, Option, Some, None, ltb, ◌==◌, ◌≢◌}
 use Rattle.std.proofs.lemmas.Bool.Decides.{nat_tests}
 use Rattle.std.proofs.lemmas.Bool.{cond-true, cond-false, ltb-true, ltb-false, and_parts, eq-eqb}
 use Rattle.std.specs.Prelude.{find, is_none, is_some, nat_lt, nat_le}
@@ -14,7 +14,7 @@ use Rattle.spec_live.specs.Start.{first_objects}
 use Rattle.spec_live.specs.Saving.{Marked, done, due_again, all_saving}
 use Rattle.spec_live.specs.Output.{bytes_of}
 use Rattle.spec_live.specs.Connections.{Connection, has_number, placed, without, newcomer, connections_most, holds, lined}
-use Rattle.spec_live.specs.Boards.{player_in, opened, closed, line_added, bytes_taken, first_tune, early_board}
+use Rattle.spec_live.specs.Boards.{Board, player_in, opened, closed, line_added, bytes_taken, first_tune, early_board}
 use Rattle.spec_live.specs.Lives.{Live, Change, followed, reading, on_board}
 use Rattle.spec_live.proofs.Marking.{marked_stored, marked_failed}
 use Rattle.spec_admin.specs.declared.word.Parameter.TheVariants.{InstrSlice, PreemptUnits, M1Units, M2Units, ProcessLimit, PlayerProcesses, MpiCommands, DumpInterval}
@@ -31,7 +31,8 @@ use Rattle.spec_events.specs.inner.Sound.{IsSound}
 use Rattle.spec_events.proofs.Quietly.{quietly_live, quiet_told_each}
 use Rattle.spec_events.proofs.Done.{Going, in_range_as, going_both, going_quietly, going_live, going_resaved, done_going}
 use Rattle.spec_events.proofs.Taken.{sliced_going}
-use Rattle.spec_events.proofs.Living.{dead-happened}
+use Rattle.spec_events.proofs.Happening.{effect-board}
+use Rattle.spec_events.proofs.Living.{dead-effect}
 use Rattle.spec_events.proofs.Turns.{gone_away_untouched}
 
 cases_lt : (m n : ℕ) (P : Bool → Type 0) → (m < n → P true) → (n ≤ m → P false) → P (ltb m n)
@@ -149,12 +150,14 @@ other_event event other = refl
 
 -- a lawful entry that isn't Died leads from a sound world to a sound world
 pub sound-effect : (w : World) (entry : Entry) → entry.event ≢ Died → is_lawful w entry ≡ true → IsSound w → IsSound (effect w entry)
-unfolding effect is_lawful
-sound-effect w entry other l h = record {
-  alive = dead-happened entry.event w entry.party (other_event entry.event other) ∙ h.alive;
-  rising = rising-happened entry.event entry.party w (sym (cond-false _ _ _ h.alive) ∙ l) h.rising;
-  tuned = tuned-happened entry.event entry.party w h.tuned;
-}
+unfolding is_lawful
+sound-effect w entry other l h =
+    let same = sym (effect-board w entry) in
+    record {
+      alive = dead-effect w entry (other_event entry.event other) ∙ h.alive;
+      rising = subst (λ (b : Board). IsRising b.connections) same (rising-happened entry.event entry.party w (sym (cond-false _ _ _ h.alive) ∙ l) h.rising);
+      tuned = subst (λ (b : Board). IsInRange b.tune) same (tuned-happened entry.event entry.party w h.tuned);
+    }
 
 -- Choices that are lawful.
 

@@ -49,10 +49,11 @@ use Rattle.spec_commands.proofs.Edited.{edited_proper}
 use Rattle.spec_commands.proofs.Lines.{seating_at_login}
 use Rattle.spec_admin.specs.Lines.{line_ends, after_line}
 use Rattle.spec_events.specs.declared.starting.Call.{Call as Started}
+use Rattle.spec_events.specs.declared.starting.Manner.{Manner}
 use Rattle.spec_events.specs.World.{World, connection, askers_of, on_live, on_queue, with_library, booted, starting}
 use Rattle.spec_events.specs.Dumping.{resaved, dump_stored, dump_failed, told_each}
 use Rattle.spec_events.specs.Following.{settled}
-use Rattle.spec_events.specs.Starting.{by_command, begun, start_told, start_judged, launched}
+use Rattle.spec_events.specs.Starting.{by_command, by_hook, begun, start_told, start_judged, launched}
 use Rattle.spec_events.specs.Lines.{compiler_done, flaw_text, with_editor, compiled_so, compiled, next_editor, after_edit, edited_line, in_editor, typed, ended_behind, left_by, followed_up, in_world, command, program_aborted, is_abort, given_line, line_for, line_done, done as line_is_done}
 use Rattle.spec_events.specs.Slices.{Taken, units_of}
 use Rattle.spec_events.specs.Steps.{effect, happened}
@@ -61,6 +62,7 @@ use Rattle.spec_events.proofs.Sources.{SameSources, same_objects, source_as, IsL
 use Rattle.spec_events.proofs.Sourcing.{each_more, each_filter, each_without, each_changed, form_left, settled_sourced}
 use Rattle.spec_events.proofs.Lapses.{objects_settled}
 use Rattle.spec_events.proofs.Quietly.{Quietly, quietly_launched, quietly_live, quietly_compiled, quietly_begun, quiet_told_each}
+use Rattle.spec_events.proofs.Happening.{effect-keeps, effect-live}
 use Rattle.spec_events.proofs.SourcedUnits as units
 use Rattle.spec_events.proofs.Turns.{gone_away_untouched}
 use Rattle.spec_events.proofs.Typed.{typed_open}
@@ -116,7 +118,14 @@ module _ (B : Dbref → List (List ℕ) → Tree → Type 0) where
       cond_both (is_open s w.live) (edited_line d player s line w) (on_live (tell d editor_exited) w) (λ v. units.Moment B v.live.objects → Sourced B w → Sourced B v)
       (λ e. line_edited d player s line w) (λ e now h. told_sourced d editor_exited w h)
 
-  -- A program is started by a line.
+  -- A program is started.
+
+  started_sourced : (m : Manner) (c : Started) (w : World) → units.Moment B w.live.objects → Sourced B w → Sourced B (begun m c w).0
+  started_sourced m c w now h =
+      let r = begun m c w in
+      subst (λ es. AreSourced B es r.0.library r.0.queue.processes) (sym (quietly_begun m c w).objects) (units.begun_sourced B m c w now h)
+
+  -- By a line.
 
   told_begun : (d : ℕ) (w : World) (r : World × Result ℤ MufFault) → Sourced B r.0 → Sourced B (start_told d r)
   told_begun d w (v, Ok pid) h = h
@@ -125,8 +134,7 @@ module _ (B : Dbref → List (List ℕ) → Tree → Type 0) where
   judged_sourced : (d : ℕ) (c : Started) (o : Option Denial) (w : World) → units.Moment B w.live.objects → Sourced B w → Sourced B (start_judged d c o w)
   judged_sourced d c (Some denial) w now h = denied_sourced d denial w h
   judged_sourced d c None w now h =
-      let r = begun (by_command d c.program w) c w in
-      told_begun d w r (subst (λ es. AreSourced B es r.0.library r.0.queue.processes) (sym (quietly_begun (by_command d c.program w) c w).objects) (units.begun_sourced B (by_command d c.program w) c w now h))
+      told_begun d w (begun (by_command d c.program w) c w) (started_sourced (by_command d c.program w) c w now h)
 
   launched_by : (d : ℕ) (a : Actor) (c : Started) (w : World) → units.Moment B w.live.objects → Sourced B w → Sourced B (launched d a c w)
   unfolding launched
@@ -227,7 +235,7 @@ module _ (B : Dbref → List (List ℕ) → Tree → Type 0) where
       as_sources u v (same_objects u.live.objects v.live.objects ((quiet_told_each ds text).law u.live).objects) refl refl (as_sources w u (saved_sources f w.live.objects) refl refl h)
 
   -- what is kept and what runs is of its source behind each event, where what is built at its moments counts as built
-  pub happened_sourced : (event : Event) (party : ℕ) (w : World) → units.Moment B (happened w party event).live.objects → ((es : List Kept) → BeforeUnit event w es → units.Moment B es) → Sourced B w → Sourced B (happened w party event)
+  happened_sourced : (event : Event) (party : ℕ) (w : World) → units.Moment B (happened w party event).live.objects → ((es : List Kept) → BeforeUnit event w es → units.Moment B es) → Sourced B w → Sourced B (happened w party event)
   unfolding claimed released opened line_added bytes_taken
   happened_sourced (Closed d) party w now units_now h =
       let u : World = on_live (gone_away d) w in
@@ -244,6 +252,13 @@ module _ (B : Dbref → List (List ℕ) → Tree → Type 0) where
   happened_sourced (Stored k) party w now units_now h = saved_sourced done (askers_of w.dumps) (dump_stored k) w h
   happened_sourced (DumpFailed k) party w now units_now h = saved_sourced due_again (askers_of w.dumps) dump_failed w h
   happened_sourced event party w now units_now h = h
+
+  pub effect_sourced : (w : World) (e : Entry) → units.Moment B (effect w e).live.objects → ((es : List Kept) → BeforeUnit e.event w es → units.Moment B es) → Sourced B w → Sourced B (effect w e)
+  effect_sourced w e now units_now h =
+      let there = subst (λ (l : Live). units.Moment B l.objects) (effect-live w e) now in
+      (effect-keeps (λ u. units.Moment B u.live.objects × Sourced B u)
+      (λ c u t k. (subst (units.Moment B) (sym (quietly_begun (by_hook u) c u).objects) k.0, started_sourced (by_hook u) c u k.0 k.1))
+      w e (there, happened_sourced e.event e.party w there units_now h)).1
 
   -- and so is what each unit of a slice runs
   pub units_sourced : (event : Event) (w : World) → ((es : List Kept) → BeforeUnit event w es → units.Moment B es) → Sourced B w → UnitsSourced B event w
@@ -276,13 +291,12 @@ moment_of Stood es h d tree e = (es, h, refl, e)
 -- definitions that objects lent at a moment of the history.
 
 sourced_since : (Stood : List Kept → Type 0) (w : World) (entries : List Entry) → Sourced (BuiltOf Stood) w → SourcedSince Stood w entries
-unfolding effect
 sourced_since Stood w [] h = tt
 sourced_since Stood w (entry ∷ entries) h =
     let now : List Kept → Type 0 = Until Stood w entry in
     let k : Sourced (BuiltOf now) w = sourced_more (BuiltOf Stood) (BuiltOf now) (built_more Stood now (λ es s. inl s)) w.live.objects w.library w.queue.processes h in
     let before : (es : List Kept) → BeforeUnit entry.event w es → units.Moment (BuiltOf now) es = λ es s. moment_of now es (inr (inr s)) in
-    let next : Sourced (BuiltOf now) (effect w entry) = happened_sourced (BuiltOf now) entry.event entry.party w (moment_of now (effect w entry).live.objects (inr (inl refl))) before k in
+    let next : Sourced (BuiltOf now) (effect w entry) = effect_sourced (BuiltOf now) w entry (moment_of now (effect w entry).live.objects (inr (inl refl))) before k in
     (units_sourced (BuiltOf now) entry.event w before k, next, sourced_since now (effect w entry) entries next)
 
 -- a world in which nothing is built and nothing runs

@@ -1,5 +1,5 @@
 -- Each step changes only what is open.
-use Rattle.std.proofs.Common.{◌≡◌, ℕ, true, false, zero, suc, List, [], ◌∷◌, refl, ◌∙◌, None}
+use Rattle.std.proofs.Common.{◌≡◌, ℕ, true, false, zero, suc, List, [], ◌∷◌, refl, sym, ◌∙◌, subst, None}
 use Rattle.muck_model.specs.declared.event.Entry.{Entry}
 use Rattle.muck_model.specs.declared.event.Event.{Event}
 use Rattle.muck_model.specs.declared.tune.Tune.{Tune}
@@ -27,7 +27,8 @@ use Rattle.spec_events.proofs.Endings.{IsTold, processes_remain, tied_remain}
 use Rattle.spec_events.proofs.Done.{none_ends, undisturbed_quietly, turn_licensed, told_by, told_done}
 use Rattle.spec_events.proofs.Taken.{told_sliced}
 use Rattle.spec_events.proofs.Chained.{slice_licensed}
-use Rattle.spec_events.proofs.Numbers.{rising_happened, rising_starting, rising_booted}
+use Rattle.spec_events.proofs.Happening.{effect-is, effect-live}
+use Rattle.spec_events.proofs.Numbers.{numbered_effect, rising_starting, rising_booted}
 
 -- what a player does by a line is open to it, and at the login screen no object changes
 pub exec_licensed : (d : ℕ) (w : World) (party : ℕ) → IsTold w.live → EventLicensed (Exec d) w (happened w party (Exec d))
@@ -82,12 +83,14 @@ told_happened (Stored k) w party h = told_dump done (askers_of w.dumps) (dump_st
 told_happened (DumpFailed k) w party h = told_dump due_again (askers_of w.dumps) dump_failed w.live h
 told_happened event w party h = h
 
+pub told_effect : (w : World) (e : Entry) → IsTold w.live → IsTold (effect w e).live
+told_effect w e h = subst IsTold (sym (effect-live w e)) (told_happened e.event w e.party h)
+
 -- whole histories, from a world of which nothing is to be told, and in which the numbers of the processes rise
 pub all_licensed : (w : World) (es : List Entry) → IsTold w.live → IsNumbered w.queue → AllLicensed w es
-unfolding effect
 all_licensed w [] told rising = tt
 all_licensed w (entry ∷ entries) told rising =
-    (event_licensed entry.event w entry.party told rising, all_licensed (effect w entry) entries (told_happened entry.event w entry.party told) (rising_happened entry.event w entry.party rising))
+    (subst (EventLicensed entry.event w) (sym (effect-is w entry)) (event_licensed entry.event w entry.party told rising), all_licensed (effect w entry) entries (told_effect w entry told) (numbered_effect w entry rising))
 
 told_starting : IsTold starting.live
 unfolding starting booted first_objects mark_in

@@ -19,7 +19,7 @@ use Rattle.muf_running.specs.Begins.{common_of}
 use Rattle.muck_library.specs.Library.{Library, formed}
 use Rattle.muck_queue.specs.declared.process.Process.{Process}
 use Rattle.muck_queue.specs.declared.mode.Mode.{Mode}
-use Rattle.muck_queue.specs.declared.mode.Mode.TheVariants.{Preempt, Foreground}
+use Rattle.muck_queue.specs.declared.mode.Mode.TheVariants.{Preempt, Foreground, Background}
 use Rattle.muck_queue.specs.declared.mode.Wait.TheVariants.{Nothing}
 use Rattle.muck_queue.specs.Queues.{is_full, added}
 use Rattle.spec_events.specs.declared.starting.Call.{Call}
@@ -41,6 +41,10 @@ first_mode program w = if flag_at builder w.live.objects program then Preempt el
 -- as a command starts it: tied to the connection d, and at once
 abbrev pub by_command : ℕ → Dbref → World → Manner
 by_command d program w = record { descr = Some d; mode = first_mode program w; due = w.moment }
+
+-- as a hook starts it: in the background, tied to nothing, and at once
+abbrev pub by_hook : World → Manner
+by_hook w = record { descr = None; mode = Background; due = w.moment }
 
 unfoldable pub new_process : Manner → Call → Source → Process
 new_process m c running = record {

@@ -22,7 +22,7 @@ use Rattle.muf_model.specs.declared.prims.Primitive.{Primitive as Name}
 use Rattle.muf_model.specs.Datum.{Datum, int}
 use Rattle.muf_model.specs.Faults.{text_of}
 use Rattle.muf_model.specs.Tree.{Definition, Tree}
-use Rattle.muf_model.specs.Source.{Program, Source, locked_of, calls_of, last_word, handed, entered}
+use Rattle.muf_model.specs.Source.{Program, Source, locked_of, calls_of, handed, entered}
 use Rattle.muf_model.specs.Unit.{calls_most, Outcome as UnitOutcome, goes, faulted, asks, unit, fault}
 use Rattle.spec_prims.specs.Asking.{numbered}
 use Rattle.spec_prims.specs.Row.{Row, gives, refuses, breaks}
@@ -34,7 +34,7 @@ use Rattle.muck_library.specs.Library.{Library, formed}
 use Rattle.muck_library.specs.Programs.{built_tree}
 use Rattle.muck_queue.specs.declared.mode.Mode.TheVariants.{Background}
 use Rattle.muck_queue.specs.declared.process.Process.{Process}
-use Rattle.muck_queue.specs.Queues.{is_full, process, on_process, without, told_line}
+use Rattle.muck_queue.specs.Queues.{process, on_process, without, told_line}
 use Rattle.spec_commands.specs.declared.outcome.Outcome.{Outcome}
 use Rattle.spec_commands.specs.declared.outcome.Outcome.TheVariants.{Done, NotMine, Start as StartOutcome, Edit, Leave, Dump, Stop, Retune}
 use Rattle.spec_commands.specs.declared.edit.EditStep.{EditStep}
@@ -49,13 +49,14 @@ use Rattle.spec_events.specs.declared.starting.Call.{Call as Started}
 use Rattle.spec_events.specs.declared.starting.Manner.{Manner}
 use Rattle.spec_events.specs.World.{World, on_live, on_queue, with_library}
 use Rattle.spec_events.specs.Following.{settled}
-use Rattle.spec_events.specs.Starting.{beginning, new_process, by_command, joined, word_started, form_started, built_started, begun, start_told, start_judged, launched}
+use Rattle.spec_events.specs.Starting.{by_command, joined, begun, start_told, start_judged, launched}
 use Rattle.spec_events.specs.Lines.{compiler_done, flaw_text, with_editor, compiled_so, compiled, next_editor, after_edit, edited_line, in_editor, editor_on, typed, left_by, followed_up, in_world, program_aborted, is_abort, given_line, line_for}
 use Rattle.spec_events.specs.Slices.{acting, Deed, does, rests, fails, behind, lifted, row_done, called_word, word_entered, form_entered, program_called, child_of, with_number, child_joined, forked, queued_command, with_process, queued, place_in, effected, process_done, deed, program_error, stands_at, ended_one, broken, out, one_counted, went, after_deed, unit_done, limit_fault, within_limit, turn, world_of, unit_of, Taken, run_of, last_world, slice_most, units_of, awake, sliced}
 use Rattle.spec_events.specs.Endings.{Lapsed}
 use Rattle.spec_events.specs.Sourced.{Each}
 use Rattle.spec_events.proofs.Endings.{IsTold}
 use Rattle.spec_events.proofs.Slicing.{run_holds}
+use Rattle.spec_events.proofs.Begun.{live_joined, live_begun}
 use Rattle.spec_events.proofs.Taken.{told_turn}
 use Rattle.spec_origins.specs.Origins.{Among, LostIn}
 use Rattle.spec_origins.proofs.Going.{among_more}
@@ -66,26 +67,6 @@ use Rattle.spec_origins.proofs.Seats.{Sits, sits_order, sits_tell, sits_tell_pla
 use Rattle.spec_origins.proofs.Shared.{RowSits, sits_shared}
 use Rattle.spec_origins.proofs.Keepers.{plays_typed, sits_login, sits_edited}
 use Rattle.spec_origins.proofs.Seating.{Kept, kept_both, kept_sits, own_editor, keeps_settled}
-
--- A program that starts changes processes and built forms alone.
-
-live_joined : (p : Process) (w : World) → (joined p w).0.live ≡ w.live
-live_joined p w = cond_both (is_full p.player w.live.board.tune w.queue) _ _ (λ (r : World × Result ℤ MufFault). r.0.live ≡ w.live) (λ e. refl) (λ e. refl)
-
-live_word : (m : Manner) (c : Started) (tree : Tree) (o : Option Definition) (w : World) → (word_started m c tree o w).0.live ≡ w.live
-live_word m c tree None w = refl
-live_word m c tree (Some x) w = live_joined (new_process m c (beginning c tree x w)) w
-
-live_form : (m : Manner) (c : Started) (o : Option Tree) (w : World) → (form_started m c o w).0.live ≡ w.live
-live_form m c None w = refl
-live_form m c (Some tree) w = live_word m c tree (last_word tree.words) w
-
-live_built : (m : Manner) (c : Started) (made : Option Tree × Library) (w : World) → (built_started m c made w).0.live ≡ w.live
-live_built m c (form, library) w = live_form m c form (with_library library w)
-
-live_begun : (m : Manner) (c : Started) (w : World) → (begun m c w).0.live ≡ w.live
-unfolding begun
-live_begun m c w = live_built m c (formed w.live.objects c.program w.library) w
 
 -- Deeds.
 

@@ -64,37 +64,39 @@ use Rattle.spec_commands.specs.Free.{free_line}
 use Rattle.spec_commands.proofs.Permitted.{Leaves}
 use Rattle.spec_events.specs.declared.starting.Agent.{Agent}
 use Rattle.spec_events.specs.declared.starting.Call.{Call as Started}
+use Rattle.spec_events.specs.declared.starting.Manner.{Manner}
 use Rattle.spec_events.specs.World.{World, booted, connection, askers_of, on_live, on_queue}
 use Rattle.spec_events.specs.Dumping.{resaved, dump_stored, dump_failed}
 use Rattle.spec_events.specs.Following.{settled}
-use Rattle.spec_events.specs.Starting.{new_process, by_command, begun, start_told, start_judged, launched}
+use Rattle.spec_events.specs.Starting.{new_process, by_command, by_hook, begun, start_told, start_judged, launched}
 use Rattle.spec_events.specs.Lines.{with_editor, next_editor, after_edit, edited_line, in_editor, editor_on, by_keeper, typed, left_by, followed_up, in_world, program_aborted, is_abort, given_line, line_for, line_done, done}
 use Rattle.spec_events.specs.Slices.{acting, Deed, does, rests, fails, lifted, row_done, process_done, deed, program_error, stands_at, broken, out, one_counted, went, after_deed, unit_done, limit_fault, within_limit, turn, world_of, seat, unit_of, Taken, run_of, last_world, slice_most, awake, sliced}
 use Rattle.spec_events.specs.Sourced.{Each, OfSource, Standing, Sourced, BuiltOf, SourcedSince, Until}
 use Rattle.spec_events.specs.Steps.{effect, happened}
 use Rattle.spec_events.specs.Histories.{AllLawful}
 use Rattle.spec_events.proofs.Endings.{IsTold}
+use Rattle.spec_events.proofs.Happening.{effect-keeps, effect-live}
 use Rattle.spec_events.proofs.Quietly.{quiet_told_each}
 use Rattle.spec_events.proofs.Slicing.{run_holds}
 use Rattle.spec_events.proofs.SourcedEvents.{all_sourced_booted}
 use Rattle.spec_events.proofs.Sourcing.{each_more, each_filter, each_without, each_changed}
 use Rattle.spec_events.proofs.Taken.{told_turn}
-use Rattle.spec_events.proofs.Turns.{gone_away_untouched}
+use Rattle.spec_events.proofs.Begun.{live_begun}
+use Rattle.spec_events.proofs.Turns.{gone_away_untouched, told_effect}
 use Rattle.spec_events.proofs.Typed.{typed_open}
 use Rattle.spec_origins.specs.Origins.{Comes, StartedIn, LostIn, no_process}
 use Rattle.spec_origins.specs.Seats.{Seated, AllSeated}
 use Rattle.spec_origins.specs.There.{IsThere, StaysThere}
 use Rattle.spec_origins.proofs.Going.{each_among, goes_woken, from_itself, holds_begun}
-use Rattle.spec_origins.proofs.Histories.{told_happened}
 use Rattle.spec_origins.proofs.Keepers.{plays_typed, sits_login, sits_edited}
 use Rattle.spec_origins.proofs.Lines.{kept_left, objects_up, objects_after, queue_after}
 use Rattle.spec_origins.proofs.Named.{Stands, Names, Naming, names_or, names_played, so_there}
 use Rattle.spec_origins.proofs.Seated.{DeedMild, done_mild, none_own, seat_turn, launched_sits, after_sits}
-use Rattle.spec_origins.proofs.Seating.{kept_sits}
+use Rattle.spec_origins.proofs.Seating.{editor_in, kept_sits}
 use Rattle.spec_origins.proofs.Seats.{sits_tell, sits_leave}
 use Rattle.spec_origins.proofs.There.{NoneGoes, none_same, none_resaved, none_notes, FromThere, Held, held_more, trigger_as, triggers_come, Editors, editor_as, editors_sit, editors_put, none_settled, settled_held, held_settled}
 use Rattle.spec_origins.proofs.Units.{turn_holds}
-use Rattle.spec_origins.proofs.Waiting.{waits_editor, all_seated_booted}
+use Rattle.spec_origins.proofs.Waiting.{waits_editor, seated_as, all_seated_booted}
 
 -- of the objects that are there now
 abbrev Now : World → Type 0
@@ -126,26 +128,26 @@ told_queue : (d : ℕ) (r : World × Result ℤ MufFault) → (start_told d r).q
 told_queue d (v, Ok pid) = refl
 told_queue d (v, Err fault) = refl
 
-module _ (es : List Kept) (d : ℕ) where
+module _ (es : List Kept) where
   abbrev Threads : World → Type 0
   Threads w = Each (FromThere es) w.queue.processes
 
-  begun_triggers : (c : Started) (w : World) → Stands es c.trigger → Threads w → Threads (begun (by_command d c.program w) c w).0
+  begun_triggers : (m : Manner) (c : Started) (w : World) → Stands es c.trigger → Threads w → Threads (begun m c w).0
   unfolding new_process
-  begun_triggers c w k h =
+  begun_triggers m c w k h =
       let New : Process → Type 0 = λ p. p.trigger ≡ c.trigger in
-      triggers_come es no_process false (λ x. ⊥) New w.queue (begun (by_command d c.program w) c w).0.queue (λ p e. inr (subst (Stands es) (sym e) k)) h
-      (holds_begun no_process false (λ x. ⊥) New w.queue (by_command d c.program w) c w (λ s n l. refl) (from_itself no_process false (λ x. ⊥) New w.queue))
+      triggers_come es no_process false (λ x. ⊥) New w.queue (begun m c w).0.queue (λ p e. inr (subst (Stands es) (sym e) k)) h
+      (holds_begun no_process false (λ x. ⊥) New w.queue m c w (λ s n l. refl) (from_itself no_process false (λ x. ⊥) New w.queue))
 
-  judged_triggers : (c : Started) (o : Option Denial) (w : World) → Stands es c.trigger → Threads w → Threads (start_judged d c o w)
-  judged_triggers c (Some denial) w k h = h
-  judged_triggers c None w k h =
-      let r = begun (by_command d c.program w) c w in
-      subst (λ (q : Queue). Each (FromThere es) q.processes) (sym (told_queue d r)) (begun_triggers c w k h)
+  judged_triggers : (d : ℕ) (c : Started) (o : Option Denial) (w : World) → Stands es c.trigger → Threads w → Threads (start_judged d c o w)
+  judged_triggers d c (Some denial) w k h = h
+  judged_triggers d c None w k h =
+      let m = by_command d c.program w in
+      subst (λ (q : Queue). Each (FromThere es) q.processes) (sym (told_queue d (begun m c w))) (begun_triggers m c w k h)
 
-  launched_triggers : (a : Actor) (c : Started) (w : World) → Stands es c.trigger → Threads w → Threads (launched d a c w)
+  launched_triggers : (d : ℕ) (a : Actor) (c : Started) (w : World) → Stands es c.trigger → Threads w → Threads (launched d a c w)
   unfolding launched
-  launched_triggers a c w k h = judged_triggers c (verdict w.live.objects a (StartAct c.program)) w k h
+  launched_triggers d a c w k h = judged_triggers d c (verdict w.live.objects a (StartAct c.program)) w k h
 
 editor_is : (es : List Kept) (s t : EditState) → ◌≡◌ {A = Option EditState} (Some s) (Some t) → Stands es s.program → Stands es t.program
 editor_is es s t e h = let k : s ≡ t = cc in subst (λ (u : EditState). Stands es u.program) k h
@@ -424,6 +426,17 @@ happened_held (DumpFailed k) w party told s h =
     dumped w (happened w party (DumpFailed k)) due_again ((quiet_told_each (askers_of w.dumps) dump_failed).law (resaved due_again w.live)).objects (record { triggers = h.triggers; editors = λ d t e. h.editors d t (sym (s.editors d) ∙ e) })
 happened_held event w party told s h = record { triggers = h.triggers; editors = λ d t e. h.editors d t (sym (s.editors d) ∙ e) }
 
+-- what is there starts a program behind it
+hooked_held : (c : Started) (w : World) → Stands w.live.objects c.trigger → Now w → Now (begun (by_hook w) c w).0
+hooked_held c w k h =
+    let v = (begun (by_hook w) c w).0 in
+    let same = live_begun (by_hook w) c w in
+    now_by w v (none_same w.live.objects v.live.objects (ap (λ (l : Live). l.objects) same))
+    (record { triggers = begun_triggers w.live.objects (by_hook w) c w k h.triggers; editors = λ d s e. h.editors d s (ap (λ (l : Live). editor_in d l.board.connections) (sym same) ∙ e) })
+
+effect_held : (w : World) (e : Entry) → IsTold w.live → Seated e.event w (effect w e) → Now w → Now (effect w e)
+effect_held w e told s h = effect-keeps Now hooked_held w e (happened_held e.event w e.party told (seated_as e.event w (effect w e) (happened w e.party e.event) (sym (effect-live w e)) s) h)
+
 -- Programs: what was built has a source, so that it is there.
 
 no_tree : (es : List Kept) (d : Dbref) (tree : Tree) → built_tree es d ≡ Ok tree → source_in es d ≡ [] → ⊥
@@ -455,13 +468,12 @@ module _ (Stood : List Kept → Type 0) (w : World) where
 -- Histories.
 
 stays_there : (Stood : List Kept → Type 0) (w : World) (entries : List Entry) → IsTold w.live → Now w → SourcedSince Stood w entries → AllSeated w entries → StaysThere w entries
-unfolding effect
 stays_there Stood w [] told h sourced seated = tt
 stays_there Stood w (entry ∷ entries) told h sourced seated =
     let v : World = effect w entry in
-    let now : Now v = happened_held entry.event w entry.party told seated.0 h in (
+    let now : Now v = effect_held w entry told seated.0 h in (
       record { triggers = now.triggers; programs = programs_there (Until Stood w entry) v sourced.1; editors = now.editors },
-      stays_there (Until Stood w entry) v entries (told_happened entry.event w entry.party told) now sourced.2 seated.1,
+      stays_there (Until Stood w entry) v entries (told_effect w entry told) now sourced.2 seated.1,
     )
 
 pub stays_there_booted : (objects : List Kept) (tune : Tune) (moment start : ℕ) → ((n : ℕ) → mark_in objects n ≡ None) → (entries : List Entry) → AllLawful (booted objects tune moment start) entries → StaysThere (booted objects tune moment start) entries

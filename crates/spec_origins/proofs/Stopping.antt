@@ -1,5 +1,5 @@
 -- Nothing stops the world but the porter, and a line of a wizard.
-use Rattle.std.proofs.Common.{◌≡◌, ◌⊎◌, ℕ, ℤ, pos, ◌+ℤ◌, suc, Bool, true, false, cond, List, [], ◌∷◌, refl, ◌∙◌, ap, Option, Some, None, inl, inr}
+use Rattle.std.proofs.Common.{◌≡◌, ◌⊎◌, ℕ, ℤ, pos, suc, Bool, true, false, cond, List, [], ◌∷◌, refl, ◌∙◌, ap, Option, Some, None, inl, inr}
 use Rattle.std.specs.Prelude.{nat_lt, Result, Ok, Err}
 use Rattle.std.specs.Option.{option_map_or, option_and_then}
 use Rattle.muck_model.specs.declared.dbref.Dbref.{Dbref}
@@ -22,11 +22,11 @@ use Rattle.spec_commands.specs.Finding.{actor_of}
 use Rattle.spec_commands.specs.Editing.{editor_exited, is_open, edited}
 use Rattle.spec_commands.specs.Talk.{waits}
 use Rattle.muf_model.specs.declared.fault.MufFault.{MufFault}
-use Rattle.muf_model.specs.declared.fault.MufFault.TheVariants.{ProcessLimit, CallsFull}
+use Rattle.muf_model.specs.declared.fault.MufFault.TheVariants.{CallsFull}
 use Rattle.muf_model.specs.declared.prims.Primitive.{Primitive as Name}
 use Rattle.muf_model.specs.Datum.{Datum, int}
 use Rattle.muf_model.specs.Tree.{Definition, Tree}
-use Rattle.muf_model.specs.Source.{Program, Source, last_word, locked_of, calls_of, handed, entered}
+use Rattle.muf_model.specs.Source.{Program, Source, locked_of, calls_of, handed, entered}
 use Rattle.muf_model.specs.Unit.{Outcome, goes, faulted, asks, unit, fault, calls_most}
 use Rattle.spec_prims.specs.Asking.{numbered}
 use Rattle.spec_prims.specs.Row.{Row, gives as row_gives, refuses as row_refuses, breaks as row_breaks}
@@ -36,7 +36,7 @@ use Rattle.muck_library.specs.Programs.{built_tree}
 use Rattle.muck_library.specs.Library.{Library, formed}
 use Rattle.muck_queue.specs.declared.mode.Mode.TheVariants.{Background}
 use Rattle.muck_queue.specs.declared.process.Process.{Process}
-use Rattle.muck_queue.specs.Queues.{process, on_process, without, added, is_full, reader, ended_running, trigger_cleared, told_line}
+use Rattle.muck_queue.specs.Queues.{process, on_process, without, reader, ended_running, trigger_cleared, told_line}
 use Rattle.spec_processes.specs.ProcessRows.{Effect, gives, waits as pauses, forks, enters, starts, refuses, processed, is_process, later}
 use Rattle.spec_events.specs.declared.starting.Agent.{Agent}
 use Rattle.spec_events.specs.declared.starting.Call.{Call as Started}
@@ -49,9 +49,11 @@ use Rattle.spec_events.specs.Steps.{effect, happened}
 use Rattle.spec_origins.specs.Stops.{IsMasters, StopsBy, AllStops}
 use Rattle.spec_origins.proofs.Outcomes.{typed_stops}
 use Rattle.spec_events.specs.Following.{followed, swept, settled}
-use Rattle.spec_events.specs.Starting.{beginning, by_command, new_process, joined, word_started, form_started, built_started, begun, start_told, start_judged, launched}
+use Rattle.spec_events.specs.Starting.{by_command, joined, begun, start_told, start_judged, launched}
 use Rattle.spec_events.specs.Lines.{with_editor, next_editor, compiled_so, compiled, after_edit, edited_line, in_editor, left_by, typed, followed_up, in_world, command, program_aborted, given_line, is_abort, line_for, line_done, done}
 use Rattle.spec_events.specs.Slices.{acting, Deed, does, rests, fails, behind, lifted, row_done, called_word, word_entered, form_entered, form_called, program_called, child_of, with_number, child_joined, forked, queued_command, with_process, queued, place_in, effected, process_done, deed, stands_at, out, one_counted, went, after_deed, unit_done, limit_fault, within_limit, turn, world_of, slice_most, run_of, last_world, awake, sliced}
+use Rattle.spec_events.proofs.Happening.{effect-stopping}
+use Rattle.spec_events.proofs.Begun.{joined_keeps, begun_keeps}
 use Rattle.spec_events.proofs.Slicing.{run_holds}
 
 -- a deed leads to a world of which that is so
@@ -90,27 +92,10 @@ abbrev Begun : World → World × Result ℤ MufFault → Type 0
 Begun w r = Same w r.0
 
 same_joined : (p : Process) (w : World) → Begun w (joined p w)
-unfolding added
-same_joined p w = either (is_full p.player w.live.board.tune w.queue)
-  where
-    either : (b : Bool) → Begun w (cond b (w, Err ProcessLimit) (on_queue (added p) w, Ok (w.queue.last +ℤ pos 1)))
-    either true = refl
-    either false = refl
-
-same_word : (m : Manner) (c : Started) (tree : Tree) (word : Option Definition) (w : World) → Begun w (word_started m c tree word w)
-same_word m c tree None w = refl
-same_word m c tree (Some word) w = same_joined (new_process m c (beginning c tree word w)) w
-
-same_form : (m : Manner) (c : Started) (form : Option Tree) (w : World) → Begun w (form_started m c form w)
-same_form m c None w = refl
-same_form m c (Some tree) w = same_word m c tree (last_word tree.words) w
-
-same_built : (m : Manner) (c : Started) (made : Option Tree × Library) (w : World) → Begun w (built_started m c made w)
-same_built m c (form, library) w = same_form m c form (with_library library w)
+same_joined p w = joined_keeps (λ u. Same w u) p w refl refl
 
 same_begun : (m : Manner) (c : Started) (w : World) → Begun w (begun m c w)
-unfolding begun
-same_begun m c w = same_built m c (formed w.live.objects c.program w.library) w
+same_begun m c w = begun_keeps (λ u. Same w u) m c (λ s u k. k) w refl
 
 same_told : (d : ℕ) (w : World) (r : World × Result ℤ MufFault) → Begun w r → Same w (start_told d r)
 same_told d w (v, Ok pid) q = q
@@ -335,7 +320,12 @@ event_stops (Slice pid) w party = same_sliced pid w
 event_stops Halt w party = refl
 event_stops event w party = refl
 
+-- programs that start behind it don't stop the world
+stops_as : (event : Event) (w u v : World) → v.stopping ≡ u.stopping → StopsBy event w u → StopsBy event w v
+stops_as (Exec d) w u v e (inl same) = inl (e ∙ same)
+stops_as (Exec d) w u v e (inr master) = inr master
+stops_as event w u v e h = e ∙ h
+
 pub all_stops : (w : World) (entries : List Happened) → AllStops w entries
-unfolding effect
 all_stops w [] = tt
-all_stops w (entry ∷ entries) = (event_stops entry.event w entry.party, all_stops (effect w entry) entries)
+all_stops w (entry ∷ entries) = (stops_as entry.event w (happened w entry.party entry.event) (effect w entry) (effect-stopping w entry) (event_stops entry.event w entry.party), all_stops (effect w entry) entries)

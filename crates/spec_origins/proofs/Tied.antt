@@ -5,6 +5,7 @@ use Rattle.std.specs.List.{filter, list_any}
 use Rattle.std.specs.Option.{option_map_or}
 use Rattle.std.proofs.lemmas.Bool.Decides.{nat_tests}
 use Rattle.muck_model.specs.declared.dbref.Dbref.{Dbref}
+use Rattle.muck_model.specs.declared.event.Entry.{Entry}
 use Rattle.muck_model.specs.declared.event.Event.{Event}
 use Rattle.muck_model.specs.declared.event.Event.TheVariants.{Opened, Input, Closed, Exec, Slice, Take, Cut, Stored, DumpFailed}
 use Rattle.spec_live.specs.Connections.{Connection, has_number, placed, without, newcomer, lined}
@@ -16,17 +17,21 @@ use Rattle.muck_queue.specs.Queues.{Queue, is_tied_to, ended_tied}
 use Rattle.spec_commands.specs.Talk.{welcome, parted, gone_away}
 use Rattle.spec_commands.proofs.Numbered.{numbers, seating_quiet, seating_one}
 use Rattle.spec_commands.proofs.Lines.{quiet_parted}
+use Rattle.spec_events.specs.declared.starting.Call.{Call as Started}
 use Rattle.spec_events.specs.World.{World, connection, askers_of, on_live}
 use Rattle.spec_events.specs.Dumping.{resaved, dump_stored, dump_failed, told_each}
-use Rattle.spec_events.specs.Steps.{happened}
+use Rattle.spec_events.specs.Starting.{by_hook, new_process, begun}
+use Rattle.spec_events.specs.Steps.{happened, effect}
 use Rattle.spec_events.specs.Slices.{units_of}
 use Rattle.spec_events.specs.Sourced.{Each}
 use Rattle.spec_events.proofs.Quietly.{quietly_live, quiet_told_each}
 use Rattle.spec_events.proofs.Done.{going_quietly, going_live, done_going}
+use Rattle.spec_events.proofs.Happening.{effect-keeps}
 use Rattle.spec_events.proofs.Sourcing.{each_more}
+use Rattle.spec_events.proofs.Begun.{live_begun}
 use Rattle.spec_events.proofs.Taken.{sliced_going}
 use Rattle.spec_origins.specs.Origins.{From, was_there, is_new, Comes, LineOrigins, TurnOrigins, EventOrigins, no_process, StartedIn, LostIn, is_connected, AreTied}
-use Rattle.spec_origins.proofs.Going.{each_among}
+use Rattle.spec_origins.proofs.Going.{each_among, from_itself, holds_begun}
 
 -- Which connections are there.
 
@@ -155,7 +160,7 @@ by_numbers w v e d h = in_by d w.live.board.connections v.live.board.connections
 tied_still : (w v : World) → Stay w v → AreTied w → Comes no_process false (λ x. ⊥) (λ q. ⊥) w.queue v.queue → AreTied v
 tied_still w v keeps h c = tied_comes (is_connected w) (is_connected v) keeps no_process false (λ x. ⊥) (λ q. ⊥) (λ q n. absurd n) w.queue v.queue h c
 
-pub tied_happened : (event : Event) (party : ℕ) (w : World) → EventOrigins event w (happened w party event) → AreTied w → AreTied (happened w party event)
+tied_happened : (event : Event) (party : ℕ) (w : World) → EventOrigins event w (happened w party event) → AreTied w → AreTied (happened w party event)
 unfolding opened line_added bytes_taken
 tied_happened (Exec d) party w c h = tied_turn d (connection d w) w (happened w party (Exec d)) refl (by_numbers w (happened w party (Exec d)) (done_going d w (connection d w) refl).numbers) h c
 tied_happened (Slice pid) party w c h =
@@ -171,3 +176,16 @@ tied_happened (Stored k) party w c h = tied_still w (happened w party (Stored k)
 tied_happened (DumpFailed k) party w c h = tied_still w (happened w party (DumpFailed k)) (by_numbers w (happened w party (DumpFailed k)) (told_numbers (askers_of w.dumps) dump_failed (on_live (resaved due_again) w))) h c
 tied_happened (Cut k) party w c h = tied_still w (happened w party (Cut k)) (λ e t. t) h c
 tied_happened event party w c h = tied_still w (happened w party event) (λ e t. t) h c
+
+-- a hook starts what is tied to nothing
+tied_hooked : (c : Started) (w : World) → AreTied w → AreTied (begun (by_hook w) c w).0
+unfolding new_process
+tied_hooked c w h =
+    let v = (begun (by_hook w) c w).0 in
+    let New : Process → Type 0 = λ p. p.descr ≡ None in
+    tied_comes (is_connected w) (is_connected v) (by_numbers w v (ap (λ (l : Live). numbers l.board.connections) (live_begun (by_hook w) c w))) no_process false (λ x. ⊥) New
+    (λ q n. subst (IsTied (is_connected v)) (sym n) refl) w.queue v.queue h
+    (holds_begun no_process false (λ x. ⊥) New w.queue (by_hook w) c w (λ s n l. refl) (from_itself no_process false (λ x. ⊥) New w.queue))
+
+pub tied_effect : (e : Entry) (w : World) → EventOrigins e.event w (happened w e.party e.event) → AreTied w → AreTied (effect w e)
+tied_effect e w c h = effect-keeps AreTied (λ call u there k. tied_hooked call u k) w e (tied_happened e.event e.party w c h)

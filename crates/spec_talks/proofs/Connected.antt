@@ -9,7 +9,7 @@ use Rattle.muck_model.specs.declared.event.Event.{Event}
 use Rattle.muck_model.specs.declared.event.Event.TheVariants.{Opened, Input, Closed, Exec, Slice, Take, Stored, DumpFailed}
 use Rattle.spec_live.specs.Connections.{Connection, has_number, placed, without, newcomer, lined}
 use Rattle.spec_live.specs.Saving.{done, due_again}
-use Rattle.spec_live.specs.Boards.{player_in, opened, closed, line_added, bytes_taken}
+use Rattle.spec_live.specs.Boards.{Board, player_in, opened, closed, line_added, bytes_taken}
 use Rattle.spec_live.specs.Lives.{Live, followed, reading, on_board}
 use Rattle.spec_commands.specs.Talk.{welcome, parted, gone_away}
 use Rattle.spec_commands.specs.inner.Rising.{IsAbove, IsRising}
@@ -21,6 +21,7 @@ use Rattle.spec_events.specs.Steps.{happened, effect}
 use Rattle.spec_events.specs.Histories.{after, AllLawful}
 use Rattle.spec_events.proofs.Quietly.{quietly_live, quiet_told_each}
 use Rattle.spec_events.proofs.Done.{going_quietly, going_live, done_going}
+use Rattle.spec_events.proofs.Happening.{effect-board}
 use Rattle.spec_events.proofs.Taken.{sliced_going}
 use Rattle.spec_events.proofs.Passwords.{rising_effect}
 use Rattle.spec_talks.specs.Talks.{Talk, begun, talk_of, heard, given_out, ended_in, talked, talks_on, talks, is_open, is_talking}
@@ -198,8 +199,7 @@ match_happened (DumpFailed k) party w ts h m = match_same _ _ ts (told_numbers (
 match_happened event party w ts h m = m
 
 match_effect : (w : World) (e : Entry) (ts : List Talk) → IsRising w.live.board.connections → Matches w.live.board.connections ts → Matches (effect w e).live.board.connections (talked w e.event ts)
-unfolding effect
-match_effect w e ts h m = match_happened e.event e.party w ts h m
+match_effect w e ts h m = subst (λ (b : Board). Matches b.connections (talked w e.event ts)) (sym (effect-board w e)) (match_happened e.event e.party w ts h m)
 
 match_after : (w : World) (h : List Entry) (ts : List Talk) → IsRising w.live.board.connections → AllLawful w h → Matches w.live.board.connections ts → Matches (after w h).live.board.connections (talks_on w ts h)
 match_after w [] ts r l m = m

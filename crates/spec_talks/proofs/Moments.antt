@@ -11,6 +11,7 @@ use Rattle.spec_events.specs.Steps.{is_lawful, happened, effect}
 use Rattle.spec_events.specs.Histories.{after, AllLawful}
 use Rattle.spec_events.proofs.Runs.{after-append}
 use Rattle.spec_events.proofs.Done.{done_going}
+use Rattle.spec_events.proofs.Happening.{effect-moment}
 use Rattle.spec_events.proofs.Taken.{sliced_going}
 use Rattle.spec_talks.specs.inner.Moments.{second_behind, second_on}
 use Rattle.spec_talks.specs.Parties.{party_of}
@@ -24,8 +25,7 @@ second_happened (Slice pid) w party = (sliced_going pid w).moment
 second_happened event w party = refl
 
 second_effect : (w : World) (e : Entry) → (effect w e).moment ≡ second_behind w.moment e.event
-unfolding effect
-second_effect w e = second_happened e.event w e.party
+second_effect w e = effect-moment w e ∙ second_happened e.event w e.party
 
 -- the second of a history is that of its moments
 pub second_after : (w : World) (h : List Entry) → (after w h).moment ≡ second_on w.moment h

@@ -1,0 +1,223 @@
+-- Worked hooks, which the checker computes.
+use Rattle.std.specs.Prelude.{◌≡◌, ℕ, ℤ, pos, List, [], ◌∷◌, ◌++◌, map, codes, refl, Some, None}
+use Rattle.std.specs.List.{filter_map}
+use Rattle.std.specs.Option.{option_map_or}
+use Rattle.std.specs.FinMap.{entries, from_sorted, entries-from_sorted}
+use Rattle.std.proofs.Common.{ap, ◌∙◌}
+use Rattle.muck_model.specs.declared.dbref.Dbref.{Dbref}
+use Rattle.muck_model.specs.declared.dbref.Kind.TheVariants.{Room, Program, Player}
+use Rattle.muck_model.specs.Decimal.{decimal_of}
+use Rattle.muck_model.specs.Numbers.{dbref_of as number_named}
+use Rattle.muck_prop.specs.declared.value.PropValue.{PropValue}
+use Rattle.muck_prop.specs.declared.value.PropValue.TheVariants.{Text}
+use Rattle.muck_prop.specs.Order.{path_cmp}
+use Rattle.muck_prop.specs.Store.{PropMap}
+use Rattle.spec_live.specs.declared.object.Object.{Object}
+use Rattle.spec_live.specs.declared.saving.Saving.TheVariants.{Done}
+use Rattle.spec_live.specs.Objects.{Entry, dbref_of, plain, object_at, number_in, kind_in, object_in, place_in, list_in}
+use Rattle.spec_live.specs.Chain.{walk}
+use Rattle.spec_live.specs.Seen.{listed_in, places_of}
+use Rattle.spec_live.specs.Boards.{first_tune, early_board}
+use Rattle.spec_live.specs.Lives.{Live}
+use Rattle.spec_live.specs.Start.{room_zero, player_one}
+use Rattle.spec_rights.specs.Levels.{level_at, owner_at, flag_at, is_player_at, effective}
+use Rattle.spec_commands.specs.inner.Company.{held, seats}
+use Rattle.muf_model.specs.declared.code.Offer.TheVariants.{All}
+use Rattle.muf_model.specs.Tree.{stop, Tree}
+use Rattle.muck_library.specs.Library.{form_at, formed}
+use Rattle.muck_queue.specs.Queues.{empty_queue, number_most, is_full, added}
+use Rattle.spec_events.specs.declared.starting.Call.{Call}
+use Rattle.spec_events.specs.World.{World, booted, starting}
+use Rattle.spec_events.specs.Starting.{new_process, begun}
+use Rattle.spec_hooks.specs.declared.cause.Cause.{Cause}
+use Rattle.spec_hooks.specs.declared.cause.Cause.TheVariants.{Arrive, Depart, Connect, Disconnect, Listen}
+use Rattle.spec_hooks.specs.declared.cause.Fire.{Fire}
+use Rattle.spec_hooks.specs.Causes.{causes}
+use Rattle.spec_hooks.specs.Firing.{directory, values_in, values_among, fired, fired_by, firing}
+use Rattle.spec_hooks.specs.Hooked.{hook_command, call_of, started_all, hooked}
+
+-- Properties that name programs.
+
+abbrev pub Hooks : Type 0
+Hooks = List (List (List ℕ) × PropValue)
+
+abbrev pub hook : List ℕ → List ℕ → List ℕ → List (List ℕ) × PropValue
+hook dir name value = (dir ∷ name ∷ [], Text value)
+
+abbrev pub zero_hooks : Hooks
+zero_hooks =
+    (codes "_arrive" ∷ codes "deep" ∷ codes "x" ∷ [], Text (codes "#3")) ∷ hook (codes "_arrive") (codes "y") (codes "#3") ∷
+    hook (codes "_depart") (codes "x") (codes "#3") ∷
+    hook (codes "_listen") (codes "a") (codes "#3") ∷ hook (codes "_listen") (codes "b") (codes "#3") ∷ []
+
+-- `#99` isn't there, and `#4` is another's
+abbrev pub den_hooks : Hooks
+den_hooks = hook (codes "_arrive") (codes "a") (codes "#99") ∷ hook (codes "_arrive") (codes "b") (codes "#4") ∷ hook (codes "_arrive") (codes "c") (codes "#3") ∷ []
+
+abbrev pub one_hooks : Hooks
+one_hooks = hook (codes "_connect") (codes "in") (codes "#3") ∷ hook (codes "_disconnect") (codes "out") (codes "#3") ∷ []
+
+abbrev pub props_of : Hooks → PropMap
+props_of hooks = from_sorted hooks
+
+-- Room Zero with One, Two and the Den in it, two programs, and One at this place
+
+abbrev pub one_at : ℕ → Object
+one_at place = record player_one { place = dbref_of place; props = props_of one_hooks }
+
+abbrev pub room_hooked : Object
+room_hooked = record room_zero { props = props_of zero_hooks }
+
+abbrev pub den_hooked : Object
+den_hooked = record (plain Room (codes "Den") (dbref_of 1)) { place = dbref_of 0; props = props_of den_hooks }
+
+abbrev pub program_of : ℕ → Object
+program_of owner = record (plain Program (codes "hook") (dbref_of owner)) { place = dbref_of 1; level = 1 }
+
+abbrev pub player_two : Object
+player_two = record (plain Player (codes "Two") (dbref_of 5)) { place = dbref_of 0; home = dbref_of 0; level = 1 }
+
+abbrev pub stored_as : List ℕ → Object → Entry
+stored_as contents o = record { object = o; contents = contents; exits = []; mark = None; saving = Done }
+
+abbrev pub scene : ℕ → List Entry
+scene place = stored_as (5 ∷ 2 ∷ []) room_hooked ∷ stored_as (4 ∷ 3 ∷ []) (one_at place) ∷ stored_as [] den_hooked ∷ stored_as [] (program_of 1) ∷ stored_as [] (program_of 5) ∷ stored_as [] player_two ∷ []
+
+-- One is at this place, with so many connections
+abbrev pub live_at : ℕ → List ℕ → Live
+live_at place players = held (scene place) (seats 1 players)
+
+-- `#3` is built, and `#4` has no word to begin with
+abbrev pub built : Tree
+built = record { words = record { name = codes "main"; offer = All; variables = 0; body = stop; last = 1 } ∷ []; variables = 0 }
+
+abbrev pub wordless : Tree
+wordless = record { words = []; variables = 0 }
+
+abbrev pub world_at : ℕ → List ℕ → World
+world_at place players = record starting { live = live_at place players; library = None ∷ None ∷ None ∷ Some built ∷ Some wordless ∷ [] }
+
+-- so many processes may be there
+abbrev pub limited : ℕ → World → World
+limited most w = record w { live = record w.live { board = record w.live.board { tune = record w.live.board.tune { process_limit = most } } } }
+
+abbrev pub one : Dbref
+one = dbref_of 1
+
+abbrev pub moved_in : Cause
+moved_in = Arrive one (dbref_of 2)
+
+abbrev pub moved_out : Cause
+moved_out = Depart one (dbref_of 0)
+
+abbrev pub spoke : Cause
+spoke = Listen one (dbref_of 0) (codes "One says, \"hi\"")
+
+-- What is shown of them.
+
+abbrev pub fire : ℕ → ℕ → List ℕ → Fire
+fire program trigger arg = record { program = dbref_of program; trigger = dbref_of trigger; arg = arg }
+
+abbrev pub call_on : ℕ → Call
+call_on program = call_of moved_out (fire program 0 (codes "Depart"))
+
+abbrev pub processes : World → List (ℤ × ℤ × ℤ × ℤ)
+processes w = map (λ p. (p.number, p.player.0, p.program.0, p.trigger.0)) w.queue.processes
+
+unfoldable pub WorkedRows : Type 0
+WorkedRows =
+    -- One goes to the Den, by however many steps
+    (causes (live_at 0 (1 ∷ [])) (live_at 2 (1 ∷ [])) None ≡ moved_out ∷ moved_in ∷ [])
+    × (causes (live_at 2 (1 ∷ [])) (live_at 2 (1 ∷ [])) None ≡ [])
+    -- its first connection comes, another one comes, and one of two goes; then the last
+    × (causes (live_at 0 []) (live_at 0 (1 ∷ [])) None ≡ Connect one ∷ [])
+    × (causes (live_at 0 (1 ∷ [])) (live_at 0 (1 ∷ 1 ∷ [])) None ≡ [])
+    × (causes (live_at 0 (1 ∷ 1 ∷ [])) (live_at 0 (1 ∷ [])) None ≡ [])
+    × (causes (live_at 0 (1 ∷ [])) (live_at 0 []) None ≡ Disconnect one ∷ [])
+    -- all players, where nobody was before: a player that was just made has left no place
+    × (causes (held [] []) (live_at 0 []) None ≡ [])
+    -- what is said comes last
+    × (causes (live_at 0 []) (live_at 0 (5 ∷ 1 ∷ [])) (Some (one, codes "One says, \"hi\"")) ≡ Connect one ∷ Connect (dbref_of 5) ∷ spoke ∷ [])
+    -- in the Den, and then in Room Zero around it, what names a program of the owner directly in the directory
+    × (firing (scene 2) moved_in ≡ fire 3 2 (codes "Arrive") ∷ fire 3 0 (codes "Arrive") ∷ [])
+    × (firing (scene 2) moved_out ≡ fire 3 0 (codes "Depart") ∷ [])
+    × (firing (scene 0) (Connect one) ≡ fire 3 1 (codes "Connect") ∷ [])
+    -- two hear what is said
+    × (firing (scene 0) spoke ≡ fire 3 0 (codes "One says, \"hi\"") ∷ fire 3 0 (codes "One says, \"hi\"") ∷ [])
+    -- what has no word is passed over, and from the first one that a limit refuses all
+    × (processes (started_all (call_on 3 ∷ call_on 4 ∷ call_on 3 ∷ []) (world_at 0 [])) ≡ (pos 1, pos 1, pos 3, pos 0) ∷ (pos 2, pos 1, pos 3, pos 0) ∷ [])
+    × (processes (started_all (call_on 3 ∷ call_on 3 ∷ call_on 3 ∷ []) (limited 2 (world_at 0 []))) ≡ (pos 1, pos 1, pos 3, pos 0) ∷ (pos 2, pos 1, pos 3, pos 0) ∷ [])
+    -- all of it: who is gone to the Den
+    × (processes (hooked (world_at 0 (1 ∷ [])) (world_at 2 (1 ∷ [])) None) ≡ (pos 1, pos 1, pos 3, pos 0) ∷ (pos 2, pos 1, pos 3, pos 2) ∷ (pos 3, pos 1, pos 3, pos 0) ∷ [])
+
+-- Each is read as it is kept.
+
+zero_kept : entries (props_of zero_hooks) ≡ zero_hooks
+zero_kept = entries-from_sorted path_cmp zero_hooks tt
+
+den_kept : entries (props_of den_hooks) ≡ den_hooks
+den_kept = entries-from_sorted path_cmp den_hooks tt
+
+one_kept : entries (props_of one_hooks) ≡ one_hooks
+one_kept = entries-from_sorted path_cmp one_hooks tt
+
+-- what fires by an object with these hooks
+abbrev by_hooks : List Entry → Cause → ℕ → Hooks → List Fire
+by_hooks es cause n hooks = filter_map (fired es cause (dbref_of n)) (values_among (directory cause) hooks)
+
+fires_by : (es : List Entry) (cause : Cause) (n : ℕ) (o : Object) (hooks : Hooks) → object_at (dbref_of n) es ≡ Some o → entries o.props ≡ hooks → fired_by es cause (dbref_of n) ≡ by_hooks es cause n hooks
+unfolding fired_by
+fires_by es cause n o hooks there kept =
+    ap (λ x. option_map_or (λ y. filter_map (fired es cause (dbref_of n)) (values_in (directory cause) y.props)) x []) there ∙ ap (λ ps. by_hooks es cause n ps) kept
+
+zero_fires : (place : ℕ) (cause : Cause) → fired_by (scene place) cause (dbref_of 0) ≡ by_hooks (scene place) cause 0 zero_hooks
+unfolding object_at number_in kind_in object_in room_zero
+zero_fires place cause = fires_by (scene place) cause 0 room_hooked zero_hooks refl zero_kept
+
+den_fires : (place : ℕ) (cause : Cause) → fired_by (scene place) cause (dbref_of 2) ≡ by_hooks (scene place) cause 2 den_hooks
+unfolding object_at number_in kind_in object_in
+den_fires place cause = fires_by (scene place) cause 2 den_hooked den_hooks refl den_kept
+
+one_fires : (place : ℕ) (cause : Cause) → fired_by (scene place) cause (dbref_of 1) ≡ by_hooks (scene place) cause 1 one_hooks
+unfolding object_at number_in kind_in object_in player_one
+one_fires place cause = fires_by (scene place) cause 1 (one_at place) one_hooks refl one_kept
+
+in_fires : firing (scene 2) moved_in ≡ fire 3 2 (codes "Arrive") ∷ fire 3 0 (codes "Arrive") ∷ []
+unfolding firing listed_in places_of walk object_at number_in kind_in object_in place_in list_in room_zero player_one level_at owner_at flag_at is_player_at effective number_named decimal_of
+in_fires = ap (λ fs. fs ++ (fired_by (scene 2) moved_in (dbref_of 0) ++ [])) (den_fires 2 moved_in) ∙ ap (λ fs. by_hooks (scene 2) moved_in 2 den_hooks ++ (fs ++ [])) (zero_fires 2 moved_in)
+
+out_fires : firing (scene 2) moved_out ≡ fire 3 0 (codes "Depart") ∷ []
+unfolding firing listed_in places_of walk object_at number_in kind_in object_in place_in list_in room_zero player_one level_at owner_at flag_at is_player_at effective number_named decimal_of
+out_fires = ap (λ fs. fs ++ []) (zero_fires 2 moved_out)
+
+connect_fires : firing (scene 0) (Connect one) ≡ fire 3 1 (codes "Connect") ∷ []
+unfolding firing listed_in places_of walk object_at number_in kind_in object_in place_in list_in room_zero player_one level_at owner_at flag_at is_player_at effective number_named decimal_of
+connect_fires = ap (λ fs. fs ++ (fired_by (scene 0) (Connect one) (dbref_of 0) ++ [])) (one_fires 0 (Connect one)) ∙ ap (λ fs. by_hooks (scene 0) (Connect one) 1 one_hooks ++ (fs ++ [])) (zero_fires 0 (Connect one))
+
+heard_fires : firing (scene 0) spoke ≡ fire 3 0 (codes "One says, \"hi\"") ∷ fire 3 0 (codes "One says, \"hi\"") ∷ []
+unfolding firing listed_in places_of walk object_at number_in kind_in object_in place_in list_in room_zero player_one level_at owner_at flag_at is_player_at effective number_named decimal_of
+heard_fires = ap (λ fs. fs ++ (fired_by (scene 0) spoke (dbref_of 2) ++ [])) (zero_fires 0 spoke) ∙ ap (λ fs. by_hooks (scene 0) spoke 0 zero_hooks ++ (fs ++ [])) (den_fires 0 spoke)
+
+-- the calls of these, behind the world
+abbrev all_called : List Fire → List Fire → World
+all_called out came = started_all (map (call_of moved_out) out ++ (map (call_of moved_in) came ++ [])) (world_at 2 (1 ∷ []))
+
+pub worked_rows : WorkedRows
+unfolding WorkedRows causes hooked started_all begun booted starting first_tune early_board object_at number_in kind_in object_in place_in room_zero player_one is_player_at empty_queue number_most is_full added new_process form_at formed hook_command
+worked_rows = (
+  refl,
+  refl,
+  refl,
+  refl,
+  refl,
+  refl,
+  refl,
+  refl,
+  in_fires,
+  out_fires,
+  connect_fires,
+  heard_fires,
+  refl,
+  refl,
+  ap (λ fs. processes (all_called fs (firing (scene 2) moved_in))) out_fires ∙ ap (λ fs. processes (all_called (fire 3 0 (codes "Depart") ∷ []) fs)) in_fires,
+)
