@@ -1,0 +1,4 @@
+pub mod Inside
+pub mod Keeping
+pub mod Maps
+pub mod Rows
