@@ -1,5 +1,6 @@
 pub mod Words
 pub mod Local
+pub mod Requests
 pub mod Formulas
 pub mod Naming
 pub mod Properties

@@ -14,6 +14,7 @@ ghost use Rattle.muf_model.specs.Rows.{primitive};
 ghost use Rattle.muf_model.specs.Source.{Source};
 ghost use Rattle.muf_model.specs.Unit.{unit};
 ghost use Rattle.muck_queue.specs.Queues.{Queue};
+ghost use Rattle.spec_mpi.specs.Stages.{Stage};
 ghost use Rattle.spec_mpi.specs.Messages.{heard};
 ghost use Rattle.spec_prims.specs.Formulas.{answers_for, is_formula};
 ghost use Rattle.spec_prims.specs.Shared.{shared};
@@ -22,9 +23,9 @@ ghost use Rattle.spec_processes.specs.ProcessRows.{processed};
 ghost use Rattle.spec_events.specs.World.{World};
 ghost use Rattle.spec_events.specs.Lines.{done};
 ghost use Rattle.spec_denials.specs.Plain.{NotDenied, EndsPlain};
-ghost use Rattle.spec_denials.specs.Notes.{AnswerNames};
 ghost use Rattle.spec_denials.specs.Acts.{acts_of};
-ghost use Rattle.spec_denials.specs.Asked.{first_denied, RowNames, RowLists, Breaks};
+ghost use Rattle.spec_denials.specs.Asked.{first_denied, RowNames, RowLists};
+ghost use Rattle.spec_denials.specs.Notes.{Request, answer_of, denies, AnswerNames, formula, FormulaNames, Breaks};
 ghost use Rattle.spec_denials.specs.Processes.{process_acts, EffectNames};
 ghost use Rattle.spec_denials.specs.Starts.{LineStarts};
 ghost use Rattle.spec_denials.specs.Denials.{AllDenialsNamed};
@@ -34,7 +35,7 @@ ghost use Rattle.spec_denials.specs.Denials.{AllDenialsNamed};
 #[tactic(auto, using(crate::proofs::Shared::shared_names, crate::proofs::Shared::next_lists))]
 pub fn primitives_ask()
     ensures asked { (p : Primitive) (a : Actor) (descr : Option ℕ) (locked : ℕ) (stack : List Datum) (w : Live) →
-        RowNames (Breaks (is_formula p) (answers_for p a w.objects)) (first_denied w.objects a (acts_of p stack w.objects)) (shared p a descr locked stack w) }
+        RowNames (Breaks (is_formula p) (answers_for p a w.objects) stack w) (first_denied w.objects a (acts_of p stack w.objects)) (shared p a descr locked stack w) }
     ensures listed { (a : Actor) (descr : Option ℕ) (locked : ℕ) (stack : List Datum) (w : Live) → RowLists a w.objects stack (shared NextProp a descr locked stack w) }
 {}
 
@@ -45,10 +46,13 @@ pub fn processes_ask()
         EffectNames (first_denied w.objects a (process_acts p stack q)) (processed p x a locked stack w q) }
 {}
 
-/// Says of a message that is denied something that who acts is denied a reading or a writing of a property, in the world that it leaves. It does nothing.
-#[tactic(auto, using(crate::proofs::Formulas::heard_denied))]
+/// Says what formulas ask leave for: where a question or a deed is denied, the first of its acts that is denied is so by that rule, and
+/// where it is answered, each of them is allowed. A message that is denied something is denied one of these, in the world that it
+/// leaves. It does nothing.
+#[tactic(auto, using(crate::proofs::Requests::request_names, crate::proofs::Formulas::heard_names))]
 pub fn messages_name()
-    ensures named { (a : Actor) (this : Dbref) (text : List ℕ) (vars : Variables) (w : Live) → AnswerNames a (heard a this text vars w).1.objects (heard a this text vars w).0 }
+    ensures asked { (request : Request) (s : Stage) → AnswerNames (denies s.actor s.live.objects request) (answer_of request s) }
+    ensures named { (a : Actor) (this : Dbref) (text : List ℕ) (vars : Variables) (w : Live) → FormulaNames a (formula a this text vars w) (heard a this text vars w).0 }
 {}
 
 /// Says that no word which needs no world is denied, and that no unit without a shared primitive ends by a denial. It does nothing.
