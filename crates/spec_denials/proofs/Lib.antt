@@ -9,4 +9,6 @@ pub mod Shared
 pub mod Processes
 pub mod Units
 pub mod Starts
+pub mod Locked
+pub mod Walks
 pub mod Histories

@@ -4,4 +4,6 @@ pub mod Asked
 pub mod Notes
 pub mod Processes
 pub mod Starts
+pub mod Walks
 pub mod Denials
+pub mod inner

@@ -20,7 +20,7 @@ ghost use Rattle.spec_prims.specs.Formulas.{answers_for, is_formula};
 ghost use Rattle.spec_prims.specs.Shared.{shared};
 ghost use Rattle.spec_processes.specs.declared.place.Place.{Place};
 ghost use Rattle.spec_processes.specs.ProcessRows.{processed};
-ghost use Rattle.spec_events.specs.World.{World};
+ghost use Rattle.spec_events.specs.World.{World, connection};
 ghost use Rattle.spec_events.specs.Lines.{done};
 ghost use Rattle.spec_denials.specs.Plain.{NotDenied, EndsPlain};
 ghost use Rattle.spec_denials.specs.Acts.{acts_of};
@@ -28,6 +28,12 @@ ghost use Rattle.spec_denials.specs.Asked.{first_denied, RowNames, RowLists};
 ghost use Rattle.spec_denials.specs.Notes.{Request, answer_of, denies, AnswerNames, formula, FormulaNames, Breaks};
 ghost use Rattle.spec_denials.specs.Processes.{process_acts, EffectNames};
 ghost use Rattle.spec_denials.specs.Starts.{LineStarts};
+ghost use Rattle.spec_denials.specs.Walks.{LineLocked};
+ghost use Rattle.spec_denials.specs.inner.RightRows.{RightRows};
+ghost use Rattle.spec_denials.specs.inner.CommandRows.{CommandRows};
+ghost use Rattle.spec_denials.specs.inner.PrimRows.{PrimRows};
+ghost use Rattle.spec_denials.specs.inner.SendRows.{SendRows};
+ghost use Rattle.spec_denials.specs.inner.EventRows.{EventRows};
 ghost use Rattle.spec_denials.specs.Denials.{AllDenialsNamed};
 
 /// Says what each primitive of objects, of properties and of talk asks leave for. Where it is denied, the first of these acts that is
@@ -62,10 +68,22 @@ pub fn words_deny_nothing()
     ensures units { (s : Source) → EndsPlain (unit s) }
 {}
 
-/// Says of a program that a line starts that its player may start it. It does nothing.
-#[tactic(auto, using(crate::proofs::Starts::line_starts))]
+/// Says of a program that a line starts that its player may start it; and of a line that walks through an exit, or takes something, that
+/// nothing goes anywhere and nothing is started where its lock denies that. It does nothing.
+#[tactic(auto, using(crate::proofs::Starts::line_starts, crate::proofs::Walks::line_locks))]
 pub fn lines_ask()
     ensures starts { (d : ℕ) (o : Option Connection) (w : World) → LineStarts w (done d o w) }
+    ensures locks { (d : ℕ) (w : World) → LineLocked d w (done d (connection d w) w) }
+{}
+
+/// The worked rows of what other crates define hold. It does nothing: its clauses are the rows.
+#[tactic(auto, using(crate::specs::inner::RightRows::right_rows, crate::specs::inner::CommandRows::command_rows, crate::specs::inner::PrimRows::prim_rows, crate::specs::inner::SendRows::send_rows, crate::specs::inner::EventRows::event_rows))]
+pub fn rows_hold()
+    ensures rights { RightRows }
+    ensures commands { CommandRows }
+    ensures prims { PrimRows }
+    ensures sending { SendRows }
+    ensures events { EventRows }
 {}
 
 /// Says it of each unit that slices take in a history, and of what its lines start. It does nothing.
