@@ -1,6 +1,7 @@
 -- Where a lock doesn't let a player through an exit, or take something, notes alone are touched.
 use Rattle.std.proofs.Common.{◌≡◌, ℕ, Bool, true, false, cond, List, [], ◌∷◌, map, Option, Some, None, refl, sym, ap, subst, ◌∙◌}
-use Rattle.std.specs.Prelude.{not, ◌||◌, ◌==◌, option_map}
+use Rattle.std.specs.Prelude.{not, ◌||◌, ◌==◌, option_map, codes}
+use Rattle.std.specs.Char.{to_ascii_lowercase}
 use Rattle.std.specs.Option.{option_or, option_and_then}
 use Rattle.muck_model.specs.declared.dbref.Dbref.{Dbref}
 use Rattle.muck_model.specs.declared.dbref.Denial.{Denial}
@@ -11,14 +12,15 @@ use Rattle.muck_match.specs.Exits.{exit_for}
 use Rattle.muck_match.specs.Naming.{found}
 use Rattle.spec_live.specs.Boards.{told_one}
 use Rattle.spec_live.specs.Connections.{Connection, has_number, changed_in, told}
-use Rattle.spec_live.specs.Lives.{Live, Change, unchanged, tell, reading, either, where_so, followed}
+use Rattle.spec_live.specs.Lives.{Live, Change, unchanged, tell, reading, either, where_so, followed, ◌▸◌}
+use Rattle.spec_live.specs.Objects.{nothing}
 use Rattle.spec_live.specs.Seen.{scenery_of}
 use Rattle.spec_live.proofs.Keeping.{Keeps, keeps_followed, keeps_unchanged}
 use Rattle.spec_live.proofs.Marking.{marked_itself}
 use Rattle.spec_rights.specs.declared.act.Actor.{Actor}
 use Rattle.spec_rights.specs.declared.act.Act.{Act}
 use Rattle.spec_rights.specs.declared.act.Act.TheVariants.{Walk, Take}
-use Rattle.spec_rights.specs.Asking.{answered, asked, refused}
+use Rattle.spec_rights.specs.Asking.{answered, asked, denied_text, refused}
 use Rattle.spec_rights.specs.Verdict.{verdict}
 use Rattle.spec_mpi.specs.Touching.{without_output, TouchesNotes}
 use Rattle.spec_mpi.proofs.Deeds.{touching_order}
@@ -30,9 +32,10 @@ use Rattle.spec_commands.specs.declared.word.PlayWord.{PlayWord}
 use Rattle.spec_commands.specs.declared.word.PlayWord.TheVariants.{Say, Pose, Go, Get}
 use Rattle.spec_commands.specs.Commands.{play_words, play_shape, play_done, line_typed, begins_with_sign, signed, play_line, build_line, or_next, or_else, commanded, through, played}
 use Rattle.spec_commands.specs.Finding.{finding, chosen, is_so, shown_others, message_or, message_to_others}
-use Rattle.spec_commands.specs.Going.{ended, failed, exit_typed, tried, walked, walked_some, went, is_item, not_taken, taken}
-use Rattle.spec_commands.specs.Reading.{looked_up, sought, with_fit, with_parts, with_arguments, by_command, by_table, incomplete, is_empty}
-use Rattle.spec_commands.specs.Replies.{cant_be_done, cant_go, cant_take}
+use Rattle.spec_commands.specs.Going.{ended, succeeded, failed, moving, link_at, led, exit_typed, tried, walked, walked_some, went, is_item, not_taken, taken}
+use Rattle.spec_commands.specs.Reading.{looked_up, sought, with_fit, with_parts, with_arguments, by_command, by_table, incomplete, argued}
+use Rattle.spec_commands.specs.Programming.{over}
+use Rattle.spec_commands.specs.Replies.{cant_be_done, cant_go, cant_take, taken_reply, usage}
 use Rattle.spec_commands.specs.Texts.{first_word, other_words, trimmed}
 use Rattle.spec_commands.proofs.Noted.{Notes, notes_with_message, notes_shown_others}
 use Rattle.spec_denials.specs.Walks.{walk_by, take_of, word_act, lock_act, lock_verdict}
@@ -41,11 +44,11 @@ use Rattle.spec_denials.specs.Walks.{walk_by, take_of, word_act, lock_act, lock_
 
 mute_told : (d : ℕ) (text : List ℕ) (cs : List Connection) → map without_output (changed_in d (told text) cs) ≡ map without_output cs
 mute_told d text [] = refl
-mute_told d text (c ∷ cs) = at (has_number d c)
+mute_told d text (c ∷ cs) = at (has_number d c) (mute_told d text cs)
   where
-    at : (b : Bool) → map without_output (cond b (told text c ∷ cs) (c ∷ changed_in d (told text) cs)) ≡ map without_output (c ∷ cs)
-    at true = refl
-    at false = ap (λ ds. without_output c ∷ ds) (mute_told d text cs)
+    at : (b : Bool) → map without_output (changed_in d (told text) cs) ≡ map without_output cs → map without_output (cond b (told text c ∷ cs) (c ∷ changed_in d (told text) cs)) ≡ map without_output (c ∷ cs)
+    at true h = refl
+    at false h = ap (λ ds. without_output c ∷ ds) h
 
 notes_tell : (d : ℕ) (text : List ℕ) → Notes (tell d text)
 unfolding tell told_one
@@ -78,8 +81,14 @@ shows_ended f w p = p.law w
 
 tried_shows : (d : ℕ) (a : Actor) (typed : Typed) (exit : Dbref) (line : List ℕ) (w : Live) (denial : Denial) → verdict w.objects a (Walk exit) ≡ Some denial → Shows w (tried d a typed exit line w)
 unfolding tried asked
-tried_shows d a typed exit line w denial e =
-    subst (λ o. Shows w (answered o (λ denial. ended Done (failed d a typed cant_go exit)) _ w)) (sym e) (shows_ended (failed d a typed cant_go exit) w (notes_failed d a typed cant_go exit))
+tried_shows d a typed exit line w denial e = at (verdict w.objects a (Walk exit)) e
+  where
+    go : Live → Live × Outcome
+    go = followed (succeeded d a typed exit) (reading (link_at exit) (led d a typed exit line))
+
+    at : (o : Option Denial) → o ≡ Some denial → Shows w (answered o (λ denial. ended Done (failed d a typed cant_go exit)) go w)
+    at None e = absurd cc
+    at (Some x) e = shows_ended (failed d a typed cant_go exit) w (notes_failed d a typed cant_go exit)
 
 walked_shows : (d : ℕ) (a : Actor) (hit : ExitHit) (line : List ℕ) (w : Live) (denial : Denial) → verdict w.objects a (Walk hit.exit) ≡ Some denial → Shows w (walked d a hit line w)
 unfolding walked reading
@@ -99,31 +108,42 @@ taken_notes : (d : ℕ) (a : Actor) (typed : Typed) (x : Dbref) (w : Live) (deni
 unfolding taken where_so reading either asked refused
 taken_notes d a typed x w denial e = at (is_item x w)
   where
-    told_so : (b : Bool) → TouchesNotes w ((either b (failed d a typed cant_take x) (refused d denial)) w)
-    told_so true = (notes_failed d a typed cant_take x).law w
-    told_so false = (notes_tell d _).law w
+    go : Change
+    go = succeeded d a typed x ▸ moving d x a.player (tell d taken_reply)
 
-    at : (b : Bool) → TouchesNotes w (cond b (answered (verdict w.objects a (Take x)) (not_taken d a typed x) _ w) (tell d cant_be_done w))
-    at true = subst (λ o. TouchesNotes w (answered o (not_taken d a typed x) _ w)) (sym e) (told_so (denial.rule == 10))
+    told_so : (o : Denial) (b : Bool) → TouchesNotes w (cond b (failed d a typed cant_take x w) (refused d o w))
+    told_so o true = (notes_failed d a typed cant_take x).law w
+    told_so o false = (notes_tell d (denied_text o)).law w
+
+    by : (o : Option Denial) → o ≡ Some denial → TouchesNotes w (answered o (not_taken d a typed x) go w)
+    by None e = absurd cc
+    by (Some o) e = told_so o (o.rule == 10)
+
+    at : (b : Bool) → TouchesNotes w (cond b (answered (verdict w.objects a (Take x)) (not_taken d a typed x) go w) (tell d cant_be_done w))
+    at true = by (verdict w.objects a (Take x)) e
     at false = (notes_tell d cant_be_done).law w
 
 -- Words.
 
 module _ (d : ℕ) (a : Actor) (typed : Typed) (name : List ℕ) (w : Live) (denial : Denial) where
-  Denies : Option Act → Type 0
+  abbrev Denies : Option Act → Type 0
   Denies act = option_and_then (verdict w.objects a) act ≡ Some denial
 
+  notes_usage : Notes (incomplete d name)
+  unfolding incomplete
+  notes_usage = notes_tell d (usage (map to_ascii_lowercase name))
+
   go_shows : (text : List ℕ) → Denies (walk_by a text w.objects) → Shows w (with_arguments d a name (play_shape Go) text (play_done d a typed Go) w)
-  unfolding with_arguments with_parts with_fit where_so reading either play_done incomplete
-  go_shows [] e = shows_ended _ w (notes_tell d _)
+  unfolding with_arguments with_parts with_fit where_so reading either play_done
+  go_shows [] e = shows_ended (incomplete d name) w (notes_usage)
   go_shows (b ∷ text) e = went_shows d a (b ∷ text) w denial e
 
   get_shows : (text : List ℕ) → Denies (take_of (found (scenery_of w.objects) a.player text)) → Shows w (with_arguments d a name (play_shape Get) text (play_done d a typed Get) w)
-  unfolding with_arguments with_parts with_fit sought finding where_so reading either play_done incomplete ended
-  get_shows [] e = shows_ended _ w (notes_tell d _)
+  unfolding with_arguments with_parts with_fit sought finding where_so reading either play_done ended
+  get_shows [] e = shows_ended (incomplete d name) w (notes_usage)
   get_shows (b ∷ text) e = at (found (scenery_of w.objects) a.player (b ∷ text)) e
     where
-      at : (o : Found) → Denies (take_of o) → Shows w (chosen _ (b ∷ text) (λ x. ended Done (taken d a typed x)) o w)
+      at : (o : Found) → Denies (take_of o) → Shows w (chosen (over d) (b ∷ text) (λ x. with_fit d (play_shape Get) (argued (b ∷ text) x [] nothing) (play_done d a typed Get)) o w)
       at (One x) e = taken_notes d a typed x w denial e
       at _ e = absurd cc
 
@@ -138,7 +158,7 @@ unfolding play_line by_table play_words
 play_shows d a [] w denial s e = absurd cc
 play_shows d a (b ∷ line) w denial s e = at (b == 34) (b == 58) s
   where
-    at : (q r : Bool) → (q || r) ≡ false → Shows w ((cond q (signed d a Say _ (trimmed line)) (cond r (signed d a Pose _ (trimmed line))
+    at : (q r : Bool) → (q || r) ≡ false → Shows w ((cond q (signed d a Say (codes "say") (trimmed line)) (cond r (signed d a Pose (codes "pose") (trimmed line))
         (by_command play_shape (play_done d a (line_typed (b ∷ line))) d a (first_word (trimmed (b ∷ line))) (trimmed (other_words (trimmed (b ∷ line)))) (looked_up play_words (first_word (trimmed (b ∷ line))))))) w)
     at true r s = absurd cc
     at false true s = absurd cc
