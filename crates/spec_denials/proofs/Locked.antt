@@ -167,13 +167,16 @@ play_shows d a (b ∷ line) w denial s e = at (b == 34) (b == 58) s
 -- A whole line.
 pub played_shows : (d : ℕ) (a : Actor) (line : List ℕ) (w : Live) (denial : Denial) → lock_verdict a line w.objects ≡ Some denial → Shows w (played d a line w)
 unfolding played reading commanded
-played_shows d a line w denial e = at (begins_with_sign line) refl (exit_for (scenery_of w.objects) a.player line) e
+played_shows d a line w denial e = at (begins_with_sign line) refl e
   where
     word : Option Act
     word = word_act (looked_up play_words (first_word (trimmed line))) a (trimmed (other_words (trimmed line))) w.objects
 
-    at : (s : Bool) → begins_with_sign line ≡ s → (o : Option ExitHit) → option_and_then (verdict w.objects a) (cond s None (option_or (option_map (λ hit. Walk hit.exit) o) word)) ≡ Some denial →
-        Shows w ((cond s (commanded d a line) (λ v. through d a line o v)) w)
-    at true s o e = absurd cc
-    at false s (Some hit) e = walked_shows d a hit line w denial e
-    at false s None e = shows_or (play_line d a line) (build_line d a line) w (play_shows d a line w denial s e)
+    unspoken : begins_with_sign line ≡ false → (o : Option ExitHit) → option_and_then (verdict w.objects a) (option_or (option_map (λ hit. Walk hit.exit) o) word) ≡ Some denial → Shows w (through d a line o w)
+    unspoken s (Some hit) e = walked_shows d a hit line w denial e
+    unspoken s None e = shows_or (play_line d a line) (build_line d a line) w (play_shows d a line w denial s e)
+
+    at : (s : Bool) → begins_with_sign line ≡ s → option_and_then (verdict w.objects a) (cond s None (option_or (walk_by a line w.objects) word)) ≡ Some denial →
+        Shows w ((cond s (commanded d a line) (reading (λ v. exit_for (scenery_of v.objects) a.player line) (through d a line))) w)
+    at true s e = absurd cc
+    at false s e = unspoken s (exit_for (scenery_of w.objects) a.player line) e

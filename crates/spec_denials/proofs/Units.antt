@@ -65,10 +65,10 @@ Fine (does s w) = Unit {0}
 Fine (rests s w) = Unit {0}
 Fine (fails f w) = FaultNames None f
 
-deed_fine : (b : Bool) (by : Actor) (rule : Option ℕ) (d : Deed World) → rule ≡ None → Fine d → DeedNames b by rule d
-deed_fine b by rule (does s w) h k = h
-deed_fine b by rule (rests s w) h k = h
-deed_fine b by rule (fails f w) h k = deed_fails b by rule f w (fault_plain f rule k)
+deed_fine : (b : Bool) (by : Actor) (rule : Option ℕ) (stack : List Datum) (live : Live) (d : Deed World) → rule ≡ None → Fine d → DeedNames b by rule stack live d
+deed_fine b by rule stack live (does s w) h k = h
+deed_fine b by rule stack live (rests s w) h k = h
+deed_fine b by rule stack live (fails f w) h k = deed_fails by rule stack live b f w (fault_plain f rule k)
 
 -- a process is started, or there is none, and not for want of leave
 abbrev IsBegun : World × Result ℤ MufFault → Type 0

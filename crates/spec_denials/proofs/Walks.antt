@@ -63,6 +63,10 @@ world_stays d player line w = at (lock_verdict a line w.live.objects) refl
 
 -- A line that waits.
 
+stays_from : (o : Option Denial) (u w v : World) → u.live.objects ≡ w.live.objects → u.queue.last ≡ w.queue.last → Stays o u v → Stays o w v
+stays_from None u w v e f h = tt
+stays_from (Some denial) u w v e f h = (h.0 ∙ ap places e, h.1 ∙ f)
+
 abbrev At : Option ℤ → Option Dbref → Option EditState → List (List ℕ) → World → World → Type 0
 At None player editor lines w v = LineStays player editor lines w v
 At (Some pid) player editor lines w v = Unit {0}
@@ -72,7 +76,9 @@ line_locked : (d : ℕ) (player : Option Dbref) (editor : Option EditState) (lin
 unfolding waits
 line_locked d None editor line lines w = tt
 line_locked d (Some player) (Some s) line lines w = tt
-line_locked d (Some player) None line lines w = world_stays d player line (on_live (waits d lines) w)
+line_locked d (Some player) None line lines w =
+    let u : World = on_live (waits d lines) w in
+    stays_from (lock_verdict (actor_of w.live.objects player) line w.live.objects) u w (in_world d player line u) refl refl (world_stays d player line u)
 
 for_locked : (d : ℕ) (pid : Option ℤ) (player : Option Dbref) (editor : Option EditState) (line : List ℕ) (lines : List (List ℕ)) (w : World) →
     At pid player editor (line ∷ lines) w (line_for pid player editor d line (on_live (waits d lines) w))
