@@ -1,22 +1,14 @@
--- A formula that is denied something is so in the world that it leaves. What holds of each fault of a question and of a deed, in the world in which it comes, holds of the
--- fault of a formula, in the world after it; whatever else may go wrong is no denial.
-use Rattle.std.proofs.Common.{◌≡◌, ℕ, zero, suc, ◌-◌, Bool, true, false, cond, List, [], ◌∷◌, ◌++◌, take, Option, Some, None, refl, subst}
-use Rattle.std.specs.Prelude.{not, Result, Ok, Err, ℤ, int_lt, pos, codes, nat_le, length, ◌==◌}
+-- A formula that is denied something is so by the last thing that it asked for, in the world that it leaves. Two evaluations whose denials are numbered otherwise go alike up to the first
+-- denial, which ends them.
+use Rattle.std.proofs.Common.{◌≡◌, ℕ, zero, suc, ◌-◌, Bool, true, false, cond, List, [], ◌∷◌, ◌++◌, take, Option, Some, None, refl, ap, ap₂, subst, ◌∙◌}
+use Rattle.std.specs.Prelude.{not, Result, Ok, Err, ℤ, int_lt, pos, codes, nat_le, length, ◌==◌, slice_get}
 use Rattle.std.specs.Fmt.{signed_decimal}
 use Rattle.std.specs.FinMap.{get}
-use Rattle.std.specs.Option.{option_map, option_map_or}
+use Rattle.std.specs.Option.{option_map, option_map_or, option_and_then}
+use Rattle.std.specs.Result.{result_map_both}
 use Rattle.muck_model.specs.declared.dbref.Dbref.{Dbref}
-use Rattle.muck_model.specs.declared.dbref.Denial.{Denial}
-use Rattle.muck_prop.specs.declared.value.PropValue.TheVariants.{Text as TextValue}
-use Rattle.spec_live.specs.declared.object.Object.{Object}
-use Rattle.spec_live.specs.Objects.{Entry, object_at}
-use Rattle.spec_live.specs.Seen.{places_of, listed_in}
-use Rattle.spec_live.specs.Lives.{Live, Change, tell_player, tell_others}
+use Rattle.spec_live.specs.Lives.{Live}
 use Rattle.spec_rights.specs.declared.act.Actor.{Actor}
-use Rattle.spec_rights.specs.declared.act.Act.{Act}
-use Rattle.spec_rights.specs.declared.act.Act.TheVariants.{Read, Write}
-use Rattle.spec_rights.specs.Verdict.{verdict}
-use Rattle.spec_rights.specs.Changing.{stored, unstored}
 use Rattle.mpi.specs.declared.fault.MpiFault.{MpiFault}
 use Rattle.mpi.specs.declared.fault.MpiFault.TheVariants.{Unclosed, UnknownFunction, BadCount, BadValue, TooManyCommands, TooLong, Denied}
 use Rattle.mpi.specs.declared.functions.Function.{Function}
@@ -38,365 +30,371 @@ use Rattle.mpi.specs.declared.host.Deed.TheVariants as deed
 use Rattle.mpi.specs.Brackets.{Piece, byte, call, pieces, balances, begun}
 use Rattle.mpi.specs.Functions.{row_of, named, takes}
 use Rattle.mpi.specs.Gathering.{as_text, kept_of}
-use Rattle.mpi.specs.Made.{is_long, text_or_long}
-use Rattle.mpi.specs.Thoughts.{State, Thought, gives, fails, carried, followed, answers, found_or_bad, found, on_mind, one_less, sized, counted, keeps, variable, scoped}
+use Rattle.mpi.specs.Hosting.{Powers}
+use Rattle.mpi.specs.Made.{is_long}
+use Rattle.mpi.specs.Thoughts.{State, Thought, gives, fails, carried, followed, answers, found_or_bad, found, on_mind, one_less, sized, counted, keeps, variable, scoped, given_back_in}
 use Rattle.mpi.specs.Values.{nth, alike, is_true, truth, number_of, text_of, items}
 use Rattle.mpi.specs.Variables.{Variables}
-use Rattle.mpi.specs.Meaning.{Scene, scene_of, is_within, next_number, texts_of, with_count, prepared, behind_name, variable_in, branch_at, before_body, from_old, variable_row, done, ask_of, deed_of, doing, drawn, diced, acted_by, each_value, chosen, until, turns_while, while_true, text_with, turns_for, each_item, bodies, in_scope, lazily, performed, called_ahead, called_as, called, spelled, entered, meaning, nesting_most, evaluated}
+use Rattle.mpi.specs.Meaning.{Scene, scene_of, is_within, next_number, reference, same as same_texts, given_by, texts_of, with_count, prepared, behind_name, variable_in, branch_at, before_body, from_old, variable_row, done, object_or, object_at, ask_of, deed_of, both, doing, drawn, diced, acted_by, each_value, chosen, until, turns_while, while_true, text_with, turns_for, each_item, bodies, in_scope, lazily, performed, called_ahead, called_as, called, spelled, entered, meaning, nesting_most, evaluated}
 use Rattle.spec_mpi.specs.Stages.{Stage}
-use Rattle.spec_mpi.specs.Telling.{Answer, path_in, at_path, by_leave, fault, value_of, text_at, first_of, first_text, below_at, of_object, told_by, tells_in, signs_in}
-use Rattle.spec_mpi.specs.Doing.{Done, refused, changed, written, does_in, powers}
+use Rattle.spec_mpi.specs.Telling.{Answer, tells_in}
+use Rattle.spec_mpi.specs.Doing.{Done, does_in, powers}
 use Rattle.spec_mpi.specs.Messages.{heard}
 use Rattle.spec_mpi.proofs.Leave.{same_actor}
-use Rattle.spec_denials.specs.Notes.{IsNote, DeniesNote, AnswerNames}
+use Rattle.spec_denials.specs.Notes.{Request, question, action, denies, AnswerNames, Numbering, renumbered, powers_by, Formula, formula, FormulaNames}
+use Rattle.spec_denials.proofs.Requests.{DoneNames, does_names, tells_names}
 
-module _ {S : Type 0} (P : ℕ → S → Type 0) where
-  -- a fault in a world
-  abbrev pub FaultIs : MpiFault → S → Type 0
-  FaultIs (Denied n) w = P n w
-  FaultIs f w = Unit {0}
+-- the world as it is, and as denials are numbered otherwise
+abbrev powers_at : Option Numbering → Powers Stage
+powers_at None = powers
+powers_at (Some number) = powers_by number
 
-  abbrev pub Ends : {A : Type 0} → Result A MpiFault → S → Type 0
-  Ends (Ok x) w = Unit {0}
-  Ends (Err f) w = FaultIs f w
+-- a thought in each of these
+abbrev Thoughts : Type 0 → Type 0
+Thoughts A = Option Numbering → Thought Stage A
 
-  abbrev pub DoneIs : Option MpiFault → S → Type 0
-  DoneIs None w = Unit {0}
-  DoneIs (Some f) w = FaultIs f w
+abbrev End : Type 0 → Type 0
+End A = Result A MpiFault × State Stage
 
-  pub record Sound {A : Type 0} (thought : Thought S A) : Type 0 where
-    pub law : (s : State S) → Ends (thought s).0 (thought s).1.1
+-- How all of them end, by how the first does: so; or by a request that is denied, each by its number.
+abbrev EndsBy : {A : Type 0} → Result A MpiFault → State Stage → (Numbering → End A) → Type 0
+EndsBy (Err (Denied n)) t others = (request : Request) × (denies t.1.actor t.1.live.objects request ≡ Some n) × ((number : Numbering) → others number ≡ (Err (Denied (number request t.1)), t))
+EndsBy r t others = (number : Numbering) → others number ≡ (r, t)
 
-  answering : {A : Type 0} (answer : Result A MpiFault) → ((w : S) → Ends answer w) → Sound (answers answer)
-  answering answer h = record { law = λ s. h s.1 }
+record Sound {A : Type 0} (thoughts : Thoughts A) : Type 0 where
+  pub law : (s : State Stage) → EndsBy (thoughts None s).0 (thoughts None s).1 (λ number. thoughts (Some number) s)
 
-  carrying : {A B : Type 0} (next : A → Thought S B) → ((x : A) → Sound (next x)) → (r : Result A MpiFault) (t : State S) → Ends r t.1 → Ends (carried next r t).0 (carried next r t).1.1
-  carrying next q (Ok x) t h = (q x).law t
-  carrying next q (Err f) t h = h
+changed_by : {A : Type 0} (r : Result A MpiFault) (t : State Stage) (u v : Numbering → End A) → ((number : Numbering) → v number ≡ u number) → EndsBy r t u → EndsBy r t v
+changed_by (Err (Denied n)) t u v e (request, names, h) = (request, names, λ number. e number ∙ h number)
+changed_by _ t u v e h = λ number. e number ∙ h number
 
-  following : {A B : Type 0} (first : Thought S A) (next : A → Thought S B) → Sound first → ((x : A) → Sound (next x)) → Sound (followed first next)
-  unfolding followed
-  following first next p q = record { law = λ s. carrying next q (first s).0 (first s).1 (p.law s) }
+-- What ends by no denial.
 
-  either : {A : Type 0} (b : Bool) (f g : Thought S A) → Sound f → Sound g → Sound (cond b f g)
-  either true f g p q = p
-  either false f g p q = q
+abbrev Fine : {A : Type 0} → Result A MpiFault → Type 0
+Fine (Err (Denied n)) = ⊥
+Fine r = Unit {0}
 
-  giving : {A : Type 0} (x : A) → Sound (gives x)
-  giving x = record { law = λ s. tt }
+fine_ends : {A : Type 0} (r : Result A MpiFault) (t : State Stage) (u : Numbering → End A) → Fine r → ((number : Numbering) → u number ≡ (r, t)) → EndsBy r t u
+fine_ends (Err (Denied n)) t u h e = absurd h
+fine_ends _ t u h e = e
 
-  found_fine : {A : Type 0} (o : Option A) (w : S) → Ends (found_or_bad o) w
-  found_fine None w = tt
-  found_fine (Some x) w = tt
+alone : {A : Type 0} (thought : Thought Stage A) → ((s : State Stage) → Fine (thought s).0) → Sound (λ k. thought)
+alone thought h = record { law = λ s. fine_ends (thought s).0 (thought s).1 (λ number. thought s) (h s) (λ number. refl) }
 
-  finding : {A : Type 0} (o : Option A) → Sound (found o)
-  finding o = answering (found_or_bad o) (found_fine o)
+giving : {A : Type 0} (x : A) → Sound (λ k. gives x)
+giving x = alone (gives x) (λ s. tt)
 
-  one_fine : (s : State S) (b : Bool) → (s.0.left == 0) ≡ b → Ends (one_less s.0).0 s.1
-  one_fine s true e = rw e tt
-  one_fine s false e = rw e tt
+long : Sound (λ k. fails {A = List ℕ} TooLong)
+long = alone (fails TooLong) (λ s. tt)
 
-  one_command : Sound (on_mind one_less)
-  one_command = record { law = λ s. one_fine s (s.0.left == 0) refl }
+found_fine : {A : Type 0} (o : Option A) → Fine (found_or_bad o)
+found_fine None = tt
+found_fine (Some x) = tt
 
-  sizing : (text : List ℕ) → Sound (sized text)
-  unfolding sized
-  sizing text = record { law = λ s. at s (is_long text) }
+finding : {A : Type 0} (o : Option A) → Sound (λ k. found o)
+finding o = alone (found o) (λ s. found_fine o)
+
+one_fine : (s : State Stage) (b : Bool) → (s.0.left == 0) ≡ b → Fine (one_less s.0).0
+one_fine s true e = rw e tt
+one_fine s false e = rw e tt
+
+sizing : (text : List ℕ) → Sound (λ k. sized text)
+unfolding sized
+sizing text = alone (sized text) (λ s. at (is_long text))
+  where
+    at : (b : Bool) → Fine (cond b (Err TooLong) (Ok text))
+    at true = tt
+    at false = tt
+
+prepared_fine : (body : List ℕ) → Fine (prepared body)
+unfolding prepared
+prepared_fine body = at (behind_name body) (named _)
+  where
+    in_count : (f : Function) (text : Option (List ℕ)) (b : Bool) → Fine {A = Function × Option (List ℕ)} (cond b (Ok (f, text)) (Err BadCount))
+    in_count f text true = tt
+    in_count f text false = tt
+
+    at : (text : Option (List ℕ)) (o : Option Function) → Fine (with_count text o)
+    at text None = tt
+    at text (Some f) = in_count f text (takes f (length (texts_of text)))
+
+row_fine : (f : Function) (name value : List ℕ) (s : State Stage) → Fine (variable_row f name value s.0).0
+unfolding variable_row
+row_fine f name value s = at f (get s.0.variables name)
+  where
+    at : (f : Function) (o : Option (List ℕ)) → Fine (from_old f name value o s.0).0
+    at f None = tt
+    at function.Set (Some old) = tt
+    at function.Increase (Some old) = tt
+    at function.Decrease (Some old) = tt
+    at _ (Some old) = tt
+
+-- How thoughts are put together.
+
+carrying : {A B : Type 0} (next : Option Numbering → A → Thought Stage B) → ((x : A) → Sound (λ k. next k x)) → (r : Result A MpiFault) (t : State Stage) (u : Numbering → End A) → EndsBy r t u →
+    EndsBy (carried (next None) r t).0 (carried (next None) r t).1 (λ number. carried (next (Some number)) (u number).0 (u number).1)
+carrying next q (Ok x) t u h =
+    changed_by (next None x t).0 (next None x t).1 (λ number. next (Some number) x t) (λ number. carried (next (Some number)) (u number).0 (u number).1)
+    (λ number. ap (λ (p : End _). carried (next (Some number)) p.0 p.1) (h number)) ((q x).law t)
+carrying next q (Err (Denied n)) t u (request, names, h) = (request, names, λ number. ap (λ (p : End _). carried (next (Some number)) p.0 p.1) (h number))
+carrying next q _ t u h = λ number. ap (λ (p : End _). carried (next (Some number)) p.0 p.1) (h number)
+
+following : {A B : Type 0} (first : Thoughts A) (next : Option Numbering → A → Thought Stage B) → Sound first → ((x : A) → Sound (λ k. next k x)) → Sound (λ k. followed (first k) (next k))
+unfolding followed
+following first next p q = record { law = λ s. carrying next q (first None s).0 (first None s).1 (λ number. first (Some number) s) (p.law s) }
+
+either : {A : Type 0} (b : Bool) (f g : Thoughts A) → Sound f → Sound g → Sound (λ k. cond b (f k) (g k))
+either true f g p q = p
+either false f g p q = q
+
+counting : {A : Type 0} (f : Thoughts A) → Sound f → Sound (λ k. counted (f k))
+unfolding counted
+counting f p = following (λ k. on_mind one_less) (λ k x. f k) (alone (on_mind one_less) (λ s. one_fine s (s.0.left == 0) refl)) (λ x. p)
+
+keeping : (name value : List ℕ) → Sound (λ k. keeps name value)
+unfolding keeps
+keeping name value = alone (keeps name value) (λ s. tt)
+
+reading : (name : List ℕ) → Sound (λ k. variable name)
+unfolding variable
+reading name = alone (variable name) (λ s. found_fine (get s.0.variables name))
+
+scoping : {A : Type 0} (name : List ℕ) (f : Thoughts A) → Sound f → Sound (λ k. scoped name (f k))
+unfolding scoped
+scoping {A} name f p = record { law = λ s. at (get s.0.variables name) (f None s).0 (f None s).1 (λ number. f (Some number) s) (p.law s) }
+  where
+    back : Option (List ℕ) → State Stage → State Stage
+    back old t = (given_back_in name old t.0, t.1)
+
+    at : (old : Option (List ℕ)) (r : Result A MpiFault) (t : State Stage) (u : Numbering → End A) → EndsBy r t u → EndsBy r (back old t) (λ number. ((u number).0, back old (u number).1))
+    at old (Err (Denied n)) t u (request, names, h) = (request, names, λ number. ap (λ (p : End A). (p.0, back old p.1)) (h number))
+    at old _ t u h = λ number. ap (λ (p : End A). (p.0, back old p.1)) (h number)
+
+-- What the world is asked.
+
+told_ends : (q : Ask) (s : State Stage) (r : Answer) → AnswerNames (denies s.1.actor s.1.live.objects (question q)) r → EndsBy r s (λ number. (result_map_both (λ value. value) (renumbered (number (question q) s.1)) r, s))
+told_ends q s (Err (Denied n)) h = (question q, h, λ number. refl)
+told_ends q s _ h = λ number. refl
+
+done_ends : (text : List ℕ) (d : Deed) (s : State Stage) (x : Done) → DoneNames (denies s.1.actor s.1.live.objects (action d)) s.1 x →
+    EndsBy (done text x.0) (s.0, x.1) (λ number. (done text (option_map (renumbered (number (action d) s.1)) x.0), (s.0, x.1)))
+done_ends text d s (Some (Denied n), v) h =
+    let names : denies v.actor v.live.objects (action d) ≡ Some n = subst (λ (x : Stage). denies x.actor x.live.objects (action d) ≡ Some n) h.1 h.0 in
+    (action d, names, λ number. ap (λ (x : Stage). (Err (Denied (number (action d) x)), (s.0, v))) h.1)
+done_ends text d s _ h = λ number. refl
+
+module _ (this : Dbref) where
+  abbrev scene : Option Numbering → Scene Stage
+  scene k = scene_of (powers_at k) this
+
+  -- what a text names is the same
+  or_same : (default : Dbref) (o : Option (List ℕ)) (w : Stage) (number : Numbering) → object_or default (scene (Some number)) o w ≡ object_or default (scene None) o w
+  or_same default None w number = refl
+  or_same default (Some text) w number = refl
+
+  object_same : (default : Dbref) (at : ℕ) (values : List (List ℕ)) (w : Stage) (number : Numbering) → object_at default at (scene (Some number)) values w ≡ object_at default at (scene None) values w
+  unfolding object_at
+  object_same default at values w number = or_same default (slice_get values at) w number
+
+  about_same : {A : Type 0} (f : Dbref → A) (default : Dbref) (at : ℕ) (values : List (List ℕ)) (w : Stage) (number : Numbering) →
+      option_map f (object_at default at (scene (Some number)) values w) ≡ option_map f (object_at default at (scene None) values w)
+  about_same f default at values w number = ap (option_map f) (object_same default at values w number)
+
+  both_same : {A : Type 0} (f : Dbref → Dbref → A) (values : List (List ℕ)) (w : Stage) (number : Numbering) → both f (scene (Some number)) values w ≡ both f (scene None) values w
+  both_same f values w number = ap₂ (λ x y. option_and_then (λ o. option_map (f o) y) x) (object_same this 0 values w number) (object_same this 1 values w number)
+
+  asks_same : (f : Function) (values : List (List ℕ)) (w : Stage) (number : Numbering) → ask_of f (scene (Some number)) values w ≡ ask_of f (scene None) values w
+  asks_same function.Name values w number = about_same (λ o. ask.Name o) this 0 values w number
+  asks_same function.Loc values w number = about_same (λ o. ask.Loc o) this 0 values w number
+  asks_same function.Owner values w number = about_same (λ o. ask.Owner o) this 0 values w number
+  asks_same function.Kind values w number = about_same (λ o. ask.Kind o) this 0 values w number
+  asks_same function.Flags values w number = about_same (λ o. ask.Flags o) this 0 values w number
+  asks_same function.Contents values w number = about_same (λ o. ask.Contents o) this 0 values w number
+  asks_same function.Exits values w number = about_same (λ o. ask.Exits o) this 0 values w number
+  asks_same function.Controls values w number = about_same (λ o. ask.Controls o) this 0 values w number
+  asks_same function.Holds values w number = both_same (λ o p. ask.Holds o p) values w number
+  asks_same function.Prop values w number = about_same (λ o. ask.Prop (nth 0 values) o) this 1 values w number
+  asks_same function.PropHere values w number = about_same (λ o. ask.PropHere (nth 0 values) o) this 1 values w number
+  asks_same function.PropDir values w number = about_same (λ o. ask.PropDir (nth 0 values) o) this 1 values w number
+  asks_same _ values w number = refl
+
+  deeds_same : (f : Function) (values : List (List ℕ)) (w : Stage) (number : Numbering) → deed_of f (scene (Some number)) values w ≡ deed_of f (scene None) values w
+  deeds_same function.Store values w number = about_same (λ o. deed.Store (nth 0 values) (nth 1 values) o) this 2 values w number
+  deeds_same function.DelProp values w number = about_same (λ o. deed.DelProp (nth 0 values) o) this 1 values w number
+  deeds_same function.Tell values w number = about_same (λ o. deed.Tell (nth 0 values) o) (powers.player w) 1 values w number
+  deeds_same function.Otell values w number = about_same (λ o. deed.Otell (nth 0 values) o) (powers.place w) 1 values w number
+  deeds_same _ values w number = refl
+
+  doing_one : (d : Deed) → Sound (λ k. doing (scene k) d)
+  unfolding doing
+  doing_one d = record { law = λ s. done_ends (given_by d) d s (does_in d s.1) (does_names d s.1) }
+
+  dicing : (n : ℤ) → Sound (λ k. diced (scene k) n)
+  unfolding diced
+  dicing n = either (int_lt n (pos 1)) (λ k. gives (codes "0")) (λ k. drawn (scene k) n) (giving (codes "0")) (record { law = λ s number. refl })
+
+  -- a question, where an object is there
+  asked : (o : Option Ask) (s : State Stage) →
+      EndsBy (carried (λ q. answers (tells_in q s.1)) (found_or_bad o) s).0 (carried (λ q. answers (tells_in q s.1)) (found_or_bad o) s).1 (λ number. carried (λ q. answers ((powers_by number).tells q s.1)) (found_or_bad o) s)
+  asked None s = λ number. refl
+  asked (Some q) s = told_ends q s (tells_in q s.1) (tells_names q s.1)
+
+  asking : (f : Function) (values : List (List ℕ)) → Sound (λ k. acted_by group.Ask f (scene k) values)
+  unfolding acted_by followed
+  asking f values = record { law = λ s.
+      changed_by _ _ (λ number. carried (λ q. answers ((powers_by number).tells q s.1)) (found_or_bad (ask_of f (scene None) values s.1)) s) _
+      (λ number. ap (λ o. carried (λ q. answers ((powers_by number).tells q s.1)) (found_or_bad o) s) (asks_same f values s.1 number)) (asked (ask_of f (scene None) values s.1) s) }
+
+  acting_deed : (f : Function) (values : List (List ℕ)) → Sound (λ k. acted_by group.Deed f (scene k) values)
+  unfolding acted_by
+  acting_deed f values = record { law = λ s.
+      changed_by _ _ (λ number. followed (found (deed_of f (scene None) values s.1)) (doing (scene (Some number))) s) _
+      (λ number. ap (λ o. followed (found o) (doing (scene (Some number))) s) (deeds_same f values s.1 number))
+      ((following (λ k. found (deed_of f (scene None) values s.1)) (λ k. doing (scene k)) (finding (deed_of f (scene None) values s.1)) doing_one).law s) }
+
+  -- what is the same for all, and no denial
+  found_same : {A : Type 0} (f : Option Numbering → State Stage → Option A) → ((s : State Stage) (number : Numbering) → f (Some number) s ≡ f None s) → Sound (λ k s. found (f k s) s)
+  found_same f e = record { law = λ s. fine_ends (found_or_bad (f None s)) s (λ number. found (f (Some number) s) s) (found_fine (f None s)) (λ number. ap (λ o. (found_or_bad o, s)) (e s number)) }
+
+  acting : (g : Group) (f : Function) (values : List (List ℕ)) → Sound (λ k. acted_by g f (scene k) values)
+  unfolding acted_by
+  acting Variable f values = alone (on_mind (variable_row f (nth 0 values) (nth 1 values))) (λ s. row_fine f (nth 0 values) (nth 1 values) s)
+  acting Test f values = record { law = λ s number. refl }
+  acting Number f values = record { law = λ s number. refl }
+  acting Text f values = record { law = λ s. (following (λ k. found (text_of f values)) (λ k. sized) (finding (text_of f values)) sizing).law s }
+  acting Chance f values = record { law = λ s. (dicing (number_of (nth 0 values))).law s }
+  acting Reference f values = found_same (λ k s. option_map reference (object_at this 0 (scene k) values s.1)) (λ s number. about_same reference this 0 values s.1 number)
+  acting group.Same f values = found_same (λ k s. both same_texts (scene k) values s.1) (λ s number. both_same same_texts values s.1 number)
+  acting group.Ask f values = asking f values
+  acting group.Deed f values = acting_deed f values
+
+  -- Texts, where what they mean is so.
+
+  module _ (go : Option Numbering → List ℕ → Thought Stage (List ℕ)) (goes : (text : List ℕ) → Sound (λ k. go k text)) where
+    each : (values texts : List (List ℕ)) → Sound (λ k. each_value (go k) values texts)
+    unfolding each_value
+    each values [] = giving values
+    each values (text ∷ more) = following (λ k. go k text) (λ k value. each_value (go k) (values ++ value ∷ []) more) (goes text) (λ value. each (values ++ value ∷ []) more)
+
+    choosing : (texts : List (List ℕ)) → Sound (λ k. chosen (go k) texts)
+    choosing texts = following (λ k. go k (nth 0 texts)) (λ k value. go k (nth (branch_at value) texts)) (goes (nth 0 texts)) (λ value. goes (nth (branch_at value) texts))
+
+    untiling : (wanted : Bool) (texts : List (List ℕ)) → Sound (λ k. until wanted (go k) texts)
+    unfolding until
+    untiling wanted [] = giving (truth (not wanted))
+    untiling wanted (text ∷ more) =
+        following (λ k. go k text) (λ k value. cond (alike (is_true value) wanted) (gives (truth wanted)) (until wanted (go k) more)) (goes text)
+        (λ value. either (alike (is_true value) wanted) (λ k. gives (truth wanted)) (λ k. until wanted (go k) more) (giving (truth wanted)) (untiling wanted more))
+
+    whiling : (n : ℕ) (test body last : List ℕ) → Sound (λ k. turns_while n (go k) test body last)
+    unfolding turns_while
+    whiling zero test body last = alone (fails TooManyCommands) (λ s. tt)
+    whiling (suc n) test body last =
+        following (λ k. go k test) (λ k value. cond (is_true value) (followed (counted (go k body)) (λ text. turns_while n (go k) test body text)) (gives last)) (goes test)
+        (λ value. either (is_true value) (λ k. followed (counted (go k body)) (λ text. turns_while n (go k) test body text)) (λ k. gives last)
+        (following (λ k. counted (go k body)) (λ k text. turns_while n (go k) test body text) (counting (λ k. go k body) (goes body)) (λ text. whiling n test body text)) (giving last))
+
+    whiles : (texts : List (List ℕ)) → Sound (λ k. while_true (go k) texts)
+    unfolding while_true
+    whiles texts = record { law = λ s. (whiling (suc s.0.left) (nth 0 texts) (nth 1 texts) []).law s }
+
+    withing : (name value body : List ℕ) → Sound (λ k. text_with (go k) name value body)
+    unfolding text_with
+    withing name value body = following (λ k. keeps name value) (λ k x. go k body) (keeping name value) (λ x. goes body)
+
+    foring : (n : ℕ) (name body : List ℕ) (end step : ℤ) (number : Option ℤ) (last : List ℕ) → Sound (λ k. turns_for n (go k) name body end step number last)
+    unfolding turns_for
+    foring zero name body end step number last = alone (fails TooManyCommands) (λ s. tt)
+    foring (suc n) name body end step None last = giving last
+    foring (suc n) name body end step (Some i) last =
+        either (is_within i end step) (λ k. followed (counted (text_with (go k) name (signed_decimal i) body)) (λ text. turns_for n (go k) name body end step (next_number i step) text)) (λ k. gives last)
+        (following (λ k. counted (text_with (go k) name (signed_decimal i) body)) (λ k text. turns_for n (go k) name body end step (next_number i step) text)
+        (counting (λ k. text_with (go k) name (signed_decimal i) body) (withing name (signed_decimal i) body)) (λ text. foring n name body end step (next_number i step) text))
+        (giving last)
+
+    eaching : (keep : Keep) (name body : List ℕ) (list : Option (List ℕ)) (xs : List (List ℕ)) → Sound (λ k. each_item keep (go k) name body list xs)
+    unfolding each_item
+    eaching keep name body list [] = giving (as_text list)
+    eaching keep name body list (item ∷ more) =
+        following (λ k. text_with (go k) name item body)
+        (λ k text. cond (is_long (as_text (kept_of keep list item text))) (fails TooLong) (each_item keep (go k) name body (kept_of keep list item text) more)) (withing name item body)
+        (λ text. either (is_long (as_text (kept_of keep list item text))) (λ k. fails TooLong) (λ k. each_item keep (go k) name body (kept_of keep list item text) more) long (eaching keep name body (kept_of keep list item text) more))
+
+    body_sound : (scope : Scope) (values : List (List ℕ)) (body : List ℕ) → Sound (λ k. bodies scope (go k) values body)
+    unfolding bodies
+    body_sound Once values body = record { law = λ s. (withing (nth 0 values) (nth 1 values) body).law s }
+    body_sound Numbers values body = record { law = λ s. (foring (suc s.0.left) (nth 0 values) body (number_of (nth 2 values)) (number_of (nth 3 values)) (Some (number_of (nth 1 values))) []).law s }
+    body_sound (Items keep) values body = record { law = λ s. (eaching keep (nth 0 values) body None (items (nth 1 values))).law s }
+
+    scopes : (scope : Scope) (texts : List (List ℕ)) → Sound (λ k. in_scope scope (go k) texts)
+    unfolding in_scope
+    scopes scope texts =
+        following (λ k. each_value (go k) [] (take (before_body scope) texts)) (λ k values. scoped (nth 0 values) (bodies scope (go k) values (nth (before_body scope) texts))) (each [] (take (before_body scope) texts))
+        (λ values. scoping (nth 0 values) (λ k. bodies scope (go k) values (nth (before_body scope) texts)) (body_sound scope values (nth (before_body scope) texts)))
+
+    lazy : (way : Way) (behind : Option (List ℕ)) → Sound (λ k. lazily way (go k) behind)
+    unfolding lazily
+    lazy Literal behind = giving (as_text behind)
+    lazy If behind = choosing (texts_of behind)
+    lazy All behind = untiling false (texts_of behind)
+    lazy Any behind = untiling true (texts_of behind)
+    lazy While behind = whiles (texts_of behind)
+    lazy (With scope) behind = scopes scope (texts_of behind)
+
+    performing : (how : How) (f : Function) (behind : Option (List ℕ)) → Sound (λ k. performed how (scene k) (go k) f behind)
+    performing (First g) f behind = following (λ k. each_value (go k) [] (texts_of behind)) (λ k. acted_by g f (scene k)) (each [] (texts_of behind)) (λ values. acting g f values)
+    performing (Lazy way) f behind = lazy way behind
+
+    ahead : (body : List ℕ) → Sound (λ k. called_ahead (scene k) (go k) body)
+    unfolding called_ahead
+    ahead body =
+        following (λ k. answers (prepared body)) (λ k found. performed (row_of found.0).how (scene k) (go k) found.0 found.1) (alone (answers (prepared body)) (λ s. prepared_fine body))
+        (λ found. performing (row_of found.0).how found.0 found.1)
+
+    calling_as : (body : List ℕ) (name : Option (List ℕ)) → Sound (λ k. called_as (scene k) (go k) body name)
+    calling_as body (Some name) = reading name
+    calling_as body None = ahead body
+
+    calling : (body : List ℕ) → Sound (λ k. called (scene k) (go k) body)
+    unfolding called
+    calling body = calling_as body (variable_in body)
+
+    spelling : (text : List ℕ) (ps : List Piece) → Sound (λ k. spelled (go k) text ps)
+    unfolding spelled
+    spelling text [] = giving text
+    spelling text (byte b ∷ more) = either (is_long (text ++ b ∷ [])) (λ k. fails TooLong) (λ k. spelled (go k) (text ++ b ∷ []) more) long (spelling (text ++ b ∷ []) more)
+    spelling text (call body ∷ more) =
+        following (λ k. go k body) (λ k value. cond (is_long (text ++ value)) (fails TooLong) (spelled (go k) (text ++ value) more)) (goes body)
+        (λ value. either (is_long (text ++ value)) (λ k. fails TooLong) (λ k. spelled (go k) (text ++ value) more) long (spelling (text ++ value) more))
+
+  entering : (n : ℕ) (body : List ℕ) → Sound (λ k. entered (scene k) n body)
+  unfolding entered
+  entering zero body = alone (fails TooManyCommands) (λ s. tt)
+  entering (suc n) body =
+      counting (λ k. called (scene k) (λ text. spelled (entered (scene k) n) [] (pieces text)) body)
+      (calling (λ k text. spelled (entered (scene k) n) [] (pieces text)) (λ text. spelling (λ k. entered (scene k) n) (entering n) [] (pieces text)) body)
+
+  evaluating : (text : List ℕ) → Sound (λ k. evaluated (scene k) text)
+  unfolding evaluated
+  evaluating text = record { law = λ s. at s (balances begun text) }
     where
-      at : (s : State S) (b : Bool) → Ends (cond b (Err TooLong) (Ok text)) s.1
-      at s true = tt
-      at s false = tt
+      started : State Stage → State Stage
+      started s = (record s.0 { left = powers.most s.1 }, s.1)
 
-  counting : {A : Type 0} (thought : Thought S A) → Sound thought → Sound (counted thought)
-  unfolding counted
-  counting thought p = following (on_mind one_less) (λ done. thought) one_command (λ done. p)
+      at : (s : State Stage) (b : Bool) →
+          EndsBy (cond b (meaning (scene None) nesting_most text (started s)) (Err Unclosed, s)).0 (cond b (meaning (scene None) nesting_most text (started s)) (Err Unclosed, s)).1
+          (λ number. cond b (meaning (scene (Some number)) nesting_most text (started s)) (Err Unclosed, s))
+      at s true = (spelling (λ k. entered (scene k) nesting_most) (entering nesting_most) [] (pieces text)).law (started s)
+      at s false = λ number. refl
 
-  keeping : (name value : List ℕ) → Sound (keeps name value)
-  unfolding keeps
-  keeping name value = record { law = λ s. tt }
+-- the formula of a message, or of a program
+names_ended : (a : Actor) (run : Formula) (r : Answer) → (run powers).1.1.actor ≡ a → EndsBy r (run powers).1 (λ number. run (powers_by number)) → FormulaNames a run r
+names_ended a run (Err (Denied n)) e (request, names, ends) =
+    record { request = request; names = subst (λ x. denies x (run powers).1.1.live.objects request ≡ Some n) e names; ends = ends }
+names_ended a run _ e h = tt
 
-  reading : (name : List ℕ) → Sound (variable name)
-  unfolding variable
-  reading name = record { law = λ s. found_fine (get s.0.variables name) s.1 }
-
-  scoping : {A : Type 0} (name : List ℕ) (thought : Thought S A) → Sound thought → Sound (scoped name thought)
-  unfolding scoped
-  scoping name thought p = record { law = λ s. p.law s }
-
-  prepared_fine : (body : List ℕ) (w : S) → Ends (prepared body) w
-  unfolding prepared
-  prepared_fine body w = at (behind_name body) (named _)
-    where
-      in_count : (f : Function) (text : Option (List ℕ)) (b : Bool) → Ends {A = Function × Option (List ℕ)} (cond b (Ok (f, text)) (Err BadCount)) w
-      in_count f text true = tt
-      in_count f text false = tt
-
-      at : (text : Option (List ℕ)) (o : Option Function) → Ends (with_count text o) w
-      at text None = tt
-      at text (Some f) = in_count f text (takes f (length (texts_of text)))
-
-  old_fine : (f : Function) (name value : List ℕ) (o : Option (List ℕ)) (s : State S) → Ends (from_old f name value o s.0).0 s.1
-  old_fine f name value None s = tt
-  old_fine function.Set name value (Some old) s = tt
-  old_fine function.Increase name value (Some old) s = tt
-  old_fine function.Decrease name value (Some old) s = tt
-  old_fine _ name value (Some old) s = tt
-
-  row_fine : (f : Function) (name value : List ℕ) (s : State S) → Ends (variable_row f name value s.0).0 s.1
-  unfolding variable_row
-  row_fine f name value s = old_fine f name value (get s.0.variables name) s
-
-  module _ (scene : Scene S) (tells : (q : Ask) (w : S) → Ends (scene.powers.tells q w) w) (does : (d : Deed) (w : S) → DoneIs (scene.powers.does d w).0 (scene.powers.does d w).1) where
-    done_fine : (text : List ℕ) (o : Option MpiFault) (w : S) → DoneIs o w → Ends (done text o) w
-    done_fine text None w h = tt
-    done_fine text (Some f) w h = h
-
-    doing_one : (d : Deed) → Sound (doing scene d)
-    unfolding doing
-    doing_one d = record { law = λ s. done_fine _ (scene.powers.does d s.1).0 (scene.powers.does d s.1).1 (does d s.1) }
-
-    dicing : (n : ℤ) → Sound (diced scene n)
-    unfolding diced
-    dicing n = either (int_lt n (pos 1)) (gives (codes "0")) (drawn scene n) (giving (codes "0")) (record { law = λ s. tt })
-
-    asking : (o : Option Ask) (s : State S) → Ends (carried (λ question. answers (scene.powers.tells question s.1)) (found_or_bad o) s).0 (carried (λ question. answers (scene.powers.tells question s.1)) (found_or_bad o) s).1.1
-    asking None s = tt
-    asking (Some q) s = tells q s.1
-
-    acting_law : (g : Group) (f : Function) (values : List (List ℕ)) (s : State S) → Ends (acted_by g f scene values s).0 (acted_by g f scene values s).1.1
-    unfolding acted_by followed
-    acting_law Variable f values s = row_fine f (nth 0 values) (nth 1 values) s
-    acting_law Test f values s = tt
-    acting_law Number f values s = tt
-    acting_law Text f values s = (following (found (text_of f values)) sized (finding (text_of f values)) sizing).law s
-    acting_law Chance f values s = (dicing (number_of (nth 0 values))).law s
-    acting_law Reference f values s = found_fine _ s.1
-    acting_law group.Same f values s = found_fine _ s.1
-    acting_law group.Ask f values s = asking (ask_of f scene values s.1) s
-    acting_law group.Deed f values s = (following (found (deed_of f scene values s.1)) (doing scene) (finding (deed_of f scene values s.1)) doing_one).law s
-
-    acting : (g : Group) (f : Function) (values : List (List ℕ)) → Sound (acted_by g f scene values)
-    acting g f values = record { law = acting_law g f values }
-
-    module _ (go : List ℕ → Thought S (List ℕ)) (goes : (text : List ℕ) → Sound (go text)) where
-      each : (values texts : List (List ℕ)) → Sound (each_value go values texts)
-      unfolding each_value
-      each values [] = giving values
-      each values (text ∷ more) = following (go text) _ (goes text) (λ value. each (values ++ value ∷ []) more)
-
-      choosing : (texts : List (List ℕ)) → Sound (chosen go texts)
-      choosing texts = following (go (nth 0 texts)) _ (goes (nth 0 texts)) (λ value. goes (nth (branch_at value) texts))
-
-      untiling : (wanted : Bool) (texts : List (List ℕ)) → Sound (until wanted go texts)
-      unfolding until
-      untiling wanted [] = giving (truth (not wanted))
-      untiling wanted (text ∷ more) =
-          following (go text) _ (goes text) (λ value. either (alike (is_true value) wanted) (gives (truth wanted)) (until wanted go more) (giving (truth wanted)) (untiling wanted more))
-
-      whiling : (n : ℕ) (test body last : List ℕ) → Sound (turns_while n go test body last)
-      unfolding turns_while
-      whiling zero test body last = record { law = λ s. tt }
-      whiling (suc n) test body last =
-          following (go test) _ (goes test) (λ value. either (is_true value) _ (gives last)
-          (following (counted (go body)) _ (counting (go body) (goes body)) (λ text. whiling n test body text)) (giving last))
-
-      whiles : (texts : List (List ℕ)) → Sound (while_true go texts)
-      unfolding while_true
-      whiles texts = record { law = λ s. (whiling (suc s.0.left) (nth 0 texts) (nth 1 texts) []).law s }
-
-      withing : (name value body : List ℕ) → Sound (text_with go name value body)
-      unfolding text_with
-      withing name value body = following (keeps name value) (λ x. go body) (keeping name value) (λ x. goes body)
-
-      foring : (n : ℕ) (name body : List ℕ) (end step : ℤ) (number : Option ℤ) (last : List ℕ) → Sound (turns_for n go name body end step number last)
-      unfolding turns_for
-      foring zero name body end step number last = record { law = λ s. tt }
-      foring (suc n) name body end step None last = giving last
-      foring (suc n) name body end step (Some i) last =
-          either (is_within i end step) _ (gives last)
-          (following (counted (text_with go name (signed_decimal i) body)) _ (counting (text_with go name (signed_decimal i) body) (withing name (signed_decimal i) body)) (λ text. foring n name body end step (next_number i step) text))
-          (giving last)
-
-      long : Sound (fails {A = List ℕ} TooLong)
-      long = record { law = λ s. tt }
-
-      eaching : (keep : Keep) (name body : List ℕ) (list : Option (List ℕ)) (xs : List (List ℕ)) → Sound (each_item keep go name body list xs)
-      unfolding each_item
-      eaching keep name body list [] = giving (as_text list)
-      eaching keep name body list (item ∷ more) =
-          following (text_with go name item body) _ (withing name item body) (λ text. either (is_long (as_text (kept_of keep list item text))) (fails TooLong) _ long (eaching keep name body (kept_of keep list item text) more))
-
-      body_law : (scope : Scope) (values : List (List ℕ)) (body : List ℕ) (s : State S) → Ends (bodies scope go values body s).0 (bodies scope go values body s).1.1
-      unfolding bodies
-      body_law Once values body s = (withing (nth 0 values) (nth 1 values) body).law s
-      body_law Numbers values body s = (foring (suc s.0.left) (nth 0 values) body (number_of (nth 2 values)) (number_of (nth 3 values)) (Some (number_of (nth 1 values))) []).law s
-      body_law (Items keep) values body s = (eaching keep (nth 0 values) body None (items (nth 1 values))).law s
-
-      scopes : (scope : Scope) (texts : List (List ℕ)) → Sound (in_scope scope go texts)
-      unfolding in_scope
-      scopes scope texts =
-          following (each_value go [] (take (before_body scope) texts)) _ (each [] (take (before_body scope) texts)) (λ values.
-          scoping (nth 0 values) (bodies scope go values (nth (before_body scope) texts)) (record { law = body_law scope values (nth (before_body scope) texts) }))
-
-      lazy : (way : Way) (behind : Option (List ℕ)) → Sound (lazily way go behind)
-      unfolding lazily
-      lazy Literal behind = giving (as_text behind)
-      lazy If behind = choosing (texts_of behind)
-      lazy All behind = untiling false (texts_of behind)
-      lazy Any behind = untiling true (texts_of behind)
-      lazy While behind = whiles (texts_of behind)
-      lazy (With scope) behind = scopes scope (texts_of behind)
-
-      performing : (how : How) (f : Function) (behind : Option (List ℕ)) → Sound (performed how scene go f behind)
-      performing (First g) f behind = following (each_value go [] (texts_of behind)) (acted_by g f scene) (each [] (texts_of behind)) (λ values. acting g f values)
-      performing (Lazy way) f behind = lazy way behind
-
-      ahead : (body : List ℕ) → Sound (called_ahead scene go body)
-      unfolding called_ahead
-      ahead body = following (answers (prepared body)) _ (answering (prepared body) (prepared_fine body)) (λ found. performing (row_of found.0).how found.0 found.1)
-
-      calling_as : (body : List ℕ) (name : Option (List ℕ)) → Sound (called_as scene go body name)
-      calling_as body (Some name) = reading name
-      calling_as body None = ahead body
-
-      calling : (body : List ℕ) → Sound (called scene go body)
-      unfolding called
-      calling body = calling_as body (variable_in body)
-
-      spelling : (text : List ℕ) (ps : List Piece) → Sound (spelled go text ps)
-      unfolding spelled
-      spelling text [] = giving text
-      spelling text (byte b ∷ more) = either (is_long (text ++ b ∷ [])) (fails TooLong) _ long (spelling (text ++ b ∷ []) more)
-      spelling text (call body ∷ more) =
-          following (go body) _ (goes body) (λ value. either (is_long (text ++ value)) (fails TooLong) _ long (spelling (text ++ value) more))
-
-    entering : (n : ℕ) (body : List ℕ) → Sound (entered scene n body)
-    unfolding entered
-    entering zero body = record { law = λ s. tt }
-    entering (suc n) body =
-        counting _ (calling (λ text. spelled (entered scene n) [] (pieces text)) (λ text. spelling (entered scene n) (entering n) [] (pieces text)) body)
-
-    -- the fault of a text comes in the world after it
-    pub evaluated_ends : (text : List ℕ) (s : State S) → Ends (evaluated scene text s).0 (evaluated scene text s).1.1
-    unfolding evaluated
-    evaluated_ends text s = at (balances begun text)
-      where
-        started : State S
-        started = (record s.0 { left = scene.powers.most s.1 }, s.1)
-
-        at : (b : Bool) → Ends (cond b (meaning scene nesting_most text started) (Err Unclosed, s)).0 (cond b (meaning scene nesting_most text started) (Err Unclosed, s)).1.1
-        at true = (spelling (entered scene nesting_most) (entering nesting_most) [] (pieces text)).law started
-        at false = tt
-
--- What a question and a deed ask for.
-
-abbrev Noted : ℕ → Stage → Type 0
-Noted n s = DeniesNote n s.actor s.live.objects
-
-module _ (s : Stage) where
-  answer_leave : (act : Act) → IsNote act → {A : Type 0} (go : Result A MpiFault) → Ends Noted go s → Ends Noted (by_leave fault s.live.objects s.actor act go) s
-  answer_leave act is go h = at (verdict s.live.objects s.actor act) refl
-    where
-      at : (o : Option Denial) → verdict s.live.objects s.actor act ≡ o → Ends Noted (option_map_or (λ denial. fault (Denied denial.rule)) o go) s
-      at None e = h
-      at (Some d) e = (act, is, (d.object, e))
-
-  text_ends : (path : List (List ℕ)) (d : Dbref) → Ends Noted (text_at s.live.objects s.actor path d) s
-  unfolding text_at
-  text_ends path d = answer_leave (Read d path) tt _ tt
-
-  first_ends : (path : List (List ℕ)) (ds : List Dbref) → Ends Noted (first_text s.live.objects s.actor path ds) s
-  unfolding first_text
-  first_ends path [] = tt
-  first_ends path (d ∷ ds) = at (first_ends path ds) (text_at s.live.objects s.actor path d) (text_ends path d)
-    where
-      at : Ends Noted (first_text s.live.objects s.actor path ds) s → (r : Result (Option (List ℕ)) MpiFault) → Ends Noted r s → Ends Noted (first_of r (first_text s.live.objects s.actor path ds)) s
-      at next (Ok (Some text)) h = tt
-      at next (Ok None) h = next
-      at next (Err f) h = h
-
-  below_ends : (d : Dbref) (path : List (List ℕ)) → Ends Noted (below_at s.live.objects s.actor d path) s
-  unfolding below_at
-  below_ends d path = answer_leave (Read d path) tt _ tt
-
-  object_ends : (f : Object → Result (List ℕ) MpiFault) (d : Dbref) → ((o : Object) → Ends Noted (f o) s) → Ends Noted (of_object f d s.live.objects) s
-  object_ends f d h = at (object_at d s.live.objects)
-    where
-      at : (o : Option Object) → Ends Noted (option_map_or f o (Err BadValue)) s
-      at None = tt
-      at (Some o) = h o
-
-  long_ends : (text : List ℕ) → Ends Noted (text_or_long text) s
-  long_ends text = at (is_long text)
-    where
-      at : (b : Bool) → Ends Noted (cond b (Err TooLong) (Ok text)) s
-      at true = tt
-      at false = tt
-
-  path_ends : (go : List (List ℕ) → Result (List ℕ) MpiFault) (text : List ℕ) → ((p : List (List ℕ)) → Ends Noted (go p) s) → Ends Noted (at_path fault go text) s
-  path_ends go text h = at (path_in text)
-    where
-      at : (o : Option (List (List ℕ))) → Ends Noted (option_map_or go o (fault BadValue)) s
-      at None = tt
-      at (Some p) = h p
-
-  told_ends : (q : Ask) → Ends Noted (told_by s.live.objects s.actor q) s
-  told_ends (ask.Name d) = object_ends _ d (λ o. tt)
-  told_ends (ask.Loc d) = object_ends _ d (λ o. tt)
-  told_ends (ask.Owner d) = object_ends _ d (λ o. tt)
-  told_ends (ask.Kind d) = object_ends _ d (λ o. tt)
-  told_ends (ask.Flags d) = object_ends _ d (λ o. tt)
-  told_ends (ask.Contents d) = object_ends (λ o. text_or_long (signs_in s.live.objects (listed_in false d s.live.objects))) d (λ o. long_ends (signs_in s.live.objects (listed_in false d s.live.objects)))
-  told_ends (ask.Exits d) = object_ends (λ o. text_or_long (signs_in s.live.objects (listed_in true d s.live.objects))) d (λ o. long_ends (signs_in s.live.objects (listed_in true d s.live.objects)))
-  told_ends (ask.Holds d p) = object_ends _ d (λ o. tt)
-  told_ends (ask.Controls d) = object_ends _ d (λ o. tt)
-  told_ends (ask.Prop path d) = object_ends _ d (λ o. path_ends (λ p. first_text s.live.objects s.actor p (d ∷ places_of s.live.objects d)) path (λ p. first_ends p (d ∷ places_of s.live.objects d)))
-  told_ends (ask.PropHere path d) = object_ends _ d (λ o. path_ends (λ p. first_text s.live.objects s.actor p (d ∷ [])) path (λ p. first_ends p (d ∷ [])))
-  told_ends (ask.PropDir path d) = object_ends _ d (λ o. path_ends (below_at s.live.objects s.actor d) path (below_ends d))
-
-  tells_ends : (q : Ask) → Ends Noted (tells_in q s) s
-  unfolding tells_in
-  tells_ends q = told_ends q
-
-  DoneNoted : Done → Type 0
-  DoneNoted d = DoneIs Noted d.0 d.1
-
-  write_ends : (act : Act) → IsNote act → (f : Change) → DoneIs Noted (by_leave (refused s) s.live.objects s.actor act (changed f s)).0 (by_leave (refused s) s.live.objects s.actor act (changed f s)).1
-  write_ends act is f = at (verdict s.live.objects s.actor act) refl
-    where
-      at : (o : Option Denial) → verdict s.live.objects s.actor act ≡ o →
-          DoneIs Noted (option_map_or (λ denial. refused s (Denied denial.rule)) o (changed f s)).0 (option_map_or (λ denial. refused s (Denied denial.rule)) o (changed f s)).1
-      at None e = tt
-      at (Some d) e = (act, is, (d.object, e))
-
-  written_ends : (d : Dbref) (path : List ℕ) (f : List (List ℕ) → Change) → DoneIs Noted (written d path f s).0 (written d path f s).1
-  unfolding written
-  written_ends d path f = at (object_at d s.live.objects)
-    where
-      go : List (List ℕ) → Done
-      go p = by_leave (refused s) s.live.objects s.actor (Write d p) (changed (f p) s)
-
-      in_path : (o : Option (List (List ℕ))) → DoneIs Noted (option_map_or go o (refused s BadValue)).0 (option_map_or go o (refused s BadValue)).1
-      in_path None = tt
-      in_path (Some p) = write_ends (Write d p) tt (f p)
-
-      at : (o : Option Object) → DoneIs Noted (option_map_or (λ o. at_path (refused s) go path) o (refused s BadValue)).0 (option_map_or (λ o. at_path (refused s) go path) o (refused s BadValue)).1
-      at None = tt
-      at (Some o) = in_path (path_in path)
-
-  does_ends : (d : Deed) → DoneIs Noted (does_in d s).0 (does_in d s).1
-  does_ends (deed.Store text path d) = written_ends d path (λ p. stored d p (TextValue text))
-  does_ends (deed.DelProp path d) = written_ends d path (λ p. unstored d p)
-  does_ends (deed.Tell text d) = tt
-  does_ends (deed.Otell text d) = tt
-
--- what a message is denied is denied to who acts, in the world that it leaves
-heard_of : (r : Answer) (s : Stage) (a : Actor) → s.actor ≡ a → Ends Noted r s → AnswerNames a s.live.objects r
-heard_of (Err (Denied n)) s a e h = subst (λ x. DeniesNote n x s.live.objects) e h
-heard_of _ s a e h = tt
-
-pub heard_denied : (a : Actor) (this : Dbref) (text : List ℕ) (vars : Variables) (w : Live) → AnswerNames a (heard a this text vars w).1.objects (heard a this text vars w).0
+pub heard_names : (a : Actor) (this : Dbref) (text : List ℕ) (vars : Variables) (w : Live) → FormulaNames a (formula a this text vars w) (heard a this text vars w).0
 unfolding heard
-heard_denied a this text vars w =
+heard_names a this text vars w =
     let before : Stage = record { actor = a; live = w } in
-    heard_of _ _ a (same_actor this text vars before) (evaluated_ends Noted (scene_of powers this) (λ q s. tells_ends s q) (λ d s. does_ends s d) text (record { variables = vars; left = 0 }, before))
+    names_ended a (formula a this text vars w) _ (same_actor this text vars before) ((evaluating this text).law (record { variables = vars; left = 0 }, before))

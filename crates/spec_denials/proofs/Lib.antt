@@ -1,5 +1,6 @@
 pub mod Words
 pub mod Local
+pub mod Requests
 pub mod Formulas
 pub mod Naming
 pub mod Properties
@@ -8,4 +9,6 @@ pub mod Shared
 pub mod Processes
 pub mod Units
 pub mod Starts
+pub mod Locked
+pub mod Walks
 pub mod Histories

@@ -253,13 +253,13 @@ names_found B w (Ok x) h = refl
 names_found B w (Err f) h = h
 
 -- Each row: its own rule for its arguments is none of leave, and it asks for these acts.
-abbrev pub RowAsks : (Actor → Live → MufFault → Live → Type 0) → (List Datum → List Entry → List Act) → Option Doing → Type 0
+abbrev pub RowAsks : (Actor → List Datum → Live → MufFault → Live → Type 0) → (List Datum → List Entry → List Act) → Option Doing → Type 0
 RowAsks B own None = Unit {0}
-RowAsks B own (Some doing) = (a : Actor) (items : List Datum) (w : Live) → Plain (doing.argued a items w) × RowNames (B a w) (first_denied w.objects a (own items w.objects)) (doing.does a items w)
+RowAsks B own (Some doing) = (a : Actor) (items : List Datum) (w : Live) → Plain (doing.argued a items w) × RowNames (B a items w) (first_denied w.objects a (own items w.objects)) (doing.does a items w)
 
-module _ (B : Actor → Live → MufFault → Live → Type 0) where
+module _ (B : Actor → List Datum → Live → MufFault → Live → Type 0) where
   asks_found : (p : Primitive) (find : Finding) → ((items : List Datum) → Plain (misasked p items)) → ((a : Actor) (es : List Entry) (items : List Datum) → FoundPlain (find a es items)) → RowAsks B (λ items es. []) (Some (finds p find))
-  asks_found p find h k = λ a items w. (h items, names_found (B a w) w (find a w.objects items) (k a w.objects items))
+  asks_found p find h k = λ a items w. (h items, names_found (B a items w) w (find a w.objects items) (k a w.objects items))
 
   pub asks_object : (p : Primitive) → RowAsks B (own_acts p) (object_row p)
   asks_object Name = asks_found Name (one_object (found_of Name)) (λ items. refl) (plain_one Name)
@@ -286,14 +286,14 @@ module _ (B : Actor → Live → MufFault → Live → Type 0) where
   asks_object TestLock = asks_found TestLock tested (λ items. refl) plain_tested
   asks_object UnparseObj = asks_found UnparseObj (one_object (found_of UnparseObj)) (λ items. refl) (plain_one UnparseObj)
   asks_object DbTop = asks_found DbTop top (λ items. refl) (λ a es items. tt)
-  asks_object MoveTo = λ a items w. (plain_place (B a w) a w items, names_moves (B a w) a w items)
-  asks_object SetLink = λ a items w. (refl, names_link (B a w) a w items)
-  asks_object SetOwn = λ a items w. (refl, names_owner (B a w) a w items)
-  asks_object Recycle = λ a items w. (refl, names_thrown (B a w) a w items)
-  asks_object SetName = λ a items w. (refl, names_named (B a w) a w items)
-  asks_object Set = λ a items w. (refl, names_sets (B a w) a w items)
-  asks_object SetLockStr = λ a items w. (refl, names_locks (B a w) a w items)
-  asks_object NewRoom = λ a items w. (refl, names_room (B a w) a w items)
-  asks_object NewObject = λ a items w. (refl, names_thing (B a w) a w items)
-  asks_object NewExit = λ a items w. (refl, names_exit (B a w) a w items)
+  asks_object MoveTo = λ a items w. (plain_place (B a items w) a w items, names_moves (B a items w) a w items)
+  asks_object SetLink = λ a items w. (refl, names_link (B a items w) a w items)
+  asks_object SetOwn = λ a items w. (refl, names_owner (B a items w) a w items)
+  asks_object Recycle = λ a items w. (refl, names_thrown (B a items w) a w items)
+  asks_object SetName = λ a items w. (refl, names_named (B a items w) a w items)
+  asks_object Set = λ a items w. (refl, names_sets (B a items w) a w items)
+  asks_object SetLockStr = λ a items w. (refl, names_locks (B a items w) a w items)
+  asks_object NewRoom = λ a items w. (refl, names_room (B a items w) a w items)
+  asks_object NewObject = λ a items w. (refl, names_thing (B a items w) a w items)
+  asks_object NewExit = λ a items w. (refl, names_exit (B a items w) a w items)
   asks_object _ = tt

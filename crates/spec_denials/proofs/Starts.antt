@@ -108,7 +108,7 @@ unfolding swept
 last_swept n [] w = refl
 last_swept n (e ∷ es) w = last_swept (suc n) es (option_map_or (λ mark. followed mark (dbref_of n) w) e.mark w) ∙ last_marked e.mark (dbref_of n) w
 
-last_settled : (w : World) → (settled w).queue.last ≡ w.queue.last
+pub last_settled : (w : World) → (settled w).queue.last ≡ w.queue.last
 unfolding settled
 last_settled w = last_swept 0 w.live.objects w
 

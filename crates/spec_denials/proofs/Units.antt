@@ -36,25 +36,27 @@ use Rattle.spec_events.proofs.Slicing.{run_holds}
 use Rattle.spec_events.proofs.Taken.{same_actor}
 use Rattle.spec_denials.specs.Plain.{EndsPlain}
 use Rattle.spec_denials.specs.Acts.{acts_of}
-use Rattle.spec_denials.specs.Asked.{first_denied, FaultNames, RowNames, NameListed, RowLists, BrokeNames, Breaks}
+use Rattle.spec_denials.specs.Asked.{first_denied, FaultNames, RowNames, NameListed, RowLists}
+use Rattle.spec_denials.specs.Notes.{BrokeNames, Breaks}
 use Rattle.spec_denials.specs.Processes.{process_acts, EffectNames}
-use Rattle.spec_denials.specs.Denials.{acts_at, FormulaNames, DeedNames, DeedLists, AskNames, OutcomeNames, UnitNames}
+use Rattle.spec_denials.specs.Denials.{acts_at, BegunNames, DeedNames, DeedLists, AskNames, OutcomeNames, UnitNames}
 use Rattle.spec_denials.proofs.Local.{unit_plain}
 use Rattle.spec_denials.proofs.Naming.{fault_plain}
 use Rattle.spec_denials.proofs.Shared.{shared_names, next_lists}
 use Rattle.spec_denials.proofs.Processes.{processed_names}
 
-formula_names : (by : Actor) (rule : Option ℕ) (f : MufFault) (w : World) → FaultNames rule f → FormulaNames by rule f w
-formula_names by rule (Denied n) w h = inl h
-formula_names by rule _ w h = tt
+module _ (by : Actor) (rule : Option ℕ) (stack : List Datum) (live : Live) where
+  begun_names : (f : MufFault) → FaultNames rule f → BegunNames by rule stack live f
+  begun_names (Denied n) h = inl h
+  begun_names _ h = tt
 
-formula_broke : (by : Actor) (rule : Option ℕ) (f : MufFault) (w : World) → rule ≡ None → BrokeNames by w.live.objects f → FormulaNames by rule f w
-formula_broke by rule (Denied n) w h k = inr (h, k)
-formula_broke by rule _ w h k = tt
+  begun_broke : (f : MufFault) → rule ≡ None → BrokeNames by stack live f → BegunNames by rule stack live f
+  begun_broke (Denied n) h k = inr (h, k)
+  begun_broke _ h k = tt
 
-deed_fails : (b : Bool) (by : Actor) (rule : Option ℕ) (f : MufFault) (w : World) → FaultNames rule f → DeedNames b by rule (fails f w)
-deed_fails true by rule f w h = formula_names by rule f w h
-deed_fails false by rule f w h = h
+  deed_fails : (b : Bool) (f : MufFault) (w : World) → FaultNames rule f → DeedNames b by rule stack live (fails f w)
+  deed_fails true f w h = begun_names f h
+  deed_fails false f w h = h
 
 -- What follows where a program is called, started or forked is no denial.
 
@@ -63,10 +65,10 @@ Fine (does s w) = Unit {0}
 Fine (rests s w) = Unit {0}
 Fine (fails f w) = FaultNames None f
 
-deed_fine : (b : Bool) (by : Actor) (rule : Option ℕ) (d : Deed World) → rule ≡ None → Fine d → DeedNames b by rule d
-deed_fine b by rule (does s w) h k = h
-deed_fine b by rule (rests s w) h k = h
-deed_fine b by rule (fails f w) h k = deed_fails b by rule f w (fault_plain f rule k)
+deed_fine : (b : Bool) (by : Actor) (rule : Option ℕ) (stack : List Datum) (live : Live) (d : Deed World) → rule ≡ None → Fine d → DeedNames b by rule stack live d
+deed_fine b by rule stack live (does s w) h k = h
+deed_fine b by rule stack live (rests s w) h k = h
+deed_fine b by rule stack live (fails f w) h k = deed_fails by rule stack live b f w (fault_plain f rule k)
 
 -- a process is started, or there is none, and not for want of leave
 abbrev IsBegun : World × Result ℤ MufFault → Type 0
@@ -136,18 +138,18 @@ called_fine a after d name w = made_fine a after d name (formed w.live.objects (
 
 -- A deed by its row.
 
-effect_deed : (b : Bool) (by : Actor) (rule : Option ℕ) (pid : ℤ) (x : Agent) (s : Source) (w : World) (e : Effect) → EffectNames rule e → DeedNames b by rule (effected pid x s w e)
+effect_deed : (b : Bool) (by : Actor) (rule : Option ℕ) (pid : ℤ) (x : Agent) (s : Source) (w : World) (e : Effect) → EffectNames rule e → DeedNames b by rule s.stack w.live (effected pid x s w e)
 effect_deed b by rule pid x s w (effect_gives stack live queue) h = h
 effect_deed b by rule pid x s w (waits n stack queue) h = h
-effect_deed b by rule pid x s w (forks stack) h = deed_fine b by rule (forked pid stack s w) h (forked_fine pid stack s w)
-effect_deed b by rule pid x s w (enters stack d name) h = deed_fine b by rule (program_called (acting x s w.live.objects) (behind stack s) d name w) h (called_fine (acting x s w.live.objects) (behind stack s) d name w)
-effect_deed b by rule pid x s w (starts stack d seconds argument) h = deed_fine b by rule (queued x stack d seconds argument s w) h (queued_fine x stack d seconds argument s w)
-effect_deed b by rule pid x s w (effect_refuses f) h = deed_fails b by rule f w h
+effect_deed b by rule pid x s w (forks stack) h = deed_fine b by rule s.stack w.live (forked pid stack s w) h (forked_fine pid stack s w)
+effect_deed b by rule pid x s w (enters stack d name) h = deed_fine b by rule s.stack w.live (program_called (acting x s w.live.objects) (behind stack s) d name w) h (called_fine (acting x s w.live.objects) (behind stack s) d name w)
+effect_deed b by rule pid x s w (starts stack d seconds argument) h = deed_fine b by rule s.stack w.live (queued x stack d seconds argument s w) h (queued_fine x stack d seconds argument s w)
+effect_deed b by rule pid x s w (effect_refuses f) h = deed_fails by rule s.stack w.live b f w h
 
-row_deed : (b : Bool) (by : Actor) (rule : Option ℕ) (s : Source) (w : World) (row : Row) → RowNames (Breaks b by) rule row → DeedNames b by rule (lifted s w row)
+row_deed : (b : Bool) (by : Actor) (rule : Option ℕ) (s : Source) (w : World) (row : Row) → RowNames (Breaks b by s.stack w.live) rule row → DeedNames b by rule s.stack w.live (lifted s w row)
 row_deed b by rule s w (gives stack live) h = h
-row_deed b by rule s w (refuses f) h = deed_fails b by rule f w h
-row_deed true by rule s w (breaks f live) h = formula_broke by rule f (record w { live = live }) h.0 h.1
+row_deed b by rule s w (refuses f) h = deed_fails by rule s.stack w.live b f w h
+row_deed true by rule s w (breaks f live) h = begun_broke by rule s.stack w.live f h.0 h.1
 row_deed false by rule s w (breaks f live) h = absurd h.1
 
 behind_stack : (b : Block) (s : Source) → (passed_at b s).stack ≡ s.stack
@@ -166,14 +168,14 @@ module _ (pid : ℤ) (x : Agent) (s : Source) (w : World) where
   abbrev who : Actor
   who = acting x s w.live.objects
 
-  deed_names : (p : Primitive) → DeedNames (is_formula p) (answers_for p (acting x s w.live.objects) w.live.objects) (first_denied w.live.objects (acting x s w.live.objects) (acts_at p s.stack w)) (deed pid x p s w)
+  deed_names : (p : Primitive) → DeedNames (is_formula p) (answers_for p (acting x s w.live.objects) w.live.objects) (first_denied w.live.objects (acting x s w.live.objects) (acts_at p s.stack w)) s.stack w.live (deed pid x p s w)
   unfolding deed process_done row_done
   deed_names p = either (is_process p)
     where
       by : Actor
       by = answers_for p (acting x s w.live.objects) w.live.objects
 
-      either : (b : Bool) → DeedNames (is_formula p) by (first_denied w.live.objects (acting x s w.live.objects) (cond b (process_acts p s.stack w.queue) (acts_of p s.stack w.live.objects))) (cond b (process_done pid x p s w) (row_done x p s w))
+      either : (b : Bool) → DeedNames (is_formula p) by (first_denied w.live.objects (acting x s w.live.objects) (cond b (process_acts p s.stack w.queue) (acts_of p s.stack w.live.objects))) s.stack w.live (cond b (process_done pid x p s w) (row_done x p s w))
       either true =
           effect_deed (is_formula p) by _ pid x s w (processed p (place_in pid s w) who (locked_of s.marks) s.stack w.live w.queue) (processed_names p (place_in pid s w) who (locked_of s.marks) s.stack w.live w.queue)
       either false = row_deed (is_formula p) by _ s w (shared p who x.descr (locked_of s.marks) s.stack w.live) (shared_names p who x.descr (locked_of s.marks) s.stack w.live)

@@ -14,7 +14,6 @@ use Rattle.muf_model.specs.declared.fault.MufFault.TheVariants.{Denied}
 use Rattle.muf_model.specs.Datum.{Datum, text, object}
 use Rattle.spec_prims.specs.Asking.{numbered}
 use Rattle.spec_prims.specs.Row.{Row, gives, refuses, breaks}
-use Rattle.spec_denials.specs.Notes.{DeniesNote}
 
 -- the rule by which the first of these acts is denied that is denied at all; none where each is allowed
 abbrev pub first_denied : List Entry → Actor → List Act → Option ℕ
@@ -44,13 +43,3 @@ NameListed a es stack given = Unit {0}
 abbrev pub RowLists : Actor → List Entry → List Datum → Row → Type 0
 RowLists a es stack (gives items w) = NameListed a es stack items
 RowLists a es stack row = Unit {0}
-
--- A formula that broke off and is denied something is denied to who acts in it, in the world that it leaves.
-abbrev pub BrokeNames : Actor → List Entry → MufFault → Type 0
-BrokeNames by es (Denied n) = DeniesNote n by es
-BrokeNames by es fault = Unit {0}
-
--- Nothing but a formula breaks off.
-abbrev pub Breaks : Bool → Actor → MufFault → Live → Type 0
-Breaks true by f v = BrokeNames by v.objects f
-Breaks false by f v = ⊥

@@ -5,6 +5,7 @@ use Rattle.muck_model.specs.declared.event.Event.{Event}
 use Rattle.muck_model.specs.declared.event.Event.TheVariants.{Exec, Slice}
 use Rattle.muck_model.specs.declared.tune.Tune.{Tune}
 use Rattle.spec_live.specs.Objects.{Entry as Kept}
+use Rattle.spec_live.specs.Lives.{Live}
 use Rattle.spec_rights.specs.declared.act.Actor.{Actor}
 use Rattle.spec_rights.specs.declared.act.Act.{Act}
 use Rattle.muf_model.specs.declared.fault.MufFault.{MufFault}
@@ -21,27 +22,28 @@ use Rattle.spec_events.specs.Slices.{acting, Deed, does, rests, fails, deed, out
 use Rattle.spec_events.specs.Steps.{effect}
 use Rattle.spec_events.specs.Sourced.{Each}
 use Rattle.spec_denials.specs.Plain.{NoDenial}
-use Rattle.spec_denials.specs.Notes.{DeniesNote}
+use Rattle.spec_denials.specs.Notes.{ParseDenied}
 use Rattle.spec_denials.specs.Acts.{acts_of}
 use Rattle.spec_denials.specs.Processes.{process_acts}
 use Rattle.spec_denials.specs.Starts.{LineStarts}
+use Rattle.spec_denials.specs.Walks.{LineLocked}
 use Rattle.spec_denials.specs.Asked.{first_denied, FaultNames, NameListed}
 
 -- what a shared primitive asks for in this world, at this stack
 abbrev pub acts_at : Primitive → List Datum → World → List Act
 acts_at p stack w = if is_process p then process_acts p stack w.queue else acts_of p stack w.live.objects
 
--- A formula is denied by this rule before it begins; or it was let begin, and its player is denied a reading or a writing in the world that it left.
-abbrev pub FormulaNames : Actor → Option ℕ → MufFault → World → Type 0
-FormulaNames by rule (Denied n) w = (rule ≡ Some n) ⊎ ((rule ≡ None) × DeniesNote n by w.live.objects)
-FormulaNames by rule fault w = Unit {0}
+-- A formula is denied by this rule before it begins; or it was let begin, and is denied something on its way.
+abbrev pub BegunNames : Actor → Option ℕ → List Datum → Live → MufFault → Type 0
+BegunNames by rule stack w (Denied n) = (rule ≡ Some n) ⊎ ((rule ≡ None) × ParseDenied n by stack w)
+BegunNames by rule stack w fault = Unit {0}
 
 -- Where a deed is denied, it is so by this rule; and where it was done, no rule denied.
-abbrev pub DeedNames : Bool → Actor → Option ℕ → Deed World → Type 0
-DeedNames formula by rule (does s w) = rule ≡ None
-DeedNames formula by rule (rests s w) = rule ≡ None
-DeedNames false by rule (fails f w) = FaultNames rule f
-DeedNames true by rule (fails f w) = FormulaNames by rule f w
+abbrev pub DeedNames : Bool → Actor → Option ℕ → List Datum → Live → Deed World → Type 0
+DeedNames formula by rule stack w (does s v) = rule ≡ None
+DeedNames formula by rule stack w (rests s v) = rule ≡ None
+DeedNames false by rule stack w (fails f v) = FaultNames rule f
+DeedNames true by rule stack w (fails f v) = BegunNames by rule stack w f
 
 -- what NEXTPROP gave is listed
 abbrev pub DeedLists : Primitive → Actor → List Kept → List Datum → Deed World → Type 0
@@ -50,7 +52,7 @@ DeedLists p a es stack d = Unit {0}
 
 -- a shared primitive of this actor at this stack, which did this
 abbrev pub AskNames : Actor → Primitive → List Datum → World → Deed World → Type 0
-AskNames a p stack w d = DeedNames (is_formula p) (answers_for p a w.live.objects) (first_denied w.live.objects a (acts_at p stack w)) d × DeedLists p a w.live.objects stack d
+AskNames a p stack w d = DeedNames (is_formula p) (answers_for p a w.live.objects) (first_denied w.live.objects a (acts_at p stack w)) stack w.live d × DeedLists p a w.live.objects stack d
 
 -- a unit that asks for no shared primitive isn't denied
 abbrev pub OutcomeNames : ℤ → Agent → Actor → Outcome → World → Type 0
@@ -65,10 +67,10 @@ pub record UnitNames (tune : Tune) (pid : ℤ) (t : Taken) : Type 0 where
   pub went : t.turn ≡ turn tune pid agent t.state t.before
   pub names : OutcomeNames pid agent t.actor (unit t.state) (out pid (one_counted pid t.before))
 
--- What an event asks for, from one world to the next: each unit of a slice what it asks for; and a line the program that it starts.
+-- What an event asks for, from one world to the next: each unit of a slice what it asks for; and a line the program that it starts, and the lock on which it hangs.
 abbrev pub EventNamed : Event → World → World → Type 0
 EventNamed (Slice pid) w v = Each (UnitNames w.live.board.tune pid) (units_of pid w)
-EventNamed (Exec d) w v = LineStarts w v
+EventNamed (Exec d) w v = LineStarts w v × LineLocked d w v
 EventNamed event w v = Unit {0}
 
 -- and so each of these entries

@@ -1,7 +1,9 @@
 pub mod Plain
-pub mod Notes
 pub mod Acts
 pub mod Asked
+pub mod Notes
 pub mod Processes
 pub mod Starts
+pub mod Walks
 pub mod Denials
+pub mod inner

@@ -5,5 +5,6 @@
 mod laws;
 
 pub use laws::{
-    denials_named, lines_ask, messages_name, primitives_ask, processes_ask, words_deny_nothing,
+    denials_named, lines_ask, messages_name, primitives_ask, processes_ask, rows_hold,
+    words_deny_nothing,
 };

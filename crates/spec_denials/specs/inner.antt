@@ -1,0 +1,5 @@
+pub mod RightRows
+pub mod CommandRows
+pub mod PrimRows
+pub mod SendRows
+pub mod EventRows
