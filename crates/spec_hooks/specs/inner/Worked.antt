@@ -52,15 +52,15 @@ zero_hooks =
 
 -- `#99` isn't there, and `#4` is another's
 abbrev pub den_hooks : Hooks
-den_hooks = hook (codes "_arrive") (codes "a") (codes "#99") ∷ hook (codes "_arrive") (codes "b") (codes "#4") ∷ hook (codes "_arrive") (codes "c") (codes "#3") ∷ []
+den_hooks = hook (codes "_arrive") (codes "a") (codes "#99") ∷ hook (codes "_arrive") (codes "b") (codes "#4") ∷ hook (codes "_arrive") (codes "c") (codes "#3") ∷ hook (codes "_listen") (codes "x") (codes "#3") ∷ []
 
 abbrev pub one_hooks : Hooks
-one_hooks = hook (codes "_connect") (codes "in") (codes "#3") ∷ hook (codes "_disconnect") (codes "out") (codes "#3") ∷ []
+one_hooks = hook (codes "_connect") (codes "in") (codes "#3") ∷ hook (codes "_disconnect") (codes "out") (codes "#3") ∷ hook (codes "_listen") (codes "x") (codes "#3") ∷ []
 
 abbrev pub props_of : Hooks → PropMap
 props_of hooks = from_sorted hooks
 
--- Room Zero with One, Two and the Den in it, two programs, and One at this place
+-- Room Zero with Two and the Den in it, two programs, and One at this place
 
 abbrev pub one_at : ℕ → Object
 one_at place = record player_one { place = dbref_of place; props = props_of one_hooks }
@@ -81,7 +81,7 @@ abbrev pub stored_as : List ℕ → Object → Entry
 stored_as contents o = record { object = o; contents = contents; exits = []; mark = None; saving = Done }
 
 abbrev pub scene : ℕ → List Entry
-scene place = stored_as (5 ∷ 2 ∷ []) room_hooked ∷ stored_as (4 ∷ 3 ∷ []) (one_at place) ∷ stored_as [] den_hooked ∷ stored_as [] (program_of 1) ∷ stored_as [] (program_of 5) ∷ stored_as [] player_two ∷ []
+scene place = stored_as (1 ∷ 5 ∷ 2 ∷ []) room_hooked ∷ stored_as (4 ∷ 3 ∷ []) (one_at place) ∷ stored_as [] den_hooked ∷ stored_as [] (program_of 1) ∷ stored_as [] (program_of 5) ∷ stored_as [] player_two ∷ []
 
 -- One is at this place, with so many connections
 abbrev pub live_at : ℕ → List ℕ → Live
@@ -110,8 +110,11 @@ moved_in = Arrive one (dbref_of 2)
 abbrev pub moved_out : Cause
 moved_out = Depart one (dbref_of 0)
 
+abbrev pub hi : List ℕ
+hi = codes "One says, \"hi\""
+
 abbrev pub spoke : Cause
-spoke = Listen one (dbref_of 0) (codes "One says, \"hi\"")
+spoke = Listen one (dbref_of 0) hi
 
 -- What is shown of them.
 
@@ -137,13 +140,13 @@ WorkedRows =
     -- all players, where nobody was before: a player that was just made has left no place
     × (causes (held [] []) (live_at 0 []) None ≡ [])
     -- what is said comes last
-    × (causes (live_at 0 []) (live_at 0 (5 ∷ 1 ∷ [])) (Some (one, codes "One says, \"hi\"")) ≡ Connect one ∷ Connect (dbref_of 5) ∷ spoke ∷ [])
+    × (causes (live_at 0 []) (live_at 0 (5 ∷ 1 ∷ [])) (Some (one, hi)) ≡ Connect one ∷ Connect (dbref_of 5) ∷ spoke ∷ [])
     -- in the Den, and then in Room Zero around it, what names a program of the owner directly in the directory
     × (firing (scene 2) moved_in ≡ fire 3 2 (codes "Arrive") ∷ fire 3 0 (codes "Arrive") ∷ [])
     × (firing (scene 2) moved_out ≡ fire 3 0 (codes "Depart") ∷ [])
     × (firing (scene 0) (Connect one) ≡ fire 3 1 (codes "Connect") ∷ [])
-    -- two hear what is said
-    × (firing (scene 0) spoke ≡ fire 3 0 (codes "One says, \"hi\"") ∷ fire 3 0 (codes "One says, \"hi\"") ∷ [])
+    -- what is said is heard twice by Room Zero, and by the Den in it, but by no player
+    × (firing (scene 0) spoke ≡ fire 3 0 hi ∷ fire 3 0 hi ∷ fire 3 2 hi ∷ [])
     -- what has no word is passed over, and from the first one that a limit refuses all
     × (processes (started_all (call_on 3 ∷ call_on 4 ∷ call_on 3 ∷ []) (world_at 0 [])) ≡ (pos 1, pos 1, pos 3, pos 0) ∷ (pos 2, pos 1, pos 3, pos 0) ∷ [])
     × (processes (started_all (call_on 3 ∷ call_on 3 ∷ call_on 3 ∷ []) (limited 2 (world_at 0 []))) ≡ (pos 1, pos 1, pos 3, pos 0) ∷ (pos 2, pos 1, pos 3, pos 0) ∷ [])
@@ -194,7 +197,7 @@ connect_fires : firing (scene 0) (Connect one) ≡ fire 3 1 (codes "Connect") �
 unfolding firing listed_in places_of walk object_at number_in kind_in object_in place_in list_in room_zero player_one level_at owner_at flag_at is_player_at effective number_named decimal_of
 connect_fires = ap (λ fs. fs ++ (fired_by (scene 0) (Connect one) (dbref_of 0) ++ [])) (one_fires 0 (Connect one)) ∙ ap (λ fs. by_hooks (scene 0) (Connect one) 1 one_hooks ++ (fs ++ [])) (zero_fires 0 (Connect one))
 
-heard_fires : firing (scene 0) spoke ≡ fire 3 0 (codes "One says, \"hi\"") ∷ fire 3 0 (codes "One says, \"hi\"") ∷ []
+heard_fires : firing (scene 0) spoke ≡ fire 3 0 hi ∷ fire 3 0 hi ∷ fire 3 2 hi ∷ []
 unfolding firing listed_in places_of walk object_at number_in kind_in object_in place_in list_in room_zero player_one level_at owner_at flag_at is_player_at effective number_named decimal_of
 heard_fires = ap (λ fs. fs ++ (fired_by (scene 0) spoke (dbref_of 2) ++ [])) (zero_fires 0 spoke) ∙ ap (λ fs. by_hooks (scene 0) spoke 0 zero_hooks ++ (fs ++ [])) (den_fires 0 spoke)
 
