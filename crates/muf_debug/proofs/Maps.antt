@@ -1,6 +1,6 @@
 -- The entries of an ordered map by numbers of processes, in the words of a finite map.
 use Rattle.std.proofs.Common.{◌≡◌, cond, List, [], ◌∷◌, refl, ap, sym, ◌∙◌}
-use Rattle.std.specs.Prelude.{ℤ, None, Some}
+use Rattle.std.specs.Prelude.{ℤ, Some}
 use Rattle.std.specs.Cmp.{eq_by_cmp_equiv, int_cmp_total}
 use Rattle.std.specs.Ordering.{is_eq, eq_by_cmp, int_cmp}
 use Rattle.std.specs.Map.{lookup}

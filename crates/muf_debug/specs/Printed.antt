@@ -1,5 +1,5 @@
 -- A view as it is shown.
-use Rattle.std.specs.Prelude.{ℕ, ◌-◌, List, [], ◌∷◌, ◌++◌, length, take, drop, codes}
+use Rattle.std.specs.Prelude.{ℕ, ℤ, ◌-◌, List, [], ◌∷◌, ◌++◌, length, take, drop, codes}
 use Rattle.std.specs.Fmt.{decimal, signed_decimal}
 use Rattle.muck_model.specs.Bytes.{text_most}
 use Rattle.muf_model.specs.Datum.{Datum, int, text, object, variable, address, lock, items, dict, mark}
@@ -31,9 +31,13 @@ abbrev pub scope_text : List Datum → List ℕ
 scope_text [] = []
 scope_text (d ∷ ds) = codes " |" ++ values_text (d ∷ ds)
 
--- the process, its program and line, and how many items are on its stack
+-- a process, its program and line, and how many items are on its stack
+abbrev pub numbers_text : ℤ → ℤ → ℕ → ℕ → List ℕ
+numbers_text pid program line depth =
+    codes "! " ++ (signed_decimal pid ++ (codes " #" ++ (signed_decimal program ++ (codes " " ++ (decimal line ++ (codes " " ++ decimal depth))))))
+
 abbrev pub head_text : View → List ℕ
-head_text v = codes "! " ++ (signed_decimal v.pid ++ (codes " #" ++ (signed_decimal v.program.0 ++ (codes " " ++ (decimal v.line ++ (codes " " ++ decimal (length v.stack)))))))
+head_text v = numbers_text v.pid v.program.0 v.line (length v.stack)
 
 -- with the items at the top, from below, and the variables; cut where a text would be too long
 abbrev pub printed : View → List ℕ

@@ -1,8 +1,8 @@
 // A view as a line.
-ghost use Rattle.std.specs.Prelude.{◌≡◌, ◌++◌, ◌-◌, length, map, drop, codes, IfOk, OnOk};
+ghost use Rattle.std.specs.Prelude.{◌≡◌, ◌++◌, map, codes, IfOk, OnOk};
 ghost use Rattle.std.specs.Fmt.{signed_decimal};
 ghost use Rattle.muf_model.specs.inner.View.{view};
-ghost use Rattle.muf_debug.specs.Printed.{head_text, value_text, values_text, top_of, scope_text, printed};
+ghost use Rattle.muf_debug.specs.Printed.{numbers_text, head_text, value_text, values_text, top_of, scope_text, printed};
 ghost use Rattle.muf_debug.specs.inner.Printing.{AreInside};
 
 use crate::view::View;
@@ -85,7 +85,21 @@ fn push_scope(alloc: Global, bytes: &mut Vec<u8>, values: &[Value]) -> Result<()
     push_values(alloc, bytes, values)
 }
 
-// The process, its program and line, and how many items are on its stack.
+// A process, its program and line, and how many items are on its stack.
+fn print_numbers(
+    alloc: Global,
+    pid: i32,
+    program: i32,
+    line: u32,
+    depth: usize,
+) -> Result<Vec<u8>, NoMemory>
+    ensures text { IfOk result (λ bytes. bytes.items ≡ numbers_text pid program line depth) }
+    ensures inside { IfOk result (λ bytes. AreInside bytes.items) }
+{
+    let text = format!(in alloc; "! {pid} #{program} {line} {depth}")?;
+    Ok(text.into_bytes())
+}
+
 fn print_head(alloc: Global, view: &View) -> Result<Vec<u8>, NoMemory>
     ensures text { IfOk result (λ bytes. bytes.items ≡ head_text view.now) }
     ensures inside { IfOk result (λ bytes. AreInside bytes.items) }
@@ -94,8 +108,7 @@ fn print_head(alloc: Global, view: &View) -> Result<Vec<u8>, NoMemory>
     let program = view.program.0;
     let line = view.line;
     let depth = view.stack.as_slice().len();
-    let text = format!(in alloc; "! {pid} #{program} {line} {depth}")?;
-    Ok(text.into_bytes())
+    print_numbers(alloc, pid, program, line, depth)
 }
 
 // The items at the top.

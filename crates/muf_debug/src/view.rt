@@ -30,29 +30,31 @@ fn stack_of(alloc: Global, frame: &Frame) -> Result<Vec<Value>, NoMemory>
     ensures { IfOk result (λ items. map view items.items ≡ reverse (flat frame.now).stack) }
 {
     let mut items = Vec::new(alloc);
-    let mut depth = 0;
-    while depth < frame.len() {
+    let mut depth = frame.len();
+    while depth > 0 {
+        depth -= 1;
         match frame.peek(depth) {
             Some(value) => items.push(value.copy()?)?,
             None => unreachable!(),
         }
-        depth += 1;
     }
-    items.reverse();
     Ok(items)
 }
 
-// The variables of the running call. Where there are more of them than are numbered, that is want of memory.
+// The variables of the running call. Where there are more of them than numbers, that is want of memory.
 fn scope_of(alloc: Global, frame: &Frame) -> Result<Vec<Value>, NoMemory>
     ensures { IfOk result (λ items. map view items.items ≡ drop (flat frame.now).base (flat frame.now).variables) }
 {
     let mut items = Vec::new(alloc);
     let mut number = CALL_FIRST;
-    while let Some(value) = frame.variable(VarId(number)) {
-        items.push(value.copy()?)?;
-        number = number.checked_add(1).ok_or(NoMemory)?;
+    while number < u32::MAX {
+        match frame.variable(VarId(number)) {
+            Some(value) => items.push(value.copy()?)?,
+            None => return Ok(items),
+        }
+        number += 1;
     }
-    Ok(items)
+    Err(NoMemory)
 }
 
 impl View {
