@@ -1,16 +1,16 @@
 -- A formula that is denied something is so by the last thing that it asked for, in the world that it leaves. Two evaluations whose denials are numbered otherwise go alike up to the first
 -- denial, which ends them.
-use Rattle.std.proofs.Common.{◌≡◌, ℕ, zero, suc, ◌-◌, Bool, true, false, cond, List, [], ◌∷◌, ◌++◌, take, Option, Some, None, refl, ap, ap₂, subst, ◌∙◌}
-use Rattle.std.specs.Prelude.{not, Result, Ok, Err, ℤ, int_lt, pos, codes, nat_le, length, ◌==◌, slice_get}
+use Rattle.std.proofs.Common.{◌≡◌, ℕ, zero, suc, Bool, true, false, cond, List, [], ◌∷◌, ◌++◌, take, Option, Some, None, refl, ap, ap₂, subst, ◌∙◌}
+use Rattle.std.specs.Prelude.{not, Result, Ok, Err, ℤ, int_lt, pos, codes, length, ◌==◌, slice_get}
 use Rattle.std.specs.Fmt.{signed_decimal}
 use Rattle.std.specs.FinMap.{get}
-use Rattle.std.specs.Option.{option_map, option_map_or, option_and_then}
+use Rattle.std.specs.Option.{option_map, option_and_then}
 use Rattle.std.specs.Result.{result_map_both}
 use Rattle.muck_model.specs.declared.dbref.Dbref.{Dbref}
 use Rattle.spec_live.specs.Lives.{Live}
 use Rattle.spec_rights.specs.declared.act.Actor.{Actor}
 use Rattle.mpi.specs.declared.fault.MpiFault.{MpiFault}
-use Rattle.mpi.specs.declared.fault.MpiFault.TheVariants.{Unclosed, UnknownFunction, BadCount, BadValue, TooManyCommands, TooLong, Denied}
+use Rattle.mpi.specs.declared.fault.MpiFault.TheVariants.{Unclosed, BadCount, TooManyCommands, TooLong, Denied}
 use Rattle.mpi.specs.declared.functions.Function.{Function}
 use Rattle.mpi.specs.declared.functions.Function.TheVariants as function
 use Rattle.mpi.specs.declared.functions.Group.{Group}
@@ -241,16 +241,20 @@ module _ (this : Dbref) where
 
   asking : (f : Function) (values : List (List ℕ)) → Sound (λ k. acted_by group.Ask f (scene k) values)
   unfolding acted_by followed
-  asking f values = record { law = λ s.
-      changed_by _ _ (λ number. carried (λ q. answers ((powers_by number).tells q s.1)) (found_or_bad (ask_of f (scene None) values s.1)) s) _
-      (λ number. ap (λ o. carried (λ q. answers ((powers_by number).tells q s.1)) (found_or_bad o) s) (asks_same f values s.1 number)) (asked (ask_of f (scene None) values s.1) s) }
+  asking f values = record {
+    law = λ s.
+        changed_by _ _ (λ number. carried (λ q. answers ((powers_by number).tells q s.1)) (found_or_bad (ask_of f (scene None) values s.1)) s) _
+        (λ number. ap (λ o. carried (λ q. answers ((powers_by number).tells q s.1)) (found_or_bad o) s) (asks_same f values s.1 number)) (asked (ask_of f (scene None) values s.1) s);
+  }
 
   acting_deed : (f : Function) (values : List (List ℕ)) → Sound (λ k. acted_by group.Deed f (scene k) values)
   unfolding acted_by
-  acting_deed f values = record { law = λ s.
-      changed_by _ _ (λ number. followed (found (deed_of f (scene None) values s.1)) (doing (scene (Some number))) s) _
-      (λ number. ap (λ o. followed (found o) (doing (scene (Some number))) s) (deeds_same f values s.1 number))
-      ((following (λ k. found (deed_of f (scene None) values s.1)) (λ k. doing (scene k)) (finding (deed_of f (scene None) values s.1)) doing_one).law s) }
+  acting_deed f values = record {
+    law = λ s.
+        changed_by _ _ (λ number. followed (found (deed_of f (scene None) values s.1)) (doing (scene (Some number))) s) _
+        (λ number. ap (λ o. followed (found o) (doing (scene (Some number))) s) (deeds_same f values s.1 number))
+        ((following (λ k. found (deed_of f (scene None) values s.1)) (λ k. doing (scene k)) (finding (deed_of f (scene None) values s.1)) doing_one).law s);
+  }
 
   -- what is the same for all, and no denial
   found_same : {A : Type 0} (f : Option Numbering → State Stage → Option A) → ((s : State Stage) (number : Numbering) → f (Some number) s ≡ f None s) → Sound (λ k s. found (f k s) s)

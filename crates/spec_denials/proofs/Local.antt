@@ -1,20 +1,20 @@
 -- No unit that needs no world ends by a denial.
-use Rattle.std.proofs.Common.{◌≡◌, ℕ, zero, suc, ◌+◌, ◌-◌, List, [], ◌∷◌, ◌++◌, take, reverse, drop, Bool, true, false, cond, refl}
+use Rattle.std.proofs.Common.{ℕ, suc, ◌+◌, ◌-◌, List, [], ◌∷◌, ◌++◌, take, reverse, drop, Bool, true, false, cond}
 use Rattle.std.specs.Prelude.{length, nat_lt, pos, negsuc, Option, Some, None, slice_get}
 use Rattle.muf_model.specs.declared.code.Word.{Word}
 use Rattle.muf_model.specs.declared.code.Word.TheVariants.{Literal, Variable, Address, Primitive, Call, Bind, Store, Exit, Break, Continue, While, NextIndex, NextPair}
 use Rattle.muf_model.specs.declared.code.Closer.{Closer}
 use Rattle.muf_model.specs.declared.code.Closer.TheVariants.{Semicolon, Repeat, Until}
 use Rattle.muf_model.specs.declared.fault.MufFault.{MufFault}
-use Rattle.muf_model.specs.declared.fault.MufFault.TheVariants.{StackEmpty, StackLocked, CallsFull, BadType, BadArgument, BadAddress}
+use Rattle.muf_model.specs.declared.fault.MufFault.TheVariants.{StackEmpty, CallsFull, BadType, BadArgument, BadAddress}
 use Rattle.muf_model.specs.declared.prims.Primitive.{Primitive as Name}
 use Rattle.muf_model.specs.Prims.{is_local}
 use Rattle.muf_model.specs.Faults.{is_final}
-use Rattle.muf_model.specs.Datum.{Datum, int, text, object, variable, address, lock, items, dict, mark}
+use Rattle.muf_model.specs.Datum.{Datum, int, variable, address, items, dict}
 use Rattle.muf_model.specs.Answer.{Answer, gives, stores, calls, refuses, variable_at, too_few, needing, fitting}
 use Rattle.muf_model.specs.Rows.{primitive}
 use Rattle.muf_model.specs.Tree.{Fork, if_word, try_word, Ring, begin_word, for_word, each_word, Block, stop, word, when, fork, ring, End, closes, hops, then_block, Definition}
-use Rattle.muf_model.specs.Source.{plain, indices, pairs, Mark, looping, trying, calling, entering, Source, locked_of, calls_of, scope_of, open_of, with_variable, called}
+use Rattle.muf_model.specs.Source.{indices, pairs, Mark, looping, trying, calling, entering, Source, locked_of, calls_of, scope_of, open_of, called}
 use Rattle.muf_model.specs.Unit as step
 use Rattle.muf_model.specs.Unit.{Outcome, goes, ended, faulted, asks, stuck, unit, Settled, ready, crowded, calls_most}
 use Rattle.spec_denials.specs.Plain.{NoDenial, NotDenied, EndsPlain}

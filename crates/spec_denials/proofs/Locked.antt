@@ -1,6 +1,6 @@
 -- Where a lock doesn't let a player through an exit, or take something, notes alone are touched.
-use Rattle.std.proofs.Common.{◌≡◌, ℕ, Bool, true, false, cond, List, [], ◌∷◌, map, Option, Some, None, refl, sym, ap, subst, ◌∙◌}
-use Rattle.std.specs.Prelude.{not, ◌||◌, ◌==◌, option_map, codes}
+use Rattle.std.proofs.Common.{◌≡◌, ℕ, Bool, true, false, cond, List, [], ◌∷◌, map, Option, Some, None, refl, ap}
+use Rattle.std.specs.Prelude.{◌||◌, ◌==◌, option_map, codes}
 use Rattle.std.specs.Char.{to_ascii_lowercase}
 use Rattle.std.specs.Option.{option_or, option_and_then}
 use Rattle.muck_model.specs.declared.dbref.Dbref.{Dbref}
@@ -15,7 +15,7 @@ use Rattle.spec_live.specs.Connections.{Connection, has_number, changed_in, told
 use Rattle.spec_live.specs.Lives.{Live, Change, unchanged, tell, reading, either, where_so, followed, ◌▸◌}
 use Rattle.spec_live.specs.Objects.{nothing}
 use Rattle.spec_live.specs.Seen.{scenery_of}
-use Rattle.spec_live.proofs.Keeping.{Keeps, keeps_followed, keeps_unchanged}
+use Rattle.spec_live.proofs.Keeping.{keeps_followed, keeps_unchanged}
 use Rattle.spec_live.proofs.Marking.{marked_itself}
 use Rattle.spec_rights.specs.declared.act.Actor.{Actor}
 use Rattle.spec_rights.specs.declared.act.Act.{Act}
@@ -31,14 +31,14 @@ use Rattle.spec_commands.specs.declared.word.Message.TheVariants.{Fail, OthersFa
 use Rattle.spec_commands.specs.declared.word.PlayWord.{PlayWord}
 use Rattle.spec_commands.specs.declared.word.PlayWord.TheVariants.{Say, Pose, Go, Get}
 use Rattle.spec_commands.specs.Commands.{play_words, play_shape, play_done, line_typed, begins_with_sign, signed, play_line, build_line, or_next, or_else, commanded, through, played}
-use Rattle.spec_commands.specs.Finding.{finding, chosen, is_so, shown_others, message_or, message_to_others}
+use Rattle.spec_commands.specs.Finding.{finding, chosen, shown_others, message_or, message_to_others}
 use Rattle.spec_commands.specs.Going.{ended, succeeded, failed, moving, link_at, led, exit_typed, tried, walked, walked_some, went, is_item, not_taken, taken}
 use Rattle.spec_commands.specs.Reading.{looked_up, sought, with_fit, with_parts, with_arguments, by_command, by_table, incomplete, argued}
 use Rattle.spec_commands.specs.Programming.{over}
 use Rattle.spec_commands.specs.Replies.{cant_be_done, cant_go, cant_take, taken_reply, usage}
 use Rattle.spec_commands.specs.Texts.{first_word, other_words, trimmed}
 use Rattle.spec_commands.proofs.Noted.{Notes, notes_with_message, notes_shown_others}
-use Rattle.spec_denials.specs.Walks.{walk_by, take_of, word_act, lock_act, lock_verdict}
+use Rattle.spec_denials.specs.Walks.{walk_by, take_of, word_act, lock_verdict}
 
 -- What is shown.
 

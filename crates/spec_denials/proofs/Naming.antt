@@ -1,6 +1,6 @@
 -- What is asked first, and how tests and rows are put together.
-use Rattle.std.proofs.Common.{◌≡◌, ℕ, zero, suc, ℤ, pos, negsuc, Bool, true, false, cond, List, [], ◌∷◌, ◌++◌, map, take, drop, length, Option, Some, None, refl, sym, ◌∙◌, ap, subst, nat_lt, ◌+◌}
-use Rattle.std.specs.Option.{option_or, option_map_or}
+use Rattle.std.proofs.Common.{◌≡◌, ℕ, zero, suc, ℤ, negsuc, Bool, true, false, cond, List, [], ◌∷◌, ◌++◌, drop, length, Option, Some, None, refl, sym, ◌∙◌, ap, subst, nat_lt, ◌+◌}
+use Rattle.std.specs.Option.{option_or}
 use Rattle.std.specs.Prelude.{option_map}
 use Rattle.muck_model.specs.declared.dbref.Denial.{Denial}
 use Rattle.spec_live.specs.Lives.{Live}
@@ -20,7 +20,7 @@ use Rattle.muf_model.specs.Kinds.{kind_of, suits}
 use Rattle.spec_prims.specs.Asking.{numbered, fault_of, level_fault, near_fault, is_there}
 use Rattle.spec_prims.specs.Row.{Row, gives, refuses, breaks, unless, given_upon}
 use Rattle.spec_prims.specs.Shared.{fault_by}
-use Rattle.spec_denials.specs.Acts.{near_act, near_acts, near_of, acts_with}
+use Rattle.spec_denials.specs.Acts.{near_act, near_acts, acts_with}
 use Rattle.spec_denials.specs.Asked.{first_denied, FaultNames, RowNames}
 
 -- the rule of a denial

@@ -1,7 +1,7 @@
 -- What the rows of objects ask for.
-use Rattle.std.proofs.Common.{◌≡◌, ℕ, ℤ, Bool, true, false, cond, List, [], ◌∷◌, ◌++◌, length, Option, Some, None, refl, sym, subst}
-use Rattle.std.specs.Option.{option_or, option_map_or}
-use Rattle.std.specs.Prelude.{option_map, nat_lt, codes, ◌||◌, ◌&&◌, not, Result, Ok, Err}
+use Rattle.std.proofs.Common.{ℕ, Bool, true, false, cond, List, [], ◌∷◌, ◌++◌, length, Option, Some, None, refl, sym, subst}
+use Rattle.std.specs.Option.{option_map_or}
+use Rattle.std.specs.Prelude.{nat_lt, codes, ◌||◌, ◌&&◌, not, Result, Ok, Err}
 use Rattle.muck_model.specs.declared.dbref.Dbref.{Dbref}
 use Rattle.muck_model.specs.Bytes.{text_fault, text_most}
 use Rattle.muck_model.specs.declared.lock.Lock.{Lock}
@@ -10,7 +10,6 @@ use Rattle.muck_lock.specs.Grammar.{lock_of}
 use Rattle.muck_lock.specs.Printed.{printed}
 use Rattle.spec_live.specs.declared.fault.DbFault.{DbFault}
 use Rattle.spec_live.specs.declared.fault.DbFault.TheVariants.{WorldFull as NoRoom}
-use Rattle.spec_live.specs.declared.object.Object.{Object}
 use Rattle.spec_live.specs.Objects.{Entry, same, home, nothing, object_at}
 use Rattle.spec_live.specs.Making.{create_check}
 use Rattle.spec_live.specs.Seen.{long_form}
@@ -18,7 +17,7 @@ use Rattle.spec_live.specs.Lives.{Live, Change}
 use Rattle.spec_rights.specs.declared.act.Actor.{Actor}
 use Rattle.spec_rights.specs.declared.act.Act.{Act}
 use Rattle.spec_rights.specs.declared.act.Act.TheVariants.{Near, Move, Link, SetOwner, Rename, Change as ChangeAct, Recycle as RecycleAct, NewRoom as NewRoomAct, NewThing, NewExit as NewExitAct}
-use Rattle.spec_rights.specs.Changing.{stored, named}
+use Rattle.spec_rights.specs.Changing.{stored}
 use Rattle.spec_rights.specs.Levels.{is_player_at, number_of}
 use Rattle.spec_rights.specs.Verdict.{verdict}
 use Rattle.spec_commands.specs.declared.new.New.{New}
@@ -28,17 +27,17 @@ use Rattle.spec_commands.specs.Going.{home_at}
 use Rattle.spec_commands.specs.Finding.{message_path}
 use Rattle.spec_commands.specs.declared.setting.Setting.{Setting}
 use Rattle.spec_commands.specs.declared.setting.Setting.TheVariants.{Flag, NoFlag, Level}
-use Rattle.spec_commands.specs.Settings.{may_set, set_so, setting_act, setting_asked}
+use Rattle.spec_commands.specs.Settings.{setting_act, setting_asked}
 use Rattle.muf_model.specs.declared.fault.MufFault.{MufFault}
 use Rattle.muf_model.specs.declared.fault.MufFault.TheVariants.{BadArgument, NoSuchObject, TextTooLong}
 use Rattle.muf_model.specs.declared.prims.Primitive.{Primitive}
 use Rattle.muf_model.specs.declared.prims.Primitive.TheVariants.{Name, Owner, Location, Contents, Exits, Next, IsOk, IsPlayer, IsThing, IsRoom, IsExit, IsProgram, Match, PMatch, HasFlag, MLevel, GetLink, Controls, GetLockStr, ParseLock, UnparseLock, TestLock, UnparseObj, DbTop, MoveTo, SetLink, SetOwn, Recycle, SetName, Set, SetLockStr, NewRoom, NewObject, NewExit}
-use Rattle.muf_model.specs.Datum.{Datum, int, text, object, lock}
+use Rattle.muf_model.specs.Datum.{Datum, text, object, lock}
 use Rattle.muf_model.specs.StackRows.{truth}
 use Rattle.spec_prims.specs.Asking.{numbered, fault_of, near_fault, is_there}
-use Rattle.spec_prims.specs.Row.{Row, gives, refuses, breaks, unless, Doing}
-use Rattle.spec_prims.specs.ObjectRows.{Finding, shown, given, found_of, one_object, one_item, kind_asked, one_text, found_by, controlled, lock_read, parsed, unparsed, tested, flag_asked, flag_found, flagged, misflagged, misasked, top, finding_of, finds, object_row}
-use Rattle.spec_prims.specs.ObjectWrites.{changed, badly, missing, misplaced, place_far, mislinked, misowned, done_to_two, given_made, made_so, new_made, renamed, made_named, set_by, lock_kept, key_kept_of, locked_by, done_by_text, one_done, thrown_away, two_done, text_done, place_missing, writing_row}
+use Rattle.spec_prims.specs.Row.{Row, gives, refuses, unless, Doing}
+use Rattle.spec_prims.specs.ObjectRows.{Finding, shown, given, found_of, one_object, one_item, kind_asked, one_text, found_by, controlled, lock_read, parsed, unparsed, tested, flag_asked, flag_found, flagged, misflagged, misasked, top, finds, object_row}
+use Rattle.spec_prims.specs.ObjectWrites.{changed, badly, missing, place_far, mislinked, misowned, done_to_two, given_made, made_so, new_made, made_named, set_by, lock_kept, key_kept_of, locked_by, done_by_text, one_done, thrown_away, two_done, text_done, place_missing}
 use Rattle.spec_denials.specs.Acts.{of_one, of_two, of_named, sets, moves, own_acts}
 use Rattle.spec_denials.specs.Acts as acts
 use Rattle.spec_denials.specs.Asked.{first_denied, FaultNames, RowNames}

@@ -1,9 +1,9 @@
 -- What each primitive of processes asks for.
-use Rattle.std.proofs.Common.{◌≡◌, ℕ, ℤ, pos, negsuc, ◌+◌, Bool, true, false, cond, List, [], ◌∷◌, ◌++◌, take, drop, length, Option, Some, None, refl, sym, subst}
+use Rattle.std.proofs.Common.{ℕ, ℤ, pos, negsuc, ◌+◌, Bool, true, false, cond, List, [], ◌∷◌, ◌++◌, take, drop, length, Option, Some, None, refl, sym, subst}
 use Rattle.std.specs.Option.{option_or, option_map_or}
 use Rattle.std.specs.Prelude.{nat_lt, nat_le, is_none, ◌||◌}
 use Rattle.muck_model.specs.Bytes.{text_most}
-use Rattle.spec_live.specs.Objects.{Entry, is_program, object_at}
+use Rattle.spec_live.specs.Objects.{is_program, object_at}
 use Rattle.spec_live.specs.Lives.{Live}
 use Rattle.spec_rights.specs.declared.act.Actor.{Actor}
 use Rattle.spec_rights.specs.declared.act.Act.{Act}
@@ -25,7 +25,7 @@ use Rattle.muck_queue.specs.declared.mode.Mode.TheVariants.{Preempt, Foreground,
 use Rattle.muck_queue.specs.declared.process.Process.{Process}
 use Rattle.muck_queue.specs.Queues.{Queue, process, on_process, without, is_background, in_mode, told_event, events_most}
 use Rattle.spec_processes.specs.declared.place.Place.{Place}
-use Rattle.spec_processes.specs.ProcessRows.{Effect, gives, waits, forks, enters, starts, refuses, unless, fitting, upon, Doing, is_pid, mode_numbered, mode_set, set_mode, sleep, read, killed, kill, event_name, event_data, sent, event_send, oldest, program_fault, call_fault, entering, call, starting, queue, process_row, needs_at, taken_at, done_in, processed}
+use Rattle.spec_processes.specs.ProcessRows.{Effect, gives, waits, forks, enters, starts, refuses, unless, fitting, upon, Doing, is_pid, mode_numbered, mode_set, set_mode, sleep, read, killed, kill, event_name, event_data, sent, event_send, oldest, program_fault, call_fault, call, starting, queue, process_row, needs_at, taken_at, done_in, processed}
 use Rattle.spec_denials.specs.Acts.{acts_with}
 use Rattle.spec_denials.specs.Asked.{first_denied, FaultNames}
 use Rattle.spec_denials.specs.Processes.{ends, calls, queues, own_process_acts, process_acts, EffectNames}

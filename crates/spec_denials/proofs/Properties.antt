@@ -1,11 +1,10 @@
 -- What the rows of properties and of talk ask for.
-use Rattle.std.proofs.Common.{◌≡◌, ℕ, ℤ, pos, negsuc, Bool, true, false, cond, List, [], ◌∷◌, take, drop, map, length, Option, Some, None, refl, sym, subst, ap, inl, inr}
-use Rattle.std.specs.Option.{option_or, option_map_or, option_and_then}
-use Rattle.std.specs.Prelude.{option_map, is_none, is_some, ◌&&◌, Result, Ok, Err}
+use Rattle.std.proofs.Common.{◌≡◌, ℕ, ℤ, pos, Bool, true, false, cond, List, [], ◌∷◌, take, drop, map, Option, Some, None, refl, subst, ap, inl, inr}
+use Rattle.std.specs.Option.{option_map_or, option_and_then}
+use Rattle.std.specs.Prelude.{is_none, is_some, ◌&&◌}
 use Rattle.std.specs.List.{filter}
 use Rattle.std.specs.FinMap.{keys}
 use Rattle.muck_model.specs.declared.dbref.Dbref.{Dbref}
-use Rattle.muck_model.specs.declared.dbref.Denial.{Denial}
 use Rattle.muck_prop.specs.declared.path.PropFault.{PropFault}
 use Rattle.muck_prop.specs.declared.value.PropValue.{PropValue}
 use Rattle.muck_prop.specs.declared.value.PropValue.TheVariants.{Text, Number}
@@ -15,7 +14,7 @@ use Rattle.muck_prop.specs.Store.{is_after, next_among}
 use Rattle.spec_live.specs.declared.object.Object.{Object}
 use Rattle.spec_live.specs.Objects.{Entry, object_at}
 use Rattle.spec_live.specs.Seen.{places_of}
-use Rattle.spec_live.specs.Lives.{Live, Change}
+use Rattle.spec_live.specs.Lives.{Live}
 use Rattle.spec_rights.specs.declared.act.Actor.{Actor}
 use Rattle.spec_rights.specs.declared.act.Act.{Act}
 use Rattle.spec_rights.specs.declared.act.Act.TheVariants.{Read, Write, Shared}
@@ -26,8 +25,8 @@ use Rattle.muf_model.specs.declared.fault.MufFault.TheVariants.{BadArgument, Sta
 use Rattle.muf_model.specs.Datum.{Datum, int, text, object}
 use Rattle.spec_prims.specs.Asking.{numbered, fault_of}
 use Rattle.spec_prims.specs.Row.{Row, gives, refuses, breaks, unless, given_upon}
-use Rattle.spec_prims.specs.PropRows.{at_path, by_leave, value_of, has_below, looked, first_holder, sought, name_fault, begins, may_read, next_read, walked, put_at, put, text_or, added, removed}
-use Rattle.spec_prims.specs.Talk.{notified, told_but, object_in, notified_but, booted_seat, booted, seat_at, is_place, outside, awake, connected_at, player_given, player_at, descriptors}
+use Rattle.spec_prims.specs.PropRows.{at_path, value_of, looked, first_holder, sought, name_fault, begins, may_read, next_read, walked, put_at, put, text_or, added, removed}
+use Rattle.spec_prims.specs.Talk.{notified, told_but, notified_but, booted_seat, booted, seat_at, is_place, outside, awake, connected_at, player_given, player_at, descriptors}
 use Rattle.spec_denials.specs.Acts.{looks, up_to_holder, looks_up, puts, adds, removes}
 use Rattle.spec_denials.specs.Asked.{first_denied, RowNames, IsListed, NameListed, RowLists}
 use Rattle.spec_denials.proofs.Naming.{rule_of, Plain, plain_if, tests_verdict, rows_unless, rows_leave}

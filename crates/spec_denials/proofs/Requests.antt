@@ -1,7 +1,7 @@
 -- What a question and a deed of a formula ask for.
 use Rattle.std.proofs.Common.{◌≡◌, ℕ, Bool, true, false, cond, List, [], ◌∷◌, map, Option, Some, None, refl}
-use Rattle.std.specs.Prelude.{is_some, Result, Ok, Err}
-use Rattle.std.specs.Option.{option_or, option_map, option_map_or, option_and_then}
+use Rattle.std.specs.Prelude.{is_some, Ok, Err}
+use Rattle.std.specs.Option.{option_or, option_map, option_map_or}
 use Rattle.muck_model.specs.declared.dbref.Dbref.{Dbref}
 use Rattle.muck_model.specs.declared.dbref.Denial.{Denial}
 use Rattle.muck_prop.specs.declared.path.PropFault.{PropFault}
@@ -18,7 +18,6 @@ use Rattle.spec_rights.specs.declared.act.Act.{Act}
 use Rattle.spec_rights.specs.declared.act.Act.TheVariants.{Read, Write}
 use Rattle.spec_rights.specs.Verdict.{verdict}
 use Rattle.spec_rights.specs.Changing.{stored, unstored}
-use Rattle.mpi.specs.declared.fault.MpiFault.{MpiFault}
 use Rattle.mpi.specs.declared.fault.MpiFault.TheVariants.{BadValue, TooLong, Denied}
 use Rattle.mpi.specs.declared.host.Ask.{Ask}
 use Rattle.mpi.specs.declared.host.Ask.TheVariants as ask

@@ -1,10 +1,8 @@
 -- What each primitive of objects, of properties and of talk asks for.
-use Rattle.std.proofs.Common.{◌≡◌, ℕ, ℤ, Bool, true, false, List, [], ◌∷◌, take, drop, Option, Some, None, refl}
+use Rattle.std.proofs.Common.{ℕ, ℤ, true, false, List, [], ◌∷◌, take, drop, Option, Some, None, refl}
 use Rattle.std.specs.Prelude.{Ok, Err}
 use Rattle.spec_live.specs.Lives.{Live}
-use Rattle.spec_live.specs.Objects.{Entry}
 use Rattle.spec_rights.specs.declared.act.Actor.{Actor}
-use Rattle.spec_rights.specs.declared.act.Act.{Act}
 use Rattle.spec_commands.specs.Finding.{actor_of}
 use Rattle.mpi.specs.declared.fault.MpiFault.{MpiFault}
 use Rattle.mpi.specs.declared.fault.MpiFault.TheVariants.{Denied as MpiDenied}
@@ -28,7 +26,7 @@ use Rattle.spec_denials.specs.Acts.{own_acts, acts_of}
 use Rattle.spec_denials.specs.Asked.{first_denied, RowNames, RowLists}
 use Rattle.spec_denials.specs.Notes.{Formula, formula, FormulaNames, ParseDenied, BrokeNames, Breaks}
 use Rattle.spec_denials.proofs.Formulas.{heard_names}
-use Rattle.spec_denials.proofs.Naming.{Plain, names_by}
+use Rattle.spec_denials.proofs.Naming.{names_by}
 use Rattle.spec_denials.proofs.Properties.{names_looked, names_sought, names_walked, names_put, names_added, names_removed, names_notified, names_notified_but, names_awake, names_connected, names_descriptors, names_booted, plain_outside, lists_walked}
 use Rattle.spec_denials.proofs.Objects.{RowAsks, asks_object}
 

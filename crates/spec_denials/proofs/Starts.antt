@@ -1,5 +1,5 @@
 -- A program that a line starts may be started.
-use Rattle.std.proofs.Common.{◌≡◌, ℕ, zero, suc, ℤ, pos, Bool, true, false, cond, List, [], ◌∷◌, ◌++◌, map, refl, ◌∙◌, Option, Some, None, inl, inr}
+use Rattle.std.proofs.Common.{◌≡◌, ℕ, suc, ℤ, pos, Bool, true, false, cond, List, [], ◌∷◌, refl, ◌∙◌, Option, Some, None, inl, inr}
 use Rattle.std.specs.Prelude.{◌+ℤ◌, Result, Ok, Err}
 use Rattle.std.specs.Option.{option_map_or}
 use Rattle.muck_model.specs.declared.dbref.Dbref.{Dbref}
@@ -20,7 +20,7 @@ use Rattle.spec_commands.specs.declared.edit.EditStep.TheVariants.{Compile}
 use Rattle.spec_commands.specs.Finding.{actor_of}
 use Rattle.spec_commands.specs.Commands.{played}
 use Rattle.spec_commands.specs.Editing.{edited, editor_exited, is_open}
-use Rattle.spec_commands.specs.Talk.{at_login, waits}
+use Rattle.spec_commands.specs.Talk.{waits}
 use Rattle.spec_admin.specs.Lines.{after_line, line_ends}
 use Rattle.muf_model.specs.declared.fault.MufFault.{MufFault}
 use Rattle.muf_model.specs.declared.fault.MufFault.TheVariants.{ProcessLimit}

@@ -1,36 +1,34 @@
 -- What each unit of a slice asks for.
-use Rattle.std.proofs.Common.{◌≡◌, ℕ, ℤ, pos, negsuc, Bool, true, false, cond, List, [], ◌∷◌, refl, sym, subst, Option, Some, None, inl, inr}
+use Rattle.std.proofs.Common.{◌≡◌, ℕ, ℤ, pos, Bool, true, false, cond, List, refl, sym, subst, Option, Some, None, inl, inr}
 use Rattle.std.specs.Prelude.{nat_lt, ◌+ℤ◌, Result, Ok, Err}
 use Rattle.muck_model.specs.declared.tune.Tune.{Tune}
-use Rattle.spec_live.specs.Objects.{Entry, nothing}
+use Rattle.spec_live.specs.Objects.{Entry}
 use Rattle.spec_live.specs.Lives.{Live}
 use Rattle.spec_rights.specs.declared.act.Actor.{Actor}
-use Rattle.spec_rights.specs.declared.act.Act.{Act}
 use Rattle.muf_model.specs.declared.fault.MufFault.{MufFault}
 use Rattle.muf_model.specs.declared.fault.MufFault.TheVariants.{CallsFull, Denied, ProcessLimit}
 use Rattle.muf_model.specs.declared.prims.Primitive.{Primitive}
 use Rattle.muf_model.specs.declared.prims.Primitive.TheVariants.{NextProp}
 use Rattle.muf_model.specs.Datum.{Datum, int}
 use Rattle.muf_model.specs.Tree.{Block, stop, word, when, fork, ring, Definition, Tree}
-use Rattle.muf_model.specs.Source.{Program, Source, locked_of, calls_of, handed, entered, passed, passed_at, last_word}
+use Rattle.muf_model.specs.Source.{Program, Source, locked_of, calls_of, handed, entered, passed_at, last_word}
 use Rattle.muf_model.specs.Unit.{calls_most, Outcome, asks, faulted, unit}
 use Rattle.muf_model.specs.Chains.{programs_of, Keeps as Keep}
 use Rattle.muf_model.proofs.Chains.{unit_keeps}
 use Rattle.muck_library.specs.Library.{Library, formed}
-use Rattle.muck_queue.specs.declared.mode.Mode.TheVariants.{Background}
 use Rattle.muck_queue.specs.declared.process.Process.{Process}
 use Rattle.muck_queue.specs.Queues.{process, is_full, added}
 use Rattle.spec_prims.specs.Asking.{numbered}
 use Rattle.spec_prims.specs.Row.{Row, gives, refuses, breaks}
 use Rattle.spec_prims.specs.Formulas.{answers_for, is_formula}
 use Rattle.spec_prims.specs.Shared.{shared}
-use Rattle.spec_processes.specs.ProcessRows.{Effect, gives as effect_gives, waits, forks, enters, starts, refuses as effect_refuses, processed, is_process, later}
+use Rattle.spec_processes.specs.ProcessRows.{Effect, gives as effect_gives, waits, forks, enters, starts, refuses as effect_refuses, processed, is_process}
 use Rattle.spec_events.specs.declared.starting.Agent.{Agent}
 use Rattle.spec_events.specs.declared.starting.Call.{Call}
 use Rattle.spec_events.specs.declared.starting.Manner.{Manner}
 use Rattle.spec_events.specs.World.{World, on_queue, with_library}
 use Rattle.spec_events.specs.Starting.{begun, beginning, new_process, joined, word_started, form_started, built_started}
-use Rattle.spec_events.specs.Slices.{acting, Deed, does, rests, fails, behind, lifted, row_done, called_word, word_entered, form_entered, form_called, program_called, child_of, with_number, child_joined, forked, queued_command, with_process, queued, place_in, effected, process_done, deed, out, one_counted, turn, Taken, unit_of, run_of}
+use Rattle.spec_events.specs.Slices.{acting, Deed, does, rests, fails, behind, lifted, row_done, called_word, word_entered, form_entered, form_called, program_called, child_of, with_number, child_joined, forked, with_process, queued, place_in, effected, process_done, deed, out, one_counted, turn, unit_of, run_of}
 use Rattle.spec_events.specs.Sourced.{Each}
 use Rattle.spec_events.proofs.Slicing.{run_holds}
 use Rattle.spec_events.proofs.Taken.{same_actor}

@@ -1,10 +1,10 @@
 -- What each word does that needs no world is never denied.
 use Rattle.std.proofs.Common.{◌≡◌, refl, ℕ, zero, suc, ◌+◌, ◌-◌, ℤ, pos, negsuc, Bool, true, false, cond, List, [], ◌∷◌, ◌++◌, take, drop, reverse, length, Option, Some, None, nat_lt}
-use Rattle.std.specs.Prelude.{◌==◌, ◌&&◌, int_lt, position, slice_get}
+use Rattle.std.specs.Prelude.{◌==◌, ◌&&◌, position}
 use Rattle.std.specs.Ordering.{int_eq}
 use Rattle.std.specs.Option.{option_or}
 use Rattle.muf_model.specs.declared.fault.MufFault.{MufFault}
-use Rattle.muf_model.specs.declared.fault.MufFault.TheVariants.{StackEmpty, StackFull, StackLocked, BadType, BadArgument, BadAddress, TextTooLong, TooHeavy, NoSuchObject, NotCompiled}
+use Rattle.muf_model.specs.declared.fault.MufFault.TheVariants.{StackEmpty, StackFull, StackLocked, BadType, BadArgument, BadAddress, TextTooLong, TooHeavy}
 use Rattle.muf_model.specs.declared.needs.Need.{Need}
 use Rattle.muf_model.specs.declared.prims.Family.{Family}
 use Rattle.muf_model.specs.declared.prims.Family.TheVariants as kind
@@ -13,22 +13,22 @@ use Rattle.muf_model.specs.declared.prims.Primitive.TheVariants.{Pop, Dup, DupTr
 use Rattle.muf_model.specs.declared.value.MapKey.{MapKey}
 use Rattle.muf_model.specs.declared.value.MapKey.TheVariants.{Number, Name}
 use Rattle.muck_model.specs.Bytes.{text_most}
-use Rattle.muf_model.specs.Datum.{Datum, Data, int, text, object, variable, address, lock, items, dict, mark, data_of, list_of, pairs_of, entries_of}
-use Rattle.muf_model.specs.Answer.{Answer, gives, stores, calls, refuses, Made, makes, rejects, Scope, Deed, plain, whole, stack_most, too_few, needing, fitting, put, unless, variable_at}
+use Rattle.muf_model.specs.Datum.{Datum, int, text, object, variable, address, items, dict, data_of, list_of, pairs_of, entries_of}
+use Rattle.muf_model.specs.Answer.{Answer, gives, calls, refuses, Made, makes, rejects, Scope, Deed, plain, whole, stack_most, too_few, needing, fitting, put, unless, variable_at}
 use Rattle.muf_model.specs.Entries.{entry_of, with_entry, gathered}
 use Rattle.muf_model.specs.Prims.{family_of, level_of, needs_of}
 use Rattle.muf_model.specs.Kinds.{is_so, kind_of, suits}
 use Rattle.muf_model.specs.Values.{fits}
 use Rattle.muf_model.specs.Needs.{Needs, Many}
 use Rattle.muf_model.specs.Ladder.{short, miscounted, too_short, unfit, absent, walk, wanted, ladder, any_level, all_there}
-use Rattle.muf_model.specs.StackRows.{popped, doubled, doubled_true, swapped, overed, turned, rotated, by_count, picked, put_at, doubled_many, doubled_list, popped_many, reversed, nipped, tucked, counted_above, marked, closed, unmarked, above, is_mark, fetched, fetching, stored, storing, judged, executed, aborted, stack_row}
+use Rattle.muf_model.specs.StackRows.{doubled, doubled_true, swapped, overed, turned, rotated, by_count, picked, put_at, doubled_many, doubled_list, popped_many, reversed, nipped, tucked, closed, unmarked, above, is_mark, fetched, fetching, stored, storing, judged, executed, aborted, stack_row}
 use Rattle.muf_model.specs.NumberRows as number
 use Rattle.muf_model.specs.NumberRows.{NumberRow, number_table, number_deed, number_row, one_int, two_ints, compared, two_truths, number_of, object_of, objects_equal}
 use Rattle.muf_model.specs.TextRows.{sized, place, around, one_text, two_texts, three_texts, text_and_int, texts_and_int, text_and_ints, one_integer, one_number, of_text, of_texts, of_sought, seeking, subst, cut_behind, first_compared, middle, in_decimal, character, text_row}
 use Rattle.muf_model.specs.Texts.{first_place, last_place}
 use Rattle.muf_model.specs.ArrayRows as array
 use Rattle.muf_model.specs.ArrayRows.{key_of, entries_in, one_held, at_key, held_and_key, item_held_and_key, valued, found, first_key, list_made, dict_made, item_got, set_in, inserted_in, appended_to, appended, gone_from, words_of, joins, array_row}
-use Rattle.muf_model.specs.Rows.{local_row, does, used, primitive}
+use Rattle.muf_model.specs.Rows.{local_row, used, primitive}
 use Rattle.spec_denials.specs.Plain.{NoDenial, NotDenied}
 
 abbrev MadePlain : Made → Type 0

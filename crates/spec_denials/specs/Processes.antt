@@ -1,5 +1,5 @@
 -- The acts for which a primitive of processes asks leave, and what came of it.
-use Rattle.std.specs.Prelude.{◌≡◌, ℕ, List, [], ◌∷◌, take, Option, Some, None}
+use Rattle.std.specs.Prelude.{◌≡◌, ℕ, List, [], ◌∷◌, take, Option, None}
 use Rattle.std.specs.Option.{option_map_or}
 use Rattle.spec_rights.specs.declared.act.Act.{Act}
 use Rattle.spec_rights.specs.declared.act.Act.TheVariants.{EndProcess, Call as CallAct}
@@ -7,10 +7,9 @@ use Rattle.muf_model.specs.declared.prims.Primitive.{Primitive}
 use Rattle.muf_model.specs.declared.prims.Primitive.TheVariants.{Kill, Call, Queue as QueuePrim}
 use Rattle.muf_model.specs.Datum.{Datum, int, text, object}
 use Rattle.muf_model.specs.Prims.{level_of}
-use Rattle.muck_queue.specs.declared.process.Process.{Process}
 use Rattle.muck_queue.specs.Queues.{Queue, process}
 use Rattle.spec_prims.specs.Asking.{numbered}
-use Rattle.spec_processes.specs.ProcessRows.{Effect, gives, waits, forks, enters, starts, refuses, needs_at, taken_at}
+use Rattle.spec_processes.specs.ProcessRows.{Effect, refuses, needs_at, taken_at}
 use Rattle.spec_denials.specs.Acts.{acts_with}
 use Rattle.spec_denials.specs.Asked.{FaultNames}
 

@@ -1,13 +1,11 @@
 -- What players are shown of what isn't theirs, and who hears what a formula tells, by examples.
-use Rattle.std.specs.Prelude.{◌≡◌, ℕ, List, [], ◌∷◌, ◌++◌, codes, None, refl}
-use Rattle.muck_model.specs.declared.dbref.Dbref.{Dbref}
+use Rattle.std.specs.Prelude.{◌≡◌, ℕ, List, [], ◌∷◌, codes, None, refl}
 use Rattle.muck_model.specs.declared.dbref.Kind.TheVariants.{Thing}
 use Rattle.spec_live.specs.declared.saving.Saving.TheVariants.{Done}
 use Rattle.spec_live.specs.Boards.{early_board, told_one, told_player, told_others}
-use Rattle.spec_live.specs.Connections.{Connection}
 use Rattle.spec_live.specs.Flags.{dark}
 use Rattle.spec_live.specs.Lives.{Live, followed, reading, either, where_so, unchanged, tell, tell_player, tell_but, tell_others}
-use Rattle.spec_live.specs.Objects.{Entry, dbref_of, object_at, number_in, kind_in, object_in, list_in}
+use Rattle.spec_live.specs.Objects.{dbref_of, object_at, number_in, kind_in, object_in, list_in}
 use Rattle.spec_live.specs.Output.{sent_lines, queue_most, lines_bytes, line_sent, lines_sent, sent}
 use Rattle.spec_live.specs.Seen.{listed_in}
 use Rattle.spec_live.specs.Chain.{walk, follower}
@@ -19,7 +17,7 @@ use Rattle.mpi.specs.declared.host.Deed.TheVariants.{Tell, Otell}
 use Rattle.spec_mpi.specs.Doing.{does_in}
 use Rattle.spec_commands.specs.Finding.{is_so, seen_in, owner_shown, examined}
 use Rattle.spec_commands.specs.Replies.{owner_line}
-use Rattle.spec_commands.specs.inner.Company.{held, seats, both_there, company, queues}
+use Rattle.spec_commands.specs.inner.Company.{held, company, queues}
 
 abbrev acting : ℕ → ℕ → Actor
 acting level player = record { level = level; user = dbref_of player; player = dbref_of player }

@@ -1,6 +1,6 @@
 -- What an event tells of its sender, by an example.
-use Rattle.std.specs.Prelude.{◌≡◌, pos, List, [], ◌∷◌, codes, refl}
-use Rattle.muf_model.specs.Datum.{Datum, object, dict, pairs_of}
+use Rattle.std.specs.Prelude.{◌≡◌, pos, [], ◌∷◌, codes, refl}
+use Rattle.muf_model.specs.Datum.{object, dict, pairs_of}
 use Rattle.spec_live.specs.Objects.{dbref_of}
 use Rattle.spec_rights.specs.declared.act.Actor.{Actor}
 use Rattle.spec_processes.specs.ProcessRows.{named, event_data}
