@@ -14,6 +14,6 @@ returns-clause-batch c =
     let p : Pending = record { number = c.next-number.result; size = c.size-size.result; batch = c.if-goes_by_marks.batch } in
     let size = c.size-size.ensures c.requires.alive in
     elim c.if-goes_by_marks.branch [
-      | then-goes_by_marks+in_ok-batch w ↦ (let e = w.in_ok-batch.ensures in batch_cut _ _ (now c.args.world.now) p w.in_ok-batch.field-0 w.batch-is c.base-base.ensures size e.records e.storable e.tune e.consistent e.limits e.tuned)
-      | else-goes_by_marks+in_ok-batch-2 w ↦ (let e = w.in_ok-batch-2.ensures in batch_cut _ _ (now c.args.world.now) p w.in_ok-batch-2.field-0 w.batch-is c.base-base.ensures size e.records e.storable e.tune e.consistent e.limits e.tuned)
+      | then-goes_by_marks+in_ok-batch w ↦ (let e = w.in_ok-batch.ensures in batch_cut _ _ (now c.args.world.now) p w.in_ok-batch.batch w.batch-is c.base-base.ensures size e.records e.storable e.tune e.consistent e.limits e.tuned)
+      | else-goes_by_marks+in_ok-batch-2 w ↦ (let e = w.in_ok-batch-2.ensures in batch_cut _ _ (now c.args.world.now) p w.in_ok-batch-2.batch w.batch-is c.base-base.ensures size e.records e.storable e.tune e.consistent e.limits e.tuned)
     ]
