@@ -62,3 +62,17 @@ returns-in-Ok-end-2-clause-kept g c = λ mounted tells v.
     dumps_failed g.D.Disk.seen g.D.Disk.moment g.D.Disk.images g.D.Disk.faults c.write.new.store.log c.write.new.first c.write.new.second mounted c.begin.new.world (λ x. g.met.D.Disk.seen_left x tells) c.args.party c.in-Ok.pending.number c.args.world.now _ c.in-Ok.ensures.step c.end-in_default-fault.new.world c.in-Ok-end-2.ensures.step c.in-Err.fault
     (λ is. some_not_none c.args.store.now.log c.requires.some (c.in-Err.ensures.stale mounted c.begin.new.world tells pend (ap Err is))) w
     (fault_ends c.in-Err.fault c.in_default-fault.not-NoMemory (never_damaged g.D.Disk.seen g.D.Disk.moment g.D.Disk.images g.D.Disk.faults c.write.new.store.log c.write.new.first c.write.new.second mounted c.begin.new.world c.in-Err.fault w))
+
+pub returns-in-Err-end-2 : goal.returns-in-Err-end-2
+returns-in-Err-end-2 g c = record {
+  happened = dies_ending c.args.party _ _ _ _ _ _ c.in-Ok.ensures.step c.in-Err-end-2.ensures.died;
+  knows = tt;
+  kept = λ mounted tells v.
+      dumps_dead g.D.Disk.seen g.D.Disk.moment g.D.Disk.images g.D.Disk.faults _ _ _ mounted _ _ (c.in-Err-end-2.ensures.safe mounted c.write.new.store.log (Err c.in-Err.fault) tells (c.in-Err.ensures.written mounted c.begin.new.world tells (c.in-Ok.ensures.pending mounted tells (ready_mounted g.D.Disk.seen g.D.Disk.moment g.D.Disk.images g.D.Disk.faults mounted c.args.store.now.log c.args.first.now c.args.second.now c.args.world.now c.requires.some v))));
+  first_attached = c.write.ensures.first_attached;
+  second_attached = c.write.ensures.second_attached;
+  first_later = c.write.ensures.first_later;
+  second_later = c.write.ensures.second_later;
+  cause = tt;
+  apart = tt;
+}
