@@ -3,3 +3,4 @@ pub mod CommandRows
 pub mod PrimRows
 pub mod SendRows
 pub mod EventRows
+pub mod QueueRows

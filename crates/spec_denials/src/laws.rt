@@ -34,6 +34,7 @@ ghost use Rattle.spec_denials.specs.inner.CommandRows.{CommandRows};
 ghost use Rattle.spec_denials.specs.inner.PrimRows.{PrimRows};
 ghost use Rattle.spec_denials.specs.inner.SendRows.{SendRows};
 ghost use Rattle.spec_denials.specs.inner.EventRows.{EventRows};
+ghost use Rattle.spec_denials.specs.inner.QueueRows.{QueueRows};
 ghost use Rattle.spec_denials.specs.Denials.{AllDenialsNamed};
 
 /// Says what each primitive of objects, of properties and of talk asks leave for. Where it is denied, the first of these acts that is
@@ -77,13 +78,14 @@ pub fn lines_ask()
 {}
 
 /// The worked rows of what other crates define hold. It does nothing: its clauses are the rows.
-#[tactic(auto, using(crate::specs::inner::RightRows::right_rows, crate::specs::inner::CommandRows::command_rows, crate::specs::inner::PrimRows::prim_rows, crate::specs::inner::SendRows::send_rows, crate::specs::inner::EventRows::event_rows))]
+#[tactic(auto, using(crate::specs::inner::RightRows::right_rows, crate::specs::inner::CommandRows::command_rows, crate::specs::inner::PrimRows::prim_rows, crate::specs::inner::SendRows::send_rows, crate::specs::inner::EventRows::event_rows, crate::specs::inner::QueueRows::queue_rows))]
 pub fn rows_hold()
     ensures rights { RightRows }
     ensures commands { CommandRows }
     ensures prims { PrimRows }
     ensures sending { SendRows }
     ensures events { EventRows }
+    ensures queues { QueueRows }
 {}
 
 /// Says it of each unit that slices take in a history, and of what its lines start. It does nothing.
