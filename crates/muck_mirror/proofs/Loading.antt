@@ -1,5 +1,5 @@
 -- The records of a sound world make objects that hang together.
-use Rattle.std.proofs.Common.{◌≡◌, ℕ, ◌≤◌, true, List, length}
+use Rattle.std.proofs.Common.{◌≡◌, ◌≤◌, true, List, length}
 use Rattle.std.proofs.lemmas.Bool.{and_parts, leb-true}
 use Rattle.std.proofs.lemmas.List.Elements.{All-weaker}
 use Rattle.std.specs.Prelude.{All, nat_le}
