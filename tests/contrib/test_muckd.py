@@ -204,7 +204,8 @@ def sentences(folder):
     for status, shown in ((0, ""), (3, "muckd: NoMemory: memory was refused\n"), (5, "muckd: WriteFault: standard output can't be written\n")):
         same("a drill", at_terminal(muckd, "drill", "1", folder=folder, typed=str(status).encode()), (status, "", shown))
     # a mirror stores none
-    for status, shown in ((0, ""), (3, "muckd: NoMemory: memory was refused\n"), (5, "muckd: WriteFault: standard output can't be written, so the replies aren't whole\n")):
+    for status, shown in ((0, ""), (3, "muckd: NoMemory: memory was refused\n"), (5, "muckd: WriteFault: standard output can't be written, so the replies aren't whole\n"),
+                          (6, "muckd: DiskFault: are world.a and world.b there, and may they be read? Or is the disk broken?\n")):
         same("a mirror", at_terminal(muckd, "mirror", "world", folder=folder, typed=str(status).encode()), (status, "", shown))
     # the program that doesn't read its words as bin/at-terminal does: each is one word still
     muckd = tree(folder, put(folder, "fake", '#!/bin/sh\nprintf "<%s>" "$@"\ncat\n', 0o755))

@@ -8,3 +8,4 @@ pub mod Indices
 pub mod Batches
 pub mod Steps
 pub mod Fronts
+pub mod Loading

@@ -3,3 +3,4 @@ pub mod Bodies
 pub mod Laying
 pub mod Mirrors
 pub mod Fronts
+pub mod Looks

@@ -2,12 +2,15 @@
 #![tactic(auto)]
 
 mod body;
+mod fault;
 mod feeding;
 mod laws;
+mod looks;
 mod mirror;
 mod start;
 mod world;
 
+pub use fault::MirrorFault;
 pub use laws::holds_front;
 pub use mirror::{Fed, Mirror};
 pub use world::World;
