@@ -11,7 +11,7 @@ use Rattle.muck_mirror.proofs.Fronts.{holds}
 use Rattle.muck_bodies.specs.Bodies.{bodies_of, body_numbered, number_of, first_number}
 use Rattle.muck_bodies.proofs.Stores.{lead_there}
 use Rattle.muck_follow.specs.declared.act.Act.{Act}
-use Rattle.muck_follow.specs.declared.act.Act.TheVariants.{Nothing, Feed}
+use Rattle.muck_follow.specs.declared.act.Act.TheVariants.{Nothing, Feed, Look, Examine}
 use Rattle.muck_follow.specs.Following.{body_left, left_by, left_after, call_with, calls_by, calls_of, mirror_of}
 use Rattle.muck_follow.specs.Fronts.{AreBytes, FollowsFront, FollowsThere}
 use Rattle.muck_follow.proofs.Batches.{AllBytes, Row, rows, all_bytes, few, small_first}
@@ -24,6 +24,8 @@ after_both (c ∷ xs) ys m = after_both xs ys (left_by_call c m)
 after_one : (act : Act) (bs : List (List ℕ)) (m : Mirror) → after_calls (calls_by act bs) m ≡ left_by act bs m
 unfolding after_calls
 after_one Nothing bs m = refl
+after_one (Look d) bs m = refl
+after_one (Examine d) bs m = refl
 after_one (Feed k) bs m = by (body_numbered k bs)
   where
     by : (o : Option (List ℕ)) → after_calls (call_with o) m ≡ body_left o m
@@ -57,6 +59,8 @@ ones (act ∷ acts) bs = All-append (λ (c : Call). IsOneOf bs c.bytes) (calls_b
 
     of_act : (act : Act) → AllOneOf bs (calls_by act bs)
     of_act Nothing = All-nil (λ (c : Call). IsOneOf bs c.bytes)
+    of_act (Look d) = All-nil (λ (c : Call). IsOneOf bs c.bytes)
+    of_act (Examine d) = All-nil (λ (c : Call). IsOneOf bs c.bytes)
     of_act (Feed k) = with_body k (body_numbered k bs) refl
 
 follows_file : (acts : List Act) (s : Chosen) (file : List ℕ) → AreBytes file → length file ≤ 2 ^ 63 → Row s.held.generation (first_number (bodies_of file)) start (bodies_of file) s.held.world → first_number (bodies_of file) < 2 ^ 64

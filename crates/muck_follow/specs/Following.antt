@@ -1,13 +1,15 @@
 -- What is written of a script by which a mirror follows a store.
 use Rattle.std.specs.Prelude.{ℕ, false, List, [], ◌∷◌, ◌++◌, codes, decimal, Option, Some, None}
+use Rattle.std.specs.List.{flat_map}
 use Rattle.muck_log.specs.Store.{Chosen}
 use Rattle.muck_mirror.specs.declared.mirror.Fed.{Fed}
 use Rattle.muck_mirror.specs.declared.mirror.Fed.TheVariants.{Applied, Known, Early, Full, Strange}
 use Rattle.muck_mirror.specs.Mirrors.{Mirror, made, fed}
 use Rattle.muck_mirror.specs.Fronts.{Call}
+use Rattle.muck_mirror.specs.Looks.{looked_at, examined_at}
 use Rattle.muck_bodies.specs.Bodies.{bodies_of, body_numbered, first_number}
 use Rattle.muck_follow.specs.declared.act.Act.{Act}
-use Rattle.muck_follow.specs.declared.act.Act.TheVariants.{Nothing, Feed}
+use Rattle.muck_follow.specs.declared.act.Act.TheVariants.{Nothing, Feed, Look, Examine}
 
 abbrev pub line : List ℕ → List ℕ
 line text = text ++ 10 ∷ []
@@ -28,15 +30,27 @@ abbrev pub body_left : Option (List ℕ) → Mirror → Mirror
 body_left None m = m
 body_left (Some bytes) m = (fed m bytes).1
 
+-- the lines that are seen of an object, or that it isn't there
+abbrev pub lines_text : List (List ℕ) → List ℕ
+lines_text lines = flat_map line lines
+
+abbrev pub seen_text : Option (List (List ℕ)) → List ℕ
+seen_text None = line (codes "no object")
+seen_text (Some lines) = lines_text lines
+
 -- the reply to a line of a script, by the bodies of the store and the mirror as it stands
 abbrev pub reply_of : Act → List (List ℕ) → Mirror → List ℕ
 reply_of Nothing bodies m = []
 reply_of (Feed k) bodies m = body_reply (body_numbered k bodies) m
+reply_of (Look d) bodies m = seen_text (looked_at m d)
+reply_of (Examine d) bodies m = seen_text (examined_at m d)
 
--- the mirror behind that line
+-- the mirror behind that line, which looking leaves as it is
 abbrev pub left_by : Act → List (List ℕ) → Mirror → Mirror
 left_by Nothing bodies m = m
 left_by (Feed k) bodies m = body_left (body_numbered k bodies) m
+left_by (Look d) bodies m = m
+left_by (Examine d) bodies m = m
 
 -- the replies to all lines
 unfoldable pub replies : List Act → List (List ℕ) → Mirror → List ℕ
@@ -64,6 +78,8 @@ call_with (Some bytes) = record { bytes = bytes; refused = false } ∷ []
 abbrev pub calls_by : Act → List (List ℕ) → List Call
 calls_by Nothing bodies = []
 calls_by (Feed k) bodies = call_with (body_numbered k bodies)
+calls_by (Look d) bodies = []
+calls_by (Examine d) bodies = []
 
 abbrev pub calls_of : List Act → List (List ℕ) → List Call
 calls_of [] bodies = []

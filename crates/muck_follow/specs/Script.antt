@@ -2,8 +2,9 @@
 use Rattle.std.specs.Prelude.{ℕ, ◌+◌, ◌-◌, ◌^◌, ◌==◌, ◌||◌, not, nat_lt, if◌then◌else◌, List, [], ◌∷◌, length, take, drop, Option, Some, None, Result, Ok, Err, codes, bytes_eq}
 use Rattle.std.specs.Option.{option_map}
 use Rattle.muck_model.specs.Decimal.{decimal_of}
+use Rattle.muck_model.specs.Numbers.{dbref_of}
 use Rattle.muck_follow.specs.declared.act.Act.{Act}
-use Rattle.muck_follow.specs.declared.act.Act.TheVariants.{Nothing, Feed}
+use Rattle.muck_follow.specs.declared.act.Act.TheVariants.{Nothing, Feed, Look, Examine}
 use Rattle.muck_follow.specs.Lines.{lines_of}
 
 -- a number below 2 ^ 64
@@ -18,9 +19,30 @@ if_positive (Some n) = if nat_lt 0 n then Some n else None
 abbrev pub number_of : List ℕ → Option ℕ
 number_of text = if_positive (decimal_number text)
 
--- `feed `, and the number of a batch
+-- what stands behind a word at the front of a line, where it begins with that
+abbrev pub behind : List ℕ → List ℕ → Option (List ℕ)
+behind word line = if nat_lt (length line) (length word) || not (bytes_eq (take (length word) line) word) then None else Some (drop (length word) line)
+
+abbrev pub if_behind : Option (List ℕ) → (List ℕ → Option Act) → Option Act → Option Act
+if_behind (Some rest) ask otherwise = ask rest
+if_behind None ask otherwise = otherwise
+
+-- the number of a batch, or of an object: `#`, a `-` or none, and 32 bits in decimal without leading zeros
+abbrev pub feeding : List ℕ → Option Act
+feeding rest = option_map Feed (number_of rest)
+
+abbrev pub looking : List ℕ → Option Act
+looking rest = option_map Look (dbref_of rest)
+
+abbrev pub examining : List ℕ → Option Act
+examining rest = option_map Examine (dbref_of rest)
+
+-- a word, a space, and what number is meant
 abbrev pub asked : List ℕ → Option Act
-asked line = if nat_lt (length line) 5 || not (bytes_eq (take 5 line) (codes "feed ")) then None else option_map Feed (number_of (drop 5 line))
+asked line =
+    if_behind (behind (codes "feed ") line) feeding
+    (if_behind (behind (codes "look ") line) looking
+    (if_behind (behind (codes "examine ") line) examining None))
 
 -- what a line asks for, or none where it is outside the grammar; the empty line and one that begins with # ask for nothing
 unfoldable pub act_of : List ℕ → Option Act

@@ -1,5 +1,7 @@
 // What a line of a script asks for.
 
+use muck_model::Dbref;
+
 /// What a line of a mirror's script asks for.
 #[derive(Clone, Copy, Drop)]
 pub enum Act {
@@ -7,4 +9,8 @@ pub enum Act {
     Nothing,
     /// That the mirror is fed the batch of this number.
     Feed(u64),
+    /// That an object is shown as who looks at it sees it.
+    Look(Dbref),
+    /// That it is shown as who examines it sees it.
+    Examine(Dbref),
 }

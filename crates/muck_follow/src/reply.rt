@@ -3,14 +3,15 @@ ghost use Rattle.std.specs.Prelude.{◌≡◌, ◌≤◌, ◌++◌, ◌∷◌, [
 ghost use Rattle.muck_io.specs.Faults.{Rose};
 ghost use Rattle.muck_log.specs.Store.{LeavesOnly};
 ghost use Rattle.muck_bodies.specs.Bodies.{bodies_of, body_numbered};
-ghost use Rattle.muck_follow.specs.Following.{line, fed_text, body_reply, body_left, reply_of, left_by};
+ghost use Rattle.muck_mirror.specs.Looks.{looked_at, examined_at};
+ghost use Rattle.muck_follow.specs.Following.{line, fed_text, body_reply, body_left, lines_text, seen_text, reply_of, left_by};
 
 use crate::{Act, FollowFault};
 use itoa::Buffer;
 use muck_bodies::body;
 use muck_disk::Disk;
-use muck_mirror::{Fed, Mirror};
-use muck_model::NoMemory;
+use muck_mirror::{Fed, Mirror, MirrorFault};
+use muck_model::{Dbref, Line, NoMemory};
 use std::alloc::Global;
 
 // A line of these bytes.
@@ -59,6 +60,54 @@ fn feed_one(alloc: Global, bytes: Option<Vec<u8>>, mirror: &mut Mirror) -> Resul
     }
 }
 
+fn add_line(text: &mut Vec<u8>, shown: &Line) -> Result<(), NoMemory>
+    ensures { OnOk result (text.new.items ≡ text.old.items ++ line shown.now) }
+{
+    text.extend_from_slice(shown.as_slice())?;
+    text.push(b'\n')?;
+    Ok(())
+}
+
+fn add_lines(text: &mut Vec<u8>, lines: &[Line]) -> Result<(), NoMemory>
+    ensures { OnOk result (text.new.items ≡ text.old.items ++ lines_text lines.now) }
+{
+    for shown in lines {
+        add_line(text, shown)?;
+    }
+    Ok(())
+}
+
+// These lines, one after another.
+fn lines_text(alloc: Global, lines: &[Line]) -> Result<Vec<u8>, NoMemory>
+    ensures { IfOk result (λ text. text.items ≡ lines_text lines.now) }
+{
+    let mut text = Vec::new(alloc);
+    add_lines(&mut text, lines)?;
+    Ok(text)
+}
+
+// What is seen of an object by who looks at it.
+fn look_text(alloc: Global, mirror: &Mirror, d: Dbref) -> Result<Vec<u8>, NoMemory>
+    ensures { IfOk result (λ text. text.items ≡ seen_text (looked_at mirror.now d)) }
+{
+    match mirror.look(d) {
+        Ok(lines) => lines_text(alloc, lines.as_slice()),
+        Err(MirrorFault::NoSuchObject) => line(alloc, b"no object"),
+        Err(MirrorFault::NoMemory) => Err(NoMemory),
+    }
+}
+
+// What is seen of an object by who examines it.
+fn examine_text(alloc: Global, mirror: &Mirror, d: Dbref) -> Result<Vec<u8>, NoMemory>
+    ensures { IfOk result (λ text. text.items ≡ seen_text (examined_at mirror.now d)) }
+{
+    match mirror.examine(d) {
+        Ok(lines) => lines_text(alloc, lines.as_slice()),
+        Err(MirrorFault::NoSuchObject) => line(alloc, b"no object"),
+        Err(MirrorFault::NoMemory) => Err(NoMemory),
+    }
+}
+
 /// Does what a line asks for, and answers the reply to it.
 pub fn reply<D: Disk>(
     alloc: Global,
@@ -82,5 +131,7 @@ pub fn reply<D: Disk>(
             let text = feed_one(alloc, bytes, mirror)?;
             Ok(text)
         }
+        Act::Look(d) => Ok(look_text(alloc, mirror, d)?),
+        Act::Examine(d) => Ok(examine_text(alloc, mirror, d)?),
     }
 }
