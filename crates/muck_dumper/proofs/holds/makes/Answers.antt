@@ -1,4 +1,4 @@
-use Rattle.std.proofs.Common.{refl, sym, ◌∙◌, None, Ok, Err}
+use Rattle.std.proofs.Common.{refl, sym, ◌∙◌, arith, None, Ok, Err}
 use Rattle.spec_events.specs.Own.{Stage}
 use Rattle.spec_dumps.specs.Fronts.{at_cut}
 use Rattle.spec_dumps.specs.inner.Holding.{Keeps}
@@ -24,9 +24,6 @@ write-requires-clause-batch g c =
 pub returns-in-Ok-clause-knows : goal.returns-in-Ok-clause-knows
 returns-in-Ok-clause-knows g c =
     on_ok c.ends.result (c.ends.ensures.marks (c.write.ensures.marks _ _ c.requires.batch)) (λ goes. knows_stored c.write.new.store (history_seen c.ends.new.seat.me.0) c.in-Ok.ensures.some goes)
-
-pub returns-clause-knows : goal.returns-clause-knows
-returns-clause-knows g c = c.fails.ensures.knows (c.write.ensures.marks _ _ c.requires.batch) (c.in-Err.ensures.number ∙ sym c.requires.number)
 
 pub returns-in-Ok-clause-ok : goal.returns-in-Ok-clause-ok
 returns-in-Ok-clause-ok g c =
@@ -55,23 +52,29 @@ returns-in-NoMemory-clause-err g c =
     c.args.seat.now.me c.dies.new.seat.me (λ mounted on p. (c.in-Err.ensures.written mounted (history_seen c.args.seat.now.me.0) on p).keeps)
     (c.dies.ensures.stops None (Stage.dumping c.args.pending.number) refl)
 
-pub returns-clause-ok : goal.returns-clause-ok
-returns-clause-ok g c =
-    on_ok c.fails.result (c.fails.ensures.ok (Err (told_as c.in-Err.fault)) (told_ends c.in-Err.fault c.in_default.not-NoMemory)) (λ t.
-    watches_before g.D.Disk.tells g.D.Disk.seen g.D.Disk.moment g.D.Disk.images g.D.Disk.faults c.fails.new.store.log c.fails.new.first c.fails.new.second (Stage.dumping c.args.pending.number)
-    (λ mounted. IsPending g.D.Disk.seen g.D.Disk.moment g.D.Disk.images g.D.Disk.faults c.args.store.now.log c.args.first.now c.args.second.now mounted (history_seen c.args.seat.now.me.0) c.args.pending)
-    (λ mounted. IsWritten g.D.Disk.seen g.D.Disk.moment g.D.Disk.images g.D.Disk.faults c.write.new.store.log c.write.new.first c.write.new.second mounted (history_seen c.args.seat.now.me.0) (Err (told_as c.in-Err.fault)))
-    c.args.seat.now.me c.fails.new.seat.me (λ mounted on p.
-    told_written g.D.Disk.seen g.D.Disk.moment g.D.Disk.images g.D.Disk.faults c.write.new.store.log c.write.new.first c.write.new.second mounted (history_seen c.args.seat.now.me.0) c.in-Err.fault (c.in-Err.ensures.written mounted (history_seen c.args.seat.now.me.0) on p)) t)
-
-pub returns-clause-err : goal.returns-clause-err
-returns-clause-err g c =
-    if_err c.fails.result
-    (λ fault. Stops g.D.Disk.tells g.D.Disk.moment g.D.Disk.images g.D.Disk.faults c.fails.new.first c.fails.new.second fault (Stage.dumping c.args.pending.number) (λ mounted. IsWritten g.D.Disk.seen g.D.Disk.moment g.D.Disk.images g.D.Disk.faults c.write.new.store.log c.write.new.first c.write.new.second mounted (history_seen c.args.seat.now.me.0) (Err (told_as c.in-Err.fault))) c.args.seat.now.me c.fails.new.seat.me)
-    (λ fault. Stops g.D.Disk.tells g.D.Disk.moment g.D.Disk.images g.D.Disk.faults c.fails.new.first c.fails.new.second fault (Stage.dumping c.args.pending.number) (λ mounted. IsPending g.D.Disk.seen g.D.Disk.moment g.D.Disk.images g.D.Disk.faults c.args.store.now.log c.args.first.now c.args.second.now mounted (history_seen c.args.seat.now.me.0) c.args.pending) c.args.seat.now.me c.fails.new.seat.me)
-    (c.fails.ensures.err (Err (told_as c.in-Err.fault)) (told_ends c.in-Err.fault c.in_default.not-NoMemory)) (λ fault t.
-    stops_before g.D.Disk.tells g.D.Disk.moment g.D.Disk.images g.D.Disk.faults c.fails.new.first c.fails.new.second fault (Stage.dumping c.args.pending.number)
-    (λ mounted. IsPending g.D.Disk.seen g.D.Disk.moment g.D.Disk.images g.D.Disk.faults c.args.store.now.log c.args.first.now c.args.second.now mounted (history_seen c.args.seat.now.me.0) c.args.pending)
-    (λ mounted. IsWritten g.D.Disk.seen g.D.Disk.moment g.D.Disk.images g.D.Disk.faults c.write.new.store.log c.write.new.first c.write.new.second mounted (history_seen c.args.seat.now.me.0) (Err (told_as c.in-Err.fault)))
-    c.args.seat.now.me c.fails.new.seat.me (λ mounted on p.
-    told_written g.D.Disk.seen g.D.Disk.moment g.D.Disk.images g.D.Disk.faults c.write.new.store.log c.write.new.first c.write.new.second mounted (history_seen c.args.seat.now.me.0) c.in-Err.fault (c.in-Err.ensures.written mounted (history_seen c.args.seat.now.me.0) on p)) t)
+pub returns-in_default : goal.returns-in_default
+returns-in_default g c = record {
+  own = c.fails.ensures.own;
+  knows = c.fails.ensures.knows (c.write.ensures.marks _ _ c.requires.batch) (c.in-Err.ensures.number ∙ sym c.requires.number);
+  ok =
+      on_ok c.fails.result (c.fails.ensures.ok (Err (told_as c.in-Err.fault)) (told_ends c.in-Err.fault c.in_default.not-NoMemory)) (λ t.
+      watches_before g.D.Disk.tells g.D.Disk.seen g.D.Disk.moment g.D.Disk.images g.D.Disk.faults c.fails.new.store.log c.fails.new.first c.fails.new.second (Stage.dumping c.args.pending.number)
+      (λ mounted. IsPending g.D.Disk.seen g.D.Disk.moment g.D.Disk.images g.D.Disk.faults c.args.store.now.log c.args.first.now c.args.second.now mounted (history_seen c.args.seat.now.me.0) c.args.pending)
+      (λ mounted. IsWritten g.D.Disk.seen g.D.Disk.moment g.D.Disk.images g.D.Disk.faults c.write.new.store.log c.write.new.first c.write.new.second mounted (history_seen c.args.seat.now.me.0) (Err (told_as c.in-Err.fault)))
+      c.args.seat.now.me c.fails.new.seat.me (λ mounted on p.
+      told_written g.D.Disk.seen g.D.Disk.moment g.D.Disk.images g.D.Disk.faults c.write.new.store.log c.write.new.first c.write.new.second mounted (history_seen c.args.seat.now.me.0) c.in-Err.fault (c.in-Err.ensures.written mounted (history_seen c.args.seat.now.me.0) on p)) t);
+  err =
+      if_err c.fails.result
+      (λ fault. Stops g.D.Disk.tells g.D.Disk.moment g.D.Disk.images g.D.Disk.faults c.fails.new.first c.fails.new.second fault (Stage.dumping c.args.pending.number) (λ mounted. IsWritten g.D.Disk.seen g.D.Disk.moment g.D.Disk.images g.D.Disk.faults c.write.new.store.log c.write.new.first c.write.new.second mounted (history_seen c.args.seat.now.me.0) (Err (told_as c.in-Err.fault))) c.args.seat.now.me c.fails.new.seat.me)
+      (λ fault. Stops g.D.Disk.tells g.D.Disk.moment g.D.Disk.images g.D.Disk.faults c.fails.new.first c.fails.new.second fault (Stage.dumping c.args.pending.number) (λ mounted. IsPending g.D.Disk.seen g.D.Disk.moment g.D.Disk.images g.D.Disk.faults c.args.store.now.log c.args.first.now c.args.second.now mounted (history_seen c.args.seat.now.me.0) c.args.pending) c.args.seat.now.me c.fails.new.seat.me)
+      (c.fails.ensures.err (Err (told_as c.in-Err.fault)) (told_ends c.in-Err.fault c.in_default.not-NoMemory)) (λ fault t.
+      stops_before g.D.Disk.tells g.D.Disk.moment g.D.Disk.images g.D.Disk.faults c.fails.new.first c.fails.new.second fault (Stage.dumping c.args.pending.number)
+      (λ mounted. IsPending g.D.Disk.seen g.D.Disk.moment g.D.Disk.images g.D.Disk.faults c.args.store.now.log c.args.first.now c.args.second.now mounted (history_seen c.args.seat.now.me.0) c.args.pending)
+      (λ mounted. IsWritten g.D.Disk.seen g.D.Disk.moment g.D.Disk.images g.D.Disk.faults c.write.new.store.log c.write.new.first c.write.new.second mounted (history_seen c.args.seat.now.me.0) (Err (told_as c.in-Err.fault)))
+      c.args.seat.now.me c.fails.new.seat.me (λ mounted on p.
+      told_written g.D.Disk.seen g.D.Disk.moment g.D.Disk.images g.D.Disk.faults c.write.new.store.log c.write.new.first c.write.new.second mounted (history_seen c.args.seat.now.me.0) c.in-Err.fault (c.in-Err.ensures.written mounted (history_seen c.args.seat.now.me.0) on p)) t);
+  first_later = omega (arith, c.write.ensures.first_later, c.fails.ensures.first_later);
+  second_later = omega (arith, c.write.ensures.second_later, c.fails.ensures.second_later);
+  first_attached = c.fails.ensures.first_attached ∙ c.write.ensures.first_attached;
+  second_attached = c.fails.ensures.second_attached ∙ c.write.ensures.second_attached;
+}
