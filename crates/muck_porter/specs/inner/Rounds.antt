@@ -10,8 +10,8 @@ use Rattle.spec_serve.specs.Promises.{Tally}
 use Rattle.spec_serve.specs.inner.Keeping.{Peer}
 use Rattle.muck_peer.specs.Moves.{LinkStep}
 use Rattle.muck_machine.specs.inner.Seats.{Sight, Chair}
-use Rattle.muck_porter.specs.declared.serving.Fault.{Fault}
-use Rattle.muck_porter.specs.declared.serving.Fault.TheVariants.{NoMemory, Spent}
+use Rattle.muck_porter.specs.declared.desk.Fault.{Fault}
+use Rattle.muck_porter.specs.declared.desk.Fault.TheVariants.{NoMemory, Spent}
 use Rattle.muck_porter.specs.declared.rounds.Round.{Round}
 use Rattle.muck_porter.specs.declared.rounds.Round.TheVariants.{Busy, Idle, Left}
 use Rattle.muck_porter.specs.inner.Kept.{Ready, ReadyTimed, BooksAt, KeptBy, Stopped, EndsWithStop}
