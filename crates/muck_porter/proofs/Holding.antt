@@ -51,7 +51,7 @@ may_resting Die d may = may.1.resting
 may_resting (Open n) d may = absurd may
 
 may_formed : (deed : Deed) (d : Stand) → MayDo deed d → IsWellFormed 0 (events_of d.me.0.own)
-may_formed (Slice pid) d may = formed_at d.me.0.own (Stage.claimed pid) may.2
+may_formed (Slice pid) d may = formed_at d.me.0.own (Stage.claimed pid) may.3
 may_formed Stop d may = formed_free d.me.0.own may.0.1.free
 may_formed Time d may = formed_free d.me.0.own may.1.free
 may_formed Leave d may = formed_free d.me.0.own may.1.free
@@ -59,7 +59,7 @@ may_formed Die d may = formed_free d.me.0.own may.1.free
 may_formed (Open n) d may = absurd may
 
 pub may_claim : (deed : Deed) (d : Stand) → MayDo deed d → ClaimAt deed d.me.0
-may_claim (Slice pid) d may = may.3
+may_claim (Slice pid) d may = may.2
 may_claim Stop d may = tt
 may_claim Time d may = tt
 may_claim Leave d may = tt
@@ -177,7 +177,7 @@ module _ (d : Stand) (me' : Chair) (table' : TableId) (id' : ℕ) (noted' : Bool
   pub work_goes : ReadyTimed d.noted d.me → (worked : Worked) → WorkedAs worked event → Goes (work_far worked) d held
   work_goes timed WorkedDone x = goes_held Far.free (sits_held, ready_at (at_stage (Exec x.0) Stage.timed Stage.unbound x.1 timed.timed refl)) (λ t. unseen (Exec x.0) x.1 (record { halts = refl; talked = λ v ts. refl }))
   work_goes timed (Claimed pid) x = goes_held (Far.claimed pid)
-      (sits_held, resting_held, at_stage (Claim pid) Stage.timed (Stage.claimed pid) x timed.timed refl, (d.me.0.seen ++ taken.1.others, taken.1.item, taken.1.seen, taken.1.entry ∙ ap by_porter x))
+      (sits_held, resting_held, (d.me.0.seen ++ taken.1.others, taken.1.item, taken.1.seen, taken.1.entry ∙ ap by_porter x), at_stage (Claim pid) Stage.timed (Stage.claimed pid) x timed.timed refl)
       (λ t. unseen (Claim pid) x (record { halts = refl; talked = λ v ts. refl }))
   work_goes timed Idle (inl x) = goes_held Far.free (sits_held, ready_at (at_stage IdleEvent Stage.timed Stage.unbound x timed.timed refl)) (λ t. unseen IdleEvent x (record { halts = refl; talked = λ v ts. refl }))
   work_goes timed Idle (inr x) = moment_free (IsFree.timed timed.timed) x
@@ -212,10 +212,10 @@ module _ (d : Stand) (me' : Chair) (table' : TableId) (id' : ℕ) (noted' : Bool
   deed_goes Stop may Done x = goes_held Far.free (sits_held, ready_at (at_free Halt Stage.unbound x may.0.1.free refl refl)) (halted may.0.1 may.1 x)
   deed_goes Stop may Timed x = moment_free may.0.1.free x
   deed_goes Stop may Dead x = died_free d.peers d.coming may.0.1.free x
-  deed_goes (Slice pid) may Done (inl x) = slice_at pid (SliceEvent pid) x may.2 (same_claim pid) (record { halts = refl; talked = λ v ts. refl })
-  deed_goes (Slice pid) may Done (inr x) = slice_at pid (Lost pid) x may.2 (same_claim pid) (record { halts = refl; talked = λ v ts. refl })
+  deed_goes (Slice pid) may Done (inl x) = slice_at pid (SliceEvent pid) x may.3 (same_claim pid) (record { halts = refl; talked = λ v ts. refl })
+  deed_goes (Slice pid) may Done (inr x) = slice_at pid (Lost pid) x may.3 (same_claim pid) (record { halts = refl; talked = λ v ts. refl })
   deed_goes (Slice pid) may Timed x = absurd x
-  deed_goes (Slice pid) may Dead x = died_goes d.peers d.coming (at_stage Died (Stage.claimed pid) Stage.ended x may.2 refl) x
+  deed_goes (Slice pid) may Dead x = died_goes d.peers d.coming (at_stage Died (Stage.claimed pid) Stage.ended x may.3 refl) x
   deed_goes Leave may Done x = left_goes may.1 x
   deed_goes Leave may Timed x = moment_free may.1.free x
   deed_goes Leave may Dead x = died_free d.peers d.coming may.1.free x

@@ -71,7 +71,7 @@ Sits d = (d.seat_table ≡ d.table) × IsNew d.coming
 abbrev pub Stands : Far → Stand → Type 0
 Stands Far.free d = Sits d × Ready d.noted d.me
 Stands Far.timed d = Sits d × ReadyTimed d.noted d.me
-Stands (Far.claimed pid) d = Sits d × Resting d.noted d.me × IsAt (Stage.claimed pid) d.me.0.own × HasClaimed pid d.me.0
+Stands (Far.claimed pid) d = Sits d × Resting d.noted d.me × HasClaimed pid d.me.0 × IsAt (Stage.claimed pid) d.me.0.own
 Stands Far.left d = EndsWithStop d.me.0.own × Over d.me
 Stands (Far.ended fault) d = Over d.me × EndsEarly fault d.me.0
 
