@@ -74,9 +74,13 @@ module _ (d d' : Stand) (fresh : Fresh d) where
     spent = λ s. subst (λ (x : Fault). EndsEarly x d'.me.0) (had s) g.stands.1;
   }
 
-  pub porter_done : (why : Why) → (why ≡ ListenFault → d'.broke ≡ true) → Goes (why_far why) d d'
+  done_by : (why : Why) → (why ≡ ListenFault → d'.broke ≡ true) → Goes (why_far why) d d'
       → PorterDone why d.tells (account d.told d.listening d.answers) (account d'.told d'.listening d'.answers) d.me d'.me
-  porter_done Fine fell g = done_left Fine (λ e. cc) fell g
-  porter_done ListenFault fell g = done_left ListenFault (λ e. cc) fell g
-  porter_done NoMemory fell g = done_ended NoMemory Dead (not_stopped NoMemory refl) (λ e. cc) (λ e. cc) (λ n. refl) g
-  porter_done Spent fell g = done_ended Spent Had (not_stopped Spent refl) (λ e. cc) (λ e. refl) (λ n. absurd (n refl)) g
+  done_by Fine fell g = done_left Fine (λ e. cc) fell g
+  done_by ListenFault fell g = done_left ListenFault (λ e. cc) fell g
+  done_by NoMemory fell g = done_ended NoMemory Dead (not_stopped NoMemory refl) (λ e. cc) (λ e. cc) (λ n. refl) g
+  done_by Spent fell g = done_ended Spent Had (not_stopped Spent refl) (λ e. cc) (λ e. refl) (λ n. absurd (n refl)) g
+
+pub porter_done : (why : Why) (d d' : Stand) → Goes (why_far why) d d' → Fresh d → (why ≡ ListenFault → d'.broke ≡ true)
+    → PorterDone why d.tells (account d.told d.listening d.answers) (account d'.told d'.listening d'.answers) d.me d'.me
+porter_done why d d' g fresh fell = done_by d d' fresh why fell g

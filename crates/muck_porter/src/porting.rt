@@ -137,6 +137,8 @@ pub fn porter<W: Wait, L: Links, C: Clock, G: Gate, R: Rest>(
     ensures tells { L.tells links.new ≡ L.tells links.old }
     ensures done { PorterDone result (L.tells links.old) (account (L.told links.old) (L.listening links.old) (C.answers clock.old)) (account (L.told links.new) (L.listening links.new) (C.answers clock.new)) seat.old.me seat.new.me }
 {
+    let room_none = Vec::new(alloc);
+    let peers = Vec::new(alloc);
     let mut desk = Desk {
         rt,
         alloc,
@@ -146,11 +148,11 @@ pub fn porter<W: Wait, L: Links, C: Clock, G: Gate, R: Rest>(
         clock,
         gate,
         rest,
-        room: Vec::new(alloc),
+        room: room_none,
         noted: false,
         broke: false,
         moved: false,
-        peers: Vec::new(alloc),
+        peers,
         coming: None,
     };
     match room(alloc) {
