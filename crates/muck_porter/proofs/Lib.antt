@@ -10,7 +10,7 @@ pub mod OneServed
 pub mod InRounds
 pub mod Going
 pub mod Holding
-pub mod Serving
+pub mod DeskServed
 pub mod Linking
 pub mod Ending
 pub mod Whole

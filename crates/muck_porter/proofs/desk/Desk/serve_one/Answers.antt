@@ -4,7 +4,7 @@ use Rattle.muck_porter.specs.inner.Rounds.{Nearer}
 use Rattle.muck_porter.specs.inner.Desks.{stand}
 use Rattle.muck_porter.proofs.Stages.{formed_free}
 use Rattle.muck_porter.proofs.Holding.{spent_goes}
-use Rattle.muck_porter.proofs.Serving.{went_goes, closed_goes, nobody_goes, dead_goes}
+use Rattle.muck_porter.proofs.DeskServed.{went_goes, closed_goes, nobody_goes, dead_goes}
 use Rattle.muck_porter.proofs.OneServed.{went_below, closed_below, went_nearer, closed_nearer}
 use Rattle.muck_porter.proofs.Turning.{turn_entry, turn_start, turn_made}
 use Rattle.muck_porter.proofs.Quiet.{served_quiet}
