@@ -28,7 +28,7 @@ pub fresh_stands : (d : Stand) → Fresh d → Stands Far.free d
 fresh_stands d f = ((f.seat, subst IsNew (sym f.coming) tt), subst (λ (n : Bool). Ready n d.me) (sym f.noted) (ready_fresh d.me f.ready))
 
 module _ (d d' : Stand) (fresh : Fresh d) where
-  start : Tally
+  abbrev start : Tally
   start = tally d.told d.listening
 
   booked : Booked start d

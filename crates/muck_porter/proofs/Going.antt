@@ -11,7 +11,7 @@ use Rattle.muck_porter.specs.inner.Reaches.{round_far}
 use Rattle.muck_porter.proofs.Doing.{timed_ready}
 use Rattle.muck_porter.proofs.InRounds.{rose_since}
 
-rose_on : (a n m : ℕ) → Rose a n → n ≤ m → Rose a m
+pub rose_on : (a n m : ℕ) → Rose a n → n ≤ m → Rose a m
 rose_on a n m rose le = omega arith
 
 pub at_most : (n m : ℕ) → m ≡ n → n ≤ m
@@ -21,7 +21,7 @@ later_rose : {A : Type 0} (l m n : ℕ) → m ≤ n → A ⊎ Rose l m → A ⊎
 later_rose l m n le (inl a) = inl a
 later_rose l m n le (inr r) = inr (rose_on l m n r le)
 
-broken : {A B : Type 0} (l m n : ℕ) → l ≤ m → m ≤ n → (B → A ⊎ Rose l m) → B ⊎ Rose m n → A ⊎ Rose l n
+pub broken : {A B : Type 0} (l m n : ℕ) → l ≤ m → m ≤ n → (B → A ⊎ Rose l m) → B ⊎ Rose m n → A ⊎ Rose l n
 broken l m n le more f (inl b) = later_rose l m n more (f b)
 broken l m n le more f (inr r) = inr (rose_since l m n le r)
 
