@@ -1,5 +1,5 @@
 -- Calls of a desk, one behind another.
-use Rattle.std.proofs.Common.{true≢false, ◌≡◌, ◌⊎◌, ℕ, ℤ, ◌≤◌, Bool, true, false, List, Option, refl, sym, ◌∙◌, subst, inl, inr, arith}
+use Rattle.std.proofs.Common.{true≢false, ◌≡◌, ◌⊎◌, ℕ, ℤ, ◌≤◌, true, false, List, Option, refl, sym, ◌∙◌, subst, inl, inr, arith}
 use Rattle.muck_io.specs.Faults.{Rose}
 use Rattle.spec_serve.specs.Promises.{Tally}
 use Rattle.spec_serve.specs.inner.Keeping.{Peer}
@@ -8,7 +8,6 @@ use Rattle.muck_porter.specs.declared.rounds.Round.TheVariants.{Busy, Idle, Left
 use Rattle.muck_porter.specs.inner.Rounds.{is_left}
 use Rattle.muck_porter.specs.inner.Desks.{Stand, Far, Stands, Booked, Books, Goes}
 use Rattle.muck_porter.specs.inner.Reaches.{round_far}
-use Rattle.muck_porter.proofs.Doing.{timed_ready}
 use Rattle.muck_porter.proofs.InRounds.{rose_since}
 
 pub rose_on : (a n m : ℕ) → Rose a n → n ≤ m → Rose a m
@@ -82,19 +81,6 @@ claimed_then pid far a b c g h = then_on (Far.claimed pid) far a b c (λ t x. x)
 pub goes_as : (far far' : Far) (a b : Stand) → far ≡ far' → Goes far a b → Goes far' a b
 goes_as far far' a b is g = subst (λ (f : Far). Goes f a b) is g
 
--- at once behind a moment nothing binds it
-pub timed_free : (a b : Stand) → Goes Far.timed a b → Goes Far.free a b
-timed_free a b g = record {
-  names = g.names;
-  own = g.own;
-  lists = g.lists;
-  time = g.time;
-  tells = g.tells;
-  later = g.later;
-  broke = g.broke;
-  ports = g.ports;
-  stands = (g.stands.0, timed_ready b.noted b.me g.stands.1);
-  books = g.books;
 }
 
 pub round_stays : (round : Round) (a b : Stand) → is_left round ≡ false → Goes (round_far round) a b → Goes Far.free a b

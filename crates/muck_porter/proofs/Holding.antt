@@ -1,5 +1,5 @@
 -- A hold of the porter, at its desk.
-use Rattle.std.proofs.Common.{◌≡◌, ◌⊎◌, ℕ, ℤ, ◌≤◌, Bool, true, false, List, [], ◌∷◌, ◌++◌, ◌^◌, length, refl, sym, ap, ◌∙◌, subst, inl, inr, arith, Option, Some, None}
+use Rattle.std.proofs.Common.{◌≡◌, ◌⊎◌, ℕ, ℤ, ◌≤◌, Bool, true, List, [], ◌∷◌, ◌++◌, ◌^◌, length, refl, sym, ap, ◌∙◌, subst, inl, inr, arith, Option, Some, None}
 use Rattle.atomic_table.specs.Seated.{TableId}
 use Rattle.muck_links.specs.Sessions.{Told}
 use Rattle.muck_model.specs.declared.event.Event.{Event}
@@ -10,7 +10,7 @@ use Rattle.spec_events.specs.Logged.{events_of}
 use Rattle.spec_events.specs.Own.{Stage, next, IsWellFormed}
 use Rattle.spec_events.proofs.Owning.{over_with}
 use Rattle.spec_serve.specs.Promises.{Tally}
-use Rattle.spec_serve.specs.inner.Keeping.{Peer, new_peer}
+use Rattle.spec_serve.specs.inner.Keeping.{Peer}
 use Rattle.muck_machine.specs.inner.Seats.{Chair, Rests, Left as LeftSeat, Waited}
 use Rattle.muck_peer.specs.Moves.{Clocked}
 use Rattle.muck_porter.specs.declared.desk.Fault.TheVariants.{NoMemory, Spent}
@@ -25,9 +25,9 @@ use Rattle.muck_porter.specs.inner.Deeds.{IsMoment, WorkedAs, DidAs}
 use Rattle.muck_porter.specs.inner.Turns.{PorterTurn}
 use Rattle.muck_porter.specs.inner.Moves.{Carries, MayHalt, LastEntry, ClaimAt, number_in, IsNew}
 use Rattle.muck_porter.specs.inner.Desks.{Stand, Far, Sits, Stands, Booked, Books, Goes}
-use Rattle.muck_porter.specs.inner.Reaches.{deed_far, deed_reach, settled_as, work_far, MayStop, MayDo, EndsLast}
+use Rattle.muck_porter.specs.inner.Reaches.{deed_reach, settled_as, work_far, MayStop, MayDo, EndsLast}
 use Rattle.muck_porter.proofs.Timing.{timed_waited, timed_turned}
-use Rattle.muck_porter.proofs.Stages.{stage_item, stage_free, stage_died, same_claim, formed_at, formed_free}
+use Rattle.muck_porter.proofs.Stages.{stage_item, stage_free, same_claim, formed_at, formed_free}
 use Rattle.muck_porter.proofs.Carrying.{IsQuiet, carries_opened, carries_halted}
 use Rattle.muck_porter.proofs.Doing.{over_at, over_waited, ends_waited, last_waited, turn_resting, moment_ready, moment_carries, quiet_carries, died_last, died_ends, timed_ready}
 use Rattle.muck_porter.proofs.InRounds.{leave_left}
