@@ -77,6 +77,10 @@ timed_then far a b c g h = then_on Far.timed far a b c (λ t x. x) g h
 pub claimed_then : (pid : ℤ) (far : Far) (a b c : Stand) → Goes (Far.claimed pid) a b → Goes far b c → Goes far a c
 claimed_then pid far a b c g h = then_on (Far.claimed pid) far a b c (λ t x. x) g h
 
+-- a claim, by another name
+pub claimed_at : (pid pid' : ℤ) (d : Stand) → pid' ≡ pid → Stands (Far.claimed pid) d → Stands (Far.claimed pid') d
+claimed_at pid pid' d is s = subst (λ (n : ℤ). Stands (Far.claimed n) d) (sym is) s
+
 -- how far, by another name
 pub goes_as : (far far' : Far) (a b : Stand) → far ≡ far' → Goes far a b → Goes far' a b
 goes_as far far' a b is g = subst (λ (f : Far). Goes f a b) is g

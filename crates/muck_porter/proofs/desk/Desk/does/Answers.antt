@@ -34,12 +34,11 @@ pub returns-in-Ok : goal.returns-in-Ok
 returns-in-Ok g c =
     let d = stand g.L.Links.tells g.L.Links.told g.L.Links.listening g.C.Clock.answers c.args.self.now in
     let s = c.does-did.ensures in
-    let own = (c.give.ensures.own.0 ∙ c.begins.ensures.own.0, c.give.ensures.own.1 ∙ c.begins.ensures.own.1) in
     let taken = turn_made c.args.self.now.noted c.begins.new.noted (g.L.Links.told c.args.self.now.links.now) c.args.self.now.seat.now.me c.begins.new.seat.me c.in-Ok.held.state c.does-did.new.world s.0 (may_resting c.args.deed.now _ c.requires) c.in-Ok.ensures.ok (did_quiet _ _ _ _ _ s.0 s.2) s.1 c.give.new.seat.me c.give.ensures.own.2 c.give.ensures.idle c.give.ensures.seen c.give.ensures.same c.give.ensures.mine in
     record {
       goes = goes_as _ _ _ _ (ap (deed_reach c.args.deed.now) (sym c.settled.ensures))
-          (deed_goes d c.give.new.seat.me c.give.new.seat.table_id c.give.new.seat.id c.begins.new.noted (g.C.Clock.answers c.does-did.new.clock) (now c.in-Ok.held.state) s.0 (may_sits c.args.deed.now d c.requires) (may_resting c.args.deed.now d c.requires) own taken s.3 c.args.deed.now c.requires c.does-did.result s.2);
-      last = deed_last d c.give.new.seat.me c.give.new.seat.table_id c.give.new.seat.id c.begins.new.noted (g.C.Clock.answers c.does-did.new.clock) (now c.in-Ok.held.state) s.0 (may_sits c.args.deed.now d c.requires) (may_resting c.args.deed.now d c.requires) own taken s.3 c.args.deed.now c.requires c.does-did.result s.2;
+          (deed_goes d c.give.new.seat.me c.give.new.seat.table_id c.give.new.seat.id c.begins.new.noted (g.C.Clock.answers c.does-did.new.clock) (now c.in-Ok.held.state) s.0 (may_sits c.args.deed.now d c.requires) (may_resting c.args.deed.now d c.requires) (c.give.ensures.own.0 ∙ c.begins.ensures.own.0, c.give.ensures.own.1 ∙ c.begins.ensures.own.1) taken s.3 c.args.deed.now c.requires c.does-did.result s.2);
+      last = deed_last d c.give.new.seat.me c.give.new.seat.table_id c.give.new.seat.id c.begins.new.noted (g.C.Clock.answers c.does-did.new.clock) (now c.in-Ok.held.state) s.0 (may_sits c.args.deed.now d c.requires) (may_resting c.args.deed.now d c.requires) (c.give.ensures.own.0 ∙ c.begins.ensures.own.0, c.give.ensures.own.1 ∙ c.begins.ensures.own.1) taken s.3 c.args.deed.now c.requires c.does-did.result s.2;
     }
 
 pub returns-in-Err : goal.returns-in-Err

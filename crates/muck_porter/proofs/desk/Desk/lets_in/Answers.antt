@@ -36,14 +36,14 @@ stops-requires g c =
     let count : vec_len c.args.self.now.peers ≡ length c.args.self.now.peers.items = search rules in
     (c.requires.stands, (λ t. inr (ap (λ (x : Told). x.over) (e.told (sym e.tells ∙ t)), empty_of c.args.self.now.peers.items c.is_empty.result c.if-not-is_empty.false (c.is_empty.ensures ∙ ap (λ (n : ℕ). n == 0) count))))
 
-pub returns-in-Ended : goal.returns-in-Ended
-returns-in-Ended g c =
+pub returns-else-not-is_empty : goal.returns-else-not-is_empty
+returns-else-not-is_empty g c =
     let d = stand g.L.Links.tells g.L.Links.told g.L.Links.listening g.C.Clock.answers c.args.self.now in
     let e = c.in-Ended.ensures in
     free_then _ _ _ _ (over_goes d _ _ _ e.tells e.later (λ t. ap (λ (x : Told). x.ports) (e.told t)) c.requires.stands e.told) c.stops.ensures
 
-pub stops-in-Fault-requires : goal.stops-in-Fault-requires
-stops-in-Fault-requires g c = (c.requires.stands, (λ t. inl refl))
+pub stops-requires-in-Fault : goal.stops-requires-in-Fault
+stops-requires-in-Fault g c = (c.requires.stands, (λ t. inl refl))
 
 pub returns-in-Fault : goal.returns-in-Fault
 returns-in-Fault g c =

@@ -33,11 +33,10 @@ pub returns-in-Went : goal.returns-in-Went
 returns-in-Went g c =
     let d = stand g.L.Links.tells g.L.Links.told g.L.Links.listening g.C.Clock.answers c.args.self.now in
     let s = c.serves-served.ensures.step in
-    let own = (c.give.ensures.own.0 ∙ c.begins.ensures.own.0, c.give.ensures.own.1 ∙ c.begins.ensures.own.1) in
     let taken = turn_made c.args.self.now.noted c.begins.new.noted (g.L.Links.told c.args.self.now.links.now) c.args.self.now.seat.now.me c.begins.new.seat.me c.in-Ok.held.state c.serves-served.new.world s.0 c.requires.1.resting c.in-Ok.ensures.ok (served_quiet _ _ _ _ s.0 s.2) s.1 c.give.new.seat.me c.give.ensures.own.2 c.give.ensures.idle c.give.ensures.seen c.give.ensures.same c.give.ensures.mine in
     let w = c.writes-next.ensures in
     record {
-      goes = went_goes d c.give.new.seat.me c.give.new.seat.table_id c.give.new.seat.id c.begins.new.noted (g.C.Clock.answers c.serves-served.new.clock) (now c.in-Ok.held.state) s.0 c.requires.0 c.requires.1 own taken s.3 c.serves-served.result c.serves-served.new.peers.items s.2 c.in-Went.at _ _ _ _ c.in-Went.is w.tells w.listening w.ports w.wrote;
+      goes = went_goes d c.give.new.seat.me c.give.new.seat.table_id c.give.new.seat.id c.begins.new.noted (g.C.Clock.answers c.serves-served.new.clock) (now c.in-Ok.held.state) s.0 c.requires.0 c.requires.1 (c.give.ensures.own.0 ∙ c.begins.ensures.own.0, c.give.ensures.own.1 ∙ c.begins.ensures.own.1) taken s.3 c.serves-served.result c.serves-served.new.peers.items s.2 c.in-Went.at _ _ _ _ c.in-Went.is w.tells w.listening w.ports w.wrote;
       place = subst (λ (n : ℕ). Nearer (Some n) c.args.from c.args.self.now.peers.items c.writes-next.new.peers.items) (sym w.behind)
           (went_nearer _ c.in-Went.at c.args.from _ _ _ _ _ c.in-Went.is s.2 c.serves-served.ensures.place w.count);
     }
@@ -46,11 +45,10 @@ pub returns-in-Closed : goal.returns-in-Closed
 returns-in-Closed g c =
     let d = stand g.L.Links.tells g.L.Links.told g.L.Links.listening g.C.Clock.answers c.args.self.now in
     let s = c.serves-served.ensures.step in
-    let own = (c.give.ensures.own.0 ∙ c.begins.ensures.own.0, c.give.ensures.own.1 ∙ c.begins.ensures.own.1) in
     let taken = turn_made c.args.self.now.noted c.begins.new.noted (g.L.Links.told c.args.self.now.links.now) c.args.self.now.seat.now.me c.begins.new.seat.me c.in-Ok.held.state c.serves-served.new.world s.0 c.requires.1.resting c.in-Ok.ensures.ok (served_quiet _ _ _ _ s.0 s.2) s.1 c.give.new.seat.me c.give.ensures.own.2 c.give.ensures.idle c.give.ensures.seen c.give.ensures.same c.give.ensures.mine in
     let w = c.lets_go.ensures in
     record {
-      goes = closed_goes d c.give.new.seat.me c.give.new.seat.table_id c.give.new.seat.id c.begins.new.noted (g.C.Clock.answers c.serves-served.new.clock) (now c.in-Ok.held.state) s.0 c.requires.0 c.requires.1 own taken s.3 c.serves-served.result c.serves-served.new.peers.items s.2 c.in-Closed.at _ _ _ _ c.in-Closed.is w.tells w.listening w.ports w.told w.gone;
+      goes = closed_goes d c.give.new.seat.me c.give.new.seat.table_id c.give.new.seat.id c.begins.new.noted (g.C.Clock.answers c.serves-served.new.clock) (now c.in-Ok.held.state) s.0 c.requires.0 c.requires.1 (c.give.ensures.own.0 ∙ c.begins.ensures.own.0, c.give.ensures.own.1 ∙ c.begins.ensures.own.1) taken s.3 c.serves-served.result c.serves-served.new.peers.items s.2 c.in-Closed.at _ _ _ _ c.in-Closed.is w.tells w.listening w.ports w.told w.gone;
       place = closed_nearer _ c.in-Closed.at c.args.from _ _ _ _ _ c.in-Closed.is s.2 c.serves-served.ensures.place w.gone;
     }
 
@@ -58,17 +56,15 @@ pub returns-in-Nobody-clause-goes : goal.returns-in-Nobody-clause-goes
 returns-in-Nobody-clause-goes g c =
     let d = stand g.L.Links.tells g.L.Links.told g.L.Links.listening g.C.Clock.answers c.args.self.now in
     let s = c.serves-served.ensures.step in
-    let own = (c.give.ensures.own.0 ∙ c.begins.ensures.own.0, c.give.ensures.own.1 ∙ c.begins.ensures.own.1) in
     let taken = turn_made c.args.self.now.noted c.begins.new.noted (g.L.Links.told c.args.self.now.links.now) c.args.self.now.seat.now.me c.begins.new.seat.me c.in-Ok.held.state c.serves-served.new.world s.0 c.requires.1.resting c.in-Ok.ensures.ok (served_quiet _ _ _ _ s.0 s.2) s.1 c.give.new.seat.me c.give.ensures.own.2 c.give.ensures.idle c.give.ensures.seen c.give.ensures.same c.give.ensures.mine in
-    nobody_goes d c.give.new.seat.me c.give.new.seat.table_id c.give.new.seat.id c.begins.new.noted (g.C.Clock.answers c.serves-served.new.clock) (now c.in-Ok.held.state) s.0 c.requires.0 c.requires.1 own taken s.3 c.serves-served.result c.serves-served.new.peers.items s.2 c.in-Nobody.is
+    nobody_goes d c.give.new.seat.me c.give.new.seat.table_id c.give.new.seat.id c.begins.new.noted (g.C.Clock.answers c.serves-served.new.clock) (now c.in-Ok.held.state) s.0 c.requires.0 c.requires.1 (c.give.ensures.own.0 ∙ c.begins.ensures.own.0, c.give.ensures.own.1 ∙ c.begins.ensures.own.1) taken s.3 c.serves-served.result c.serves-served.new.peers.items s.2 c.in-Nobody.is
 
 pub returns-in-Dead-clause-goes : goal.returns-in-Dead-clause-goes
 returns-in-Dead-clause-goes g c =
     let d = stand g.L.Links.tells g.L.Links.told g.L.Links.listening g.C.Clock.answers c.args.self.now in
     let s = c.serves-served.ensures.step in
-    let own = (c.give.ensures.own.0 ∙ c.begins.ensures.own.0, c.give.ensures.own.1 ∙ c.begins.ensures.own.1) in
     let taken = turn_made c.args.self.now.noted c.begins.new.noted (g.L.Links.told c.args.self.now.links.now) c.args.self.now.seat.now.me c.begins.new.seat.me c.in-Ok.held.state c.serves-served.new.world s.0 c.requires.1.resting c.in-Ok.ensures.ok (served_quiet _ _ _ _ s.0 s.2) s.1 c.give.new.seat.me c.give.ensures.own.2 c.give.ensures.idle c.give.ensures.seen c.give.ensures.same c.give.ensures.mine in
-    dead_goes d c.give.new.seat.me c.give.new.seat.table_id c.give.new.seat.id c.begins.new.noted (g.C.Clock.answers c.serves-served.new.clock) (now c.in-Ok.held.state) s.0 c.requires.0 c.requires.1 own taken s.3 c.serves-served.result c.serves-served.new.peers.items s.2 c.in-Dead.is
+    dead_goes d c.give.new.seat.me c.give.new.seat.table_id c.give.new.seat.id c.begins.new.noted (g.C.Clock.answers c.serves-served.new.clock) (now c.in-Ok.held.state) s.0 c.requires.0 c.requires.1 (c.give.ensures.own.0 ∙ c.begins.ensures.own.0, c.give.ensures.own.1 ∙ c.begins.ensures.own.1) taken s.3 c.serves-served.result c.serves-served.new.peers.items s.2 c.in-Dead.is
 
 pub returns-in-Err-clause-goes : goal.returns-in-Err-clause-goes
 returns-in-Err-clause-goes g c =

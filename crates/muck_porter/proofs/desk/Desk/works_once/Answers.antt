@@ -1,7 +1,7 @@
-use Rattle.std.proofs.Common.{◌≡◌, ℤ, to_z, of_z, w32, rules, sym, ap, subst}
-use Rattle.muck_porter.specs.inner.Desks.{Stands, Far}
+use Rattle.std.proofs.Common.{◌≡◌, ℤ, to_z, of_z, w32, rules, ap}
+use Rattle.muck_porter.specs.inner.Desks.{Far}
 use Rattle.muck_porter.specs.inner.Reaches.{work_far}
-use Rattle.muck_porter.proofs.Going.{goes_as, claimed_then}
+use Rattle.muck_porter.proofs.Going.{goes_as, claimed_then, claimed_at}
 use Rattle.muck_porter.proofs.desk.Desk.works_once.Goals as goal
 
 pub returns-in-Done : goal.returns-in-Done
@@ -19,10 +19,10 @@ returns-in-Dead g c = goes_as _ _ _ _ (ap work_far c.in-Dead.is) c.in-Ok.ensures
 pub does-requires : goal.does-requires
 does-requires g c =
     let read : to_z w32 (of_z w32 c.in-Claimed.pid) ≡ c.in-Claimed.pid = search rules in
-    subst (λ (pid : ℤ). Stands (Far.claimed pid) _) (sym read) (goes_as _ _ _ _ (ap work_far c.in-Claimed.is) c.in-Ok.ensures).stands
+    claimed_at _ _ _ read (goes_as _ _ _ _ (ap work_far c.in-Claimed.is) c.in-Ok.ensures).stands
 
 pub returns-in-Ok-does : goal.returns-in-Ok-does
 returns-in-Ok-does g c = claimed_then _ Far.free _ _ _ (goes_as _ _ _ _ (ap work_far c.in-Claimed.is) c.in-Ok.ensures) c.in-Ok-does.ensures.goes
 
-pub returns-in-Err : goal.returns-in-Err
-returns-in-Err g c = claimed_then _ _ _ _ _ (goes_as _ _ _ _ (ap work_far c.in-Claimed.is) c.in-Ok.ensures) c.in-Err.ensures.goes
+pub returns-in-Err-does : goal.returns-in-Err-does
+returns-in-Err-does g c = claimed_then _ _ _ _ _ (goes_as _ _ _ _ (ap work_far c.in-Claimed.is) c.in-Ok.ensures) c.in-Err-does.ensures.goes
