@@ -1,5 +1,5 @@
 -- What the porter leaves, of how far its desk has come.
-use Rattle.std.proofs.Common.{true≢false, ◌≡◌, ◌⊎◌, Bool, true, false, [], refl, sym, ◌∙◌, subst, inl, inr, arith, Option, None}
+use Rattle.std.proofs.Common.{true≢false, ◌≡◌, ◌⊎◌, Bool, true, false, [], refl, sym, ◌∙◌, subst, inl, inr, arith, Option}
 use Rattle.muck_io.specs.Faults.{Rose}
 use Rattle.spec_serve.specs.Promises.{Tally}
 use Rattle.spec_serve.specs.inner.Keeping.{Peer}
@@ -9,20 +9,11 @@ use Rattle.muck_porter.specs.declared.porting.Why.{Why}
 use Rattle.muck_porter.specs.declared.porting.Why.TheVariants.{Fine, ListenFault, NoMemory, Spent}
 use Rattle.muck_porter.specs.inner.Kept.{tally, account, BooksAt, Ready}
 use Rattle.muck_porter.specs.inner.Moves.{number_in, IsNew}
-use Rattle.muck_porter.specs.inner.Porter.{PorterReady, PorterDone, HasStopped}
+use Rattle.muck_porter.specs.inner.Porter.{PorterDone, HasStopped}
 use Rattle.muck_porter.specs.inner.Rounds.{EndsEarly}
-use Rattle.muck_porter.specs.inner.Desks.{Stand, Far, Stands, Booked, Goes}
+use Rattle.muck_porter.specs.inner.Desks.{Stand, Far, Stands, Fresh, Booked, Goes}
 use Rattle.muck_porter.specs.inner.Reaches.{why_far}
 use Rattle.muck_porter.proofs.InRounds.{ready_fresh, books_start, timed_start, not_stopped, stop_over}
-
--- A desk at which nothing was done yet.
-pub record Fresh (d : Stand) : Type 0 where
-  pub ready : PorterReady d.me
-  pub seat : d.seat_table ≡ d.table
-  pub noted : d.noted ≡ false
-  pub broke : d.broke ≡ false
-  pub peers : d.peers ≡ []
-  pub coming : d.coming ≡ None
 
 pub fresh_stands : (d : Stand) → Fresh d → Stands Far.free d
 fresh_stands d f = ((f.seat, subst IsNew (sym f.coming) tt), subst (λ (n : Bool). Ready n d.me) (sym f.noted) (ready_fresh d.me f.ready))

@@ -4,7 +4,7 @@ ghost use Rattle.muck_porter.specs.declared.porting.Why.{Why};
 ghost use Rattle.muck_porter.specs.inner.Kept.{account};
 ghost use Rattle.muck_porter.specs.inner.Rounds.{is_left};
 ghost use Rattle.muck_porter.specs.inner.Porter.{PorterReady, PorterDone};
-ghost use Rattle.muck_porter.specs.inner.Desks.{stand, Far, Stands, Goes};
+ghost use Rattle.muck_porter.specs.inner.Desks.{stand, Far, Stands, Fresh, Goes};
 ghost use Rattle.muck_porter.specs.inner.Reaches.{round_reach, why_far};
 
 use crate::desk::{Desk, Fault};
@@ -116,6 +116,23 @@ impl<'a, W: Wait, L: Links, C: Clock, G: Gate, R: Rest> Desk<'a, W, L, C, G, R> 
         }
         unreachable!()
     }
+
+    // Round by round, with room for what is read.
+    fn serves(&mut self) -> Why
+        requires { Fresh (stand L.tells L.told L.listening C.answers self.old) }
+        ensures same { (self.new.seat.ghost_name ≡ self.old.seat.ghost_name) × (self.new.links.ghost_name ≡ self.old.links.ghost_name) × (self.new.clock.ghost_name ≡ self.old.clock.ghost_name) }
+        ensures own { (self.new.seat.now.table_id ≡ self.old.seat.now.table_id) × (self.new.seat.now.id ≡ self.old.seat.now.id) }
+        ensures tells { L.tells self.new.links.now ≡ L.tells self.old.links.now }
+        ensures done { PorterDone result (L.tells self.old.links.now) (account (L.told self.old.links.now) (L.listening self.old.links.now) (C.answers self.old.clock.now)) (account (L.told self.new.links.now) (L.listening self.new.links.now) (C.answers self.new.clock.now)) self.old.seat.now.me self.new.seat.now.me }
+    {
+        match room(self.alloc) {
+            Ok(bytes) => {
+                self.room = bytes;
+                self.goes_on()
+            }
+            Err(_) => why_of(self.dies()),
+        }
+    }
 }
 
 /// Serves all links until the run is stopped and each connection that is open is worked off. `ListenFault` where listening failed.
@@ -137,7 +154,7 @@ pub fn porter<'a, W: Wait, L: Links, C: Clock, G: Gate, R: Rest>(
     ensures tells { L.tells links.new ≡ L.tells links.old }
     ensures done { PorterDone result (L.tells links.old) (account (L.told links.old) (L.listening links.old) (C.answers clock.old)) (account (L.told links.new) (L.listening links.new) (C.answers clock.new)) seat.old.me seat.new.me }
 {
-    let room_none = Vec::new(alloc);
+    let unread = Vec::new(alloc);
     let peers = Vec::new(alloc);
     let mut desk = Desk {
         rt,
@@ -148,18 +165,12 @@ pub fn porter<'a, W: Wait, L: Links, C: Clock, G: Gate, R: Rest>(
         clock,
         gate,
         rest,
-        room: room_none,
+        room: unread,
         noted: false,
         broke: false,
         moved: false,
         peers,
         coming: None,
     };
-    match room(alloc) {
-        Ok(bytes) => {
-            desk.room = bytes;
-            desk.goes_on()
-        }
-        Err(_) => why_of(desk.dies()),
-    }
+    desk.serves()
 }

@@ -1,5 +1,5 @@
 -- A desk, for contracts: what of it they speak of, how far it may come, and what a call keeps and carries.
-use Rattle.std.specs.Prelude.{◌≡◌, ℕ, ℤ, Bool, true, ◌≤◌, ◌⊎◌, List, [], Option}
+use Rattle.std.specs.Prelude.{◌≡◌, ℕ, ℤ, Bool, true, false, ◌≤◌, ◌⊎◌, List, [], Option, None}
 use Rattle.atomic_table.specs.Seated.{TableId}
 use Rattle.muck_io.specs.Faults.{Rose}
 use Rattle.muck_links.specs.Sessions.{Told}
@@ -11,6 +11,7 @@ use Rattle.muck_porter.specs.declared.desk.Desk.{Desk}
 use Rattle.muck_porter.specs.declared.desk.Fault.{Fault}
 use Rattle.muck_porter.specs.inner.Kept.{tally, BooksAt, KeptBy, Stopped, EndsWithStop, IsAt, Resting, Ready, ReadyTimed, Over}
 use Rattle.muck_porter.specs.inner.Moves.{number_in, IsNew, HasClaimed}
+use Rattle.muck_porter.specs.inner.Porter.{PorterReady}
 use Rattle.muck_porter.specs.inner.Rounds.{EndsEarly}
 use Rattle.muck_porter.specs.Times.{ByClock}
 
@@ -103,3 +104,12 @@ pub record Goes (far : Far) (d d' : Stand) : Type 0 where
   pub ports : d.tells ≡ true → d'.told.ports ≡ d.told.ports
   pub stands : Stands far d'
   pub books : d.tells ≡ true → (b : Tally) → Booked b d → Books far b d'
+
+-- A desk at which nothing was done yet.
+pub record Fresh (d : Stand) : Type 0 where
+  pub ready : PorterReady d.me
+  pub seat : d.seat_table ≡ d.table
+  pub noted : d.noted ≡ false
+  pub broke : d.broke ≡ false
+  pub peers : d.peers ≡ []
+  pub coming : d.coming ≡ None
