@@ -29,9 +29,9 @@ use Rattle.muck_porter.specs.inner.Notes.{note_in}
 use Rattle.muck_porter.specs.inner.Kept.{tally, BooksAt, PromisedIn, IsAt, IsFree, Resting, Ready, ReadyTimed, Over}
 use Rattle.muck_porter.specs.inner.Deeds.{IsMoment}
 use Rattle.muck_porter.specs.inner.Turns.{PorterTurn}
-use Rattle.muck_porter.specs.inner.Moves.{Carries, CarriesOn, Ends, TendsPeer, LosesPeer, Tends, Loses, LastEntry}
+use Rattle.muck_porter.specs.inner.Moves.{Carries, Ends, TendsPeer, LosesPeer, Tends, Loses, LastEntry}
 use Rattle.muck_porter.specs.inner.Rounds.{WroteAt, ClosedAt}
-use Rattle.muck_porter.proofs.Stages.{stage_moment, formed_at, formed_free}
+use Rattle.muck_porter.proofs.Stages.{stage_moment, formed_at}
 use Rattle.muck_porter.proofs.Carrying.{IsQuiet, quiet_moment, quiet_died, turn_noted, carries_quiet, last_entry, promised_in, kept_waited}
 
 -- Places in a list.
@@ -97,9 +97,6 @@ loses_more noted k k1 k2 ps ps1 i p at first second v b coming n known bk = seco
 pub over_at : (me : Chair) (stage : Stage) → Rests 0 me → IsAt stage me.0.own → Over me
 over_at me stage r at = record { left = left_rests 0 me r; formed = formed_at me.0.own stage at }
 
-pub over_free : (me : Chair) → Rests 0 me → IsFree me.0.own → Over me
-over_free me r free = record { left = left_rests 0 me r; formed = formed_free me.0.own free }
-
 pub over_waited : (me me' : Chair) → Left 0 me' → Waited me.0 me'.0 → IsWellFormed 0 (events_of me.0.own) → Over me'
 over_waited me me' left waited formed = record { left = left; formed = subst (λ (ls : List Logged). IsWellFormed 0 (events_of ls)) (sym waited.1) formed }
 
@@ -153,22 +150,12 @@ one_more P xs n x there here below i a lt at = dite (ℕ_discrete i n)
 pub peer_closed : (ps : List Peer) (i : ℕ) (p p' : Peer) → p' ≡ p → set ps i p' ≡ set ps i p
 peer_closed ps i p p' same = ap (set ps i) same
 
--- Memory was wanted outside of the world.
-module _ (noted noted' : Bool) (k : Told) (me me' : Chair) (w : World) (event : Event) (r : Rests 0 me') (turn : PorterTurn noted noted' k me.0 me'.0 w event) (known : noted ≡ is_some (note_in me.0.own)) where
-
 pub wrote_at : (i : ℕ) (noted : Bool) (k k' : Told) (ps : List Peer) (p p' : Peer) → get_elem? ps i ≡ some p → ((counted : LinksNote) → is_some counted ≡ noted → LinkStep counted p p' k k') → WroteAt i noted k k' ps (set ps i p')
 wrote_at i noted k k' ps p p' at step q there =
     (p', refl, (λ counted marks. subst (λ (x : Peer). LinkStep counted x p' k k') (some-injective p q (sym at ∙ there)) (step counted marks)))
 
 pub closed_at : (i : ℕ) (k k' : Told) (ps : List Peer) (p : Peer) → get_elem? ps i ≡ some p → k' ≡ on_session p.number shut k → ClosedAt i k k' ps
 closed_at i k k' ps p at told q there = told ∙ ap (λ (x : Peer). on_session x.number shut k) (some-injective p q (sym at ∙ there))
-
-pub over_ready : (noted : Bool) (me : Chair) → Ready noted me → Over me
-over_ready noted me r = over_free me r.resting.rests r.free
-
--- the count of faults in listening by another name
-pub listened : (v v' : Sight) (k k' : Told) (n n' : ℕ) (ps ps' : List Peer) → n' ≡ n → CarriesOn v v' (tally k n) (tally k' n) ps ps' → CarriesOn v v' (tally k n) (tally k' n') ps ps'
-listened v v' k k' n n' ps ps' same carries coming b bk = subst (λ (m : ℕ). BooksAt b v' (tally k' m) ps' coming) (sym same) (carries coming b bk)
 
 pub did_not : {A : Type 0} (answer : Bool) (old new : A) → answer ≡ false → (if answer then new else old) ≡ old
 did_not answer old new is = ap (λ (b : Bool). if b then new else old) is

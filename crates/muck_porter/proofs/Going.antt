@@ -85,8 +85,6 @@ claimed_at pid pid' d is s = subst (λ (n : ℤ). Stands (Far.claimed n) d) (sym
 pub goes_as : (far far' : Far) (a b : Stand) → far ≡ far' → Goes far a b → Goes far' a b
 goes_as far far' a b is g = subst (λ (f : Far). Goes f a b) is g
 
-}
-
 pub round_stays : (round : Round) (a b : Stand) → is_left round ≡ false → Goes (round_far round) a b → Goes Far.free a b
 round_stays Left a b is g = absurd (true≢false is)
 round_stays Busy a b is g = g
