@@ -78,8 +78,8 @@ pub claimed_then : (pid : ℤ) (far : Far) (a b c : Stand) → Goes (Far.claimed
 claimed_then pid far a b c g h = then_on (Far.claimed pid) far a b c (λ t x. x) g h
 
 -- a claim, by another name
-pub claimed_at : (pid pid' : ℤ) (d : Stand) → pid' ≡ pid → Stands (Far.claimed pid) d → Stands (Far.claimed pid') d
-claimed_at pid pid' d is s = subst (λ (n : ℤ). Stands (Far.claimed n) d) (sym is) s
+pub claimed_stands : (pid pid' : ℤ) (a d : Stand) → pid' ≡ pid → Goes (Far.claimed pid) a d → Stands (Far.claimed pid') d
+claimed_stands pid pid' a d is g = subst (λ (n : ℤ). Stands (Far.claimed n) d) (sym is) g.stands
 
 -- how far, by another name
 pub goes_as : (far far' : Far) (a b : Stand) → far ≡ far' → Goes far a b → Goes far' a b

@@ -13,6 +13,7 @@ use muck_io::{Clock, Gate, Rest};
 use muck_links::Links;
 use muck_machine::World;
 use std::alloc::{AllocError, Global};
+use std::mem::drop;
 use std::sync::Wait;
 use turn_lock::{Turn, TurnSeat};
 
@@ -172,5 +173,10 @@ pub fn porter<'a, W: Wait, L: Links, C: Clock, G: Gate, R: Rest>(
         peers,
         coming: None,
     };
-    desk.serves()
+    let why = desk.serves();
+    let Desk { room, peers, coming, .. } = desk;
+    drop(room);
+    drop(peers);
+    drop(coming);
+    why
 }

@@ -47,7 +47,7 @@ returns-in-Done g c =
     let d = stand g.L.Links.tells g.L.Links.told g.L.Links.listening g.C.Clock.answers c.args.self.now in
     let s = c.does-did.ensures in
     let taken = turn_made c.args.self.now.noted c.begins.new.noted (g.L.Links.told c.args.self.now.links.now) c.args.self.now.seat.now.me c.begins.new.seat.me c.in-Ok-begins.held.state c.does-did.new.world s.0 c.requires.1.resting c.in-Ok-begins.ensures.ok (did_quiet (Open c.number.result) c.does-did.result c.begins.new.noted c.reserve.new.self.items (now c.in-Ok-begins.held.state) s.0 s.2) s.1 c.give.new.seat.me c.give.ensures.own.2 c.give.ensures.idle c.give.ensures.seen c.give.ensures.same c.give.ensures.mine in
-    opened_goes d c.give.new.seat.me c.give.new.seat.table_id c.give.new.seat.id c.begins.new.noted (g.C.Clock.answers c.does-did.new.clock) (now c.in-Ok-begins.held.state) s.0 c.requires.0 c.requires.1.resting (c.give.ensures.own.0 ∙ c.begins.ensures.own.0, c.give.ensures.own.1 ∙ c.begins.ensures.own.1) taken s.3 c.in-Some.peer _ c.requires.1 (sym c.take.ensures.value ∙ c.in-Some.is) (subst (λ n. DidAs (Open n) _ _ _ _ _) c.number.ensures (subst (λ (x : Did). DidAs (Open c.number.result) x c.begins.new.noted d.peers (now c.in-Ok-begins.held.state) s.0) c.in-Done.is s.2))
+    opened_goes d c.give.new.seat.me c.give.new.seat.table_id c.give.new.seat.id c.begins.new.noted (g.C.Clock.answers c.does-did.new.clock) (now c.in-Ok-begins.held.state) s.0 c.requires.0 c.requires.1.resting (c.give.ensures.own.0 ∙ c.begins.ensures.own.0, c.give.ensures.own.1 ∙ c.begins.ensures.own.1) taken s.3 c.in-Some.peer c.number.result _ c.requires.1 (sym c.take.ensures.value ∙ c.in-Some.is) c.number.ensures (subst (λ (x : Did). DidAs (Open c.number.result) x c.begins.new.noted c.reserve.new.self.items (now c.in-Ok-begins.held.state) s.0) c.in-Done.is s.2)
     (c.push_reserved.ensures.items ∙ ap (λ (l : List Peer). l ++ c.in-Some.peer ∷ []) c.reserve.ensures.items)
 
 pub returns-in-Timed : goal.returns-in-Timed
@@ -55,14 +55,14 @@ returns-in-Timed g c =
     let d = stand g.L.Links.tells g.L.Links.told g.L.Links.listening g.C.Clock.answers c.args.self.now in
     let s = c.does-did.ensures in
     let taken = turn_made c.args.self.now.noted c.begins.new.noted (g.L.Links.told c.args.self.now.links.now) c.args.self.now.seat.now.me c.begins.new.seat.me c.in-Ok-begins.held.state c.does-did.new.world s.0 c.requires.1.resting c.in-Ok-begins.ensures.ok (did_quiet (Open c.number.result) c.does-did.result c.begins.new.noted c.reserve.new.self.items (now c.in-Ok-begins.held.state) s.0 s.2) s.1 c.give.new.seat.me c.give.ensures.own.2 c.give.ensures.idle c.give.ensures.seen c.give.ensures.same c.give.ensures.mine in
-    opened_late d c.give.new.seat.me c.give.new.seat.table_id c.give.new.seat.id c.begins.new.noted (g.C.Clock.answers c.does-did.new.clock) (now c.in-Ok-begins.held.state) s.0 c.requires.0 c.requires.1.resting (c.give.ensures.own.0 ∙ c.begins.ensures.own.0, c.give.ensures.own.1 ∙ c.begins.ensures.own.1) taken s.3 c.number.result _ _ c.requires.1 (subst (λ (x : Did). DidAs (Open c.number.result) x c.begins.new.noted d.peers (now c.in-Ok-begins.held.state) s.0) c.in-Timed.is s.2) c.reserve.ensures.items (sym c.in-Some.is ∙ c.take.ensures.value)
+    opened_late d c.give.new.seat.me c.give.new.seat.table_id c.give.new.seat.id c.begins.new.noted (g.C.Clock.answers c.does-did.new.clock) (now c.in-Ok-begins.held.state) s.0 c.requires.0 c.requires.1.resting (c.give.ensures.own.0 ∙ c.begins.ensures.own.0, c.give.ensures.own.1 ∙ c.begins.ensures.own.1) taken s.3 _ _ c.requires.1 (subst (λ (x : Did). DidAs (Open c.number.result) x c.begins.new.noted c.reserve.new.self.items (now c.in-Ok-begins.held.state) s.0) c.in-Timed.is s.2) c.reserve.ensures.items (sym c.in-Some.is ∙ c.take.ensures.value)
 
 pub returns-in-Dead : goal.returns-in-Dead
 returns-in-Dead g c =
     let d = stand g.L.Links.tells g.L.Links.told g.L.Links.listening g.C.Clock.answers c.args.self.now in
     let s = c.does-did.ensures in
     let taken = turn_made c.args.self.now.noted c.begins.new.noted (g.L.Links.told c.args.self.now.links.now) c.args.self.now.seat.now.me c.begins.new.seat.me c.in-Ok-begins.held.state c.does-did.new.world s.0 c.requires.1.resting c.in-Ok-begins.ensures.ok (did_quiet (Open c.number.result) c.does-did.result c.begins.new.noted c.reserve.new.self.items (now c.in-Ok-begins.held.state) s.0 s.2) s.1 c.give.new.seat.me c.give.ensures.own.2 c.give.ensures.idle c.give.ensures.seen c.give.ensures.same c.give.ensures.mine in
-    died_free d c.give.new.seat.me c.give.new.seat.table_id c.give.new.seat.id c.begins.new.noted (g.C.Clock.answers c.does-did.new.clock) (now c.in-Ok-begins.held.state) s.0 c.requires.0 c.requires.1.resting (c.give.ensures.own.0 ∙ c.begins.ensures.own.0, c.give.ensures.own.1 ∙ c.begins.ensures.own.1) taken s.3 _ _ c.requires.1.free (subst (λ (x : Did). DidAs (Open c.number.result) x c.begins.new.noted d.peers (now c.in-Ok-begins.held.state) s.0) c.in-Dead.is s.2)
+    died_free d c.give.new.seat.me c.give.new.seat.table_id c.give.new.seat.id c.begins.new.noted (g.C.Clock.answers c.does-did.new.clock) (now c.in-Ok-begins.held.state) s.0 c.requires.0 c.requires.1.resting (c.give.ensures.own.0 ∙ c.begins.ensures.own.0, c.give.ensures.own.1 ∙ c.begins.ensures.own.1) taken s.3 _ _ c.requires.1.free (subst (λ (x : Did). DidAs (Open c.number.result) x c.begins.new.noted c.reserve.new.self.items (now c.in-Ok-begins.held.state) s.0) c.in-Dead.is s.2)
 
 pub returns-in-Err-begins : goal.returns-in-Err-begins
 returns-in-Err-begins g c =

@@ -1,7 +1,7 @@
 use Rattle.std.proofs.Common.{◌≡◌, ℤ, to_z, of_z, w32, rules, ap}
 use Rattle.muck_porter.specs.inner.Desks.{Far}
 use Rattle.muck_porter.specs.inner.Reaches.{work_far}
-use Rattle.muck_porter.proofs.Going.{goes_as, claimed_then, claimed_at}
+use Rattle.muck_porter.proofs.Going.{goes_as, claimed_then, claimed_stands}
 use Rattle.muck_porter.proofs.desk.Desk.works_once.Goals as goal
 
 pub returns-in-Done : goal.returns-in-Done
@@ -19,7 +19,7 @@ returns-in-Dead g c = goes_as _ _ _ _ (ap work_far c.in-Dead.is) c.in-Ok.ensures
 pub does-requires : goal.does-requires
 does-requires g c =
     let read : to_z w32 (of_z w32 c.in-Claimed.pid) ≡ c.in-Claimed.pid = search rules in
-    claimed_at _ _ _ read (goes_as _ _ _ _ (ap work_far c.in-Claimed.is) c.in-Ok.ensures).stands
+    claimed_stands _ _ _ _ read (goes_as _ _ _ _ (ap work_far c.in-Claimed.is) c.in-Ok.ensures)
 
 pub returns-in-Ok-does : goal.returns-in-Ok-does
 returns-in-Ok-does g c = claimed_then _ Far.free _ _ _ (goes_as _ _ _ _ (ap work_far c.in-Claimed.is) c.in-Ok.ensures) c.in-Ok-does.ensures.goes
