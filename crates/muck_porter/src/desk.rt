@@ -17,7 +17,7 @@ pub struct Desk<'a, W, L, C, G, R> {
     pub(crate) gate: &'a G,
     pub(crate) rest: &'a R,
     /// Room for what is read at once.
-    pub(crate) room: Vec<u8>,
+    pub(crate) room: &'a mut [u8],
     /// Whether the note of the links was made.
     pub(crate) noted: bool,
     /// Whether listening failed.
@@ -25,9 +25,9 @@ pub struct Desk<'a, W, L, C, G, R> {
     /// Whether anything was carried in this round.
     pub(crate) moved: bool,
     /// The links that are open.
-    pub(crate) peers: Vec<Peer>,
+    pub(crate) peers: &'a mut Vec<Peer>,
     /// A link that came, whose connection isn't opened yet.
-    pub(crate) coming: Option<Peer>,
+    pub(crate) coming: &'a mut Option<Peer>,
 }
 
 /// Why the porter ended early.

@@ -82,7 +82,7 @@ impl<'a, W: Wait, L: Links, C: Clock, G: Gate, R: Rest> Desk<'a, W, L, C, G, R> 
         match begins(self.rt, self.turn, self.seat, self.links, self.rest, &mut self.noted) {
             Ok(held) => {
                 let mut held = held;
-                let worked = works(&mut held.state, self.clock, &self.peers);
+                let worked = works(&mut held.state, self.clock, &*self.peers);
                 self.turn.give(self.seat, held, self.rest);
                 Ok(worked)
             }
@@ -99,7 +99,7 @@ impl<'a, W: Wait, L: Links, C: Clock, G: Gate, R: Rest> Desk<'a, W, L, C, G, R> 
         match begins(self.rt, self.turn, self.seat, self.links, self.rest, &mut self.noted) {
             Ok(held) => {
                 let mut held = held;
-                let did = does(deed, &mut held.state, self.clock, &self.peers, self.noted);
+                let did = does(deed, &mut held.state, self.clock, &*self.peers, self.noted);
                 self.turn.give(self.seat, held, self.rest);
                 settled(did)
             }

@@ -12,8 +12,7 @@ use crate::rounds::Round;
 use muck_io::{Clock, Gate, Rest};
 use muck_links::Links;
 use muck_machine::World;
-use std::alloc::{AllocError, Global};
-use std::mem::drop;
+use std::alloc::Global;
 use std::sync::Wait;
 use turn_lock::{Turn, TurnSeat};
 
@@ -33,8 +32,12 @@ pub enum Why {
     Spent,
 }
 
-fn room(alloc: Global) -> Result<Vec<u8>, AllocError> {
-    vec![in alloc; 0u8; ROOM]
+// Room for what is read; none where memory is wanted for it.
+fn room(alloc: Global) -> Vec<u8> {
+    match vec![in alloc; 0u8; ROOM] {
+        Ok(bytes) => bytes,
+        Err(_) => Vec::new(alloc),
+    }
 }
 
 fn has_left(round: &Round) -> bool
@@ -118,7 +121,7 @@ impl<'a, W: Wait, L: Links, C: Clock, G: Gate, R: Rest> Desk<'a, W, L, C, G, R> 
         unreachable!()
     }
 
-    // Round by round, with room for what is read.
+    // Round by round, from the first one on; or there is no room for what is read.
     fn serves(&mut self) -> Why
         requires { Fresh (stand L.tells L.told L.listening C.answers self.old) }
         ensures same { (self.new.seat.ghost_name ≡ self.old.seat.ghost_name) × (self.new.links.ghost_name ≡ self.old.links.ghost_name) × (self.new.clock.ghost_name ≡ self.old.clock.ghost_name) }
@@ -126,13 +129,10 @@ impl<'a, W: Wait, L: Links, C: Clock, G: Gate, R: Rest> Desk<'a, W, L, C, G, R> 
         ensures tells { L.tells self.new.links.now ≡ L.tells self.old.links.now }
         ensures done { PorterDone result (L.tells self.old.links.now) (account (L.told self.old.links.now) (L.listening self.old.links.now) (C.answers self.old.clock.now)) (account (L.told self.new.links.now) (L.listening self.new.links.now) (C.answers self.new.clock.now)) self.old.seat.now.me self.new.seat.now.me }
     {
-        match room(self.alloc) {
-            Ok(bytes) => {
-                self.room = bytes;
-                self.goes_on()
-            }
-            Err(_) => why_of(self.dies()),
+        if self.room.is_empty() {
+            return why_of(self.dies());
         }
+        self.goes_on()
     }
 }
 
@@ -155,8 +155,9 @@ pub fn porter<'a, W: Wait, L: Links, C: Clock, G: Gate, R: Rest>(
     ensures tells { L.tells links.new ≡ L.tells links.old }
     ensures done { PorterDone result (L.tells links.old) (account (L.told links.old) (L.listening links.old) (C.answers clock.old)) (account (L.told links.new) (L.listening links.new) (C.answers clock.new)) seat.old.me seat.new.me }
 {
-    let unread = Vec::new(alloc);
-    let peers = Vec::new(alloc);
+    let mut bytes = room(alloc);
+    let mut peers = Vec::new(alloc);
+    let mut coming = None;
     let mut desk = Desk {
         rt,
         alloc,
@@ -166,17 +167,12 @@ pub fn porter<'a, W: Wait, L: Links, C: Clock, G: Gate, R: Rest>(
         clock,
         gate,
         rest,
-        room: unread,
+        room: bytes.as_mut_slice(),
         noted: false,
         broke: false,
         moved: false,
-        peers,
-        coming: None,
+        peers: &mut peers,
+        coming: &mut coming,
     };
-    let why = desk.serves();
-    let Desk { room, peers, coming, .. } = desk;
-    drop(room);
-    drop(peers);
-    drop(coming);
-    why
+    desk.serves()
 }

@@ -63,13 +63,13 @@ impl<'a, W: Wait, L: Links, C: Clock, G: Gate, R: Rest> Desk<'a, W, L, C, G, R> 
     // A link may come. Where none will come any more and none is open, or listening fails, the run is stopped.
     fn lets_in(&mut self) -> Result<(), Fault>
         requires stands { Stands Far.free (stand L.tells L.told L.listening C.answers self.old) }
-        requires nobody { self.old.coming ≡ None }
+        requires nobody { self.old.coming.now ≡ None }
         ensures { Goes (reach Far.free result) (stand L.tells L.told L.listening C.answers self.old) (stand L.tells L.told L.listening C.answers self.new) }
     {
         match self.links.accept() {
             Accepted::Got(d) => match Peer::new(self.alloc, d) {
                 Ok(peer) => {
-                    self.coming = Some(peer);
+                    *self.coming = Some(peer);
                     Ok(())
                 }
                 Err(NoMemory) => Err(self.dies()),
@@ -104,7 +104,7 @@ impl<'a, W: Wait, L: Links, C: Clock, G: Gate, R: Rest> Desk<'a, W, L, C, G, R> 
                 Ok(held) => {
                     let mut held = held;
                     let deed = Deed::Open(peer.number());
-                    let did = does(&deed, &mut held.state, self.clock, &self.peers, self.noted);
+                    let did = does(&deed, &mut held.state, self.clock, &*self.peers, self.noted);
                     self.turn.give(self.seat, held, self.rest);
                     match did {
                         Did::Done => {
@@ -112,7 +112,7 @@ impl<'a, W: Wait, L: Links, C: Clock, G: Gate, R: Rest> Desk<'a, W, L, C, G, R> 
                             Ok(())
                         }
                         Did::Timed => {
-                            self.coming = Some(peer);
+                            *self.coming = Some(peer);
                             Ok(())
                         }
                         Did::Dead => Err(Fault::NoMemory),
@@ -234,7 +234,7 @@ impl<'a, W: Wait, L: Links, C: Clock, G: Gate, R: Rest> Desk<'a, W, L, C, G, R> 
         requires { Stands Far.free (stand L.tells L.told L.listening C.answers self.old) }
         ensures { Goes (reach Far.free result) (stand L.tells L.told L.listening C.answers self.old) (stand L.tells L.told L.listening C.answers self.new) }
     {
-        match tends_all(self.links, self.room.as_mut_slice(), self.noted, &mut self.peers) {
+        match tends_all(self.links, self.room, self.noted, self.peers) {
             Ok(moved) => {
                 self.moved = moved;
                 Ok(())

@@ -73,20 +73,20 @@ impl<'a, W: Wait, L: Links, C: Clock, G: Gate, R: Rest> Desk<'a, W, L, C, G, R> 
     fn serve_one(&mut self, from: usize) -> Result<Option<usize>, Fault>
         requires { Stands Far.free (stand L.tells L.told L.listening C.answers self.old) }
         ensures goes { Goes (served_reach result) (stand L.tells L.told L.listening C.answers self.old) (stand L.tells L.told L.listening C.answers self.new) }
-        ensures place { IfOk result (λ next. Nearer next from self.old.peers.items self.new.peers.items) }
+        ensures place { IfOk result (λ next. Nearer next from self.old.peers.now.items self.new.peers.now.items) }
     {
         match begins(self.rt, self.turn, self.seat, self.links, self.rest, &mut self.noted) {
             Ok(held) => {
                 let mut held = held;
-                let served = serves(&mut held.state, self.clock, &mut self.peers, from);
+                let served = serves(&mut held.state, self.clock, self.peers, from);
                 self.turn.give(self.seat, held, self.rest);
                 match served {
                     Served::Went(at) => {
-                        let next = writes(self.links, self.noted, &mut self.peers, at);
+                        let next = writes(self.links, self.noted, self.peers, at);
                         Ok(Some(next))
                     }
                     Served::Closed(at) => {
-                        lets_go(self.links, &mut self.peers, at);
+                        lets_go(self.links, self.peers, at);
                         Ok(Some(at))
                     }
                     Served::Nobody => Ok(None),

@@ -52,8 +52,8 @@ stand tells told listening answers d = record {
   answers = answers d.clock.now;
   noted = d.noted;
   broke = d.broke;
-  peers = d.peers.items;
-  coming = d.coming;
+  peers = d.peers.now.items;
+  coming = d.coming.now;
 }
 
 -- How far it has come: nothing binds the porter, or it stands at once behind a moment, or behind a claim; it has seen the stop; or it ends early.

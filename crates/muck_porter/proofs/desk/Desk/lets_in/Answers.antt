@@ -33,8 +33,8 @@ returns-then-not-is_empty g c =
 pub stops-requires : goal.stops-requires
 stops-requires g c =
     let e = c.in-Ended.ensures in
-    let count : vec_len c.args.self.now.peers ≡ length c.args.self.now.peers.items = search rules in
-    (c.requires.stands, (λ t. inr (ap (λ (x : Told). x.over) (e.told (sym e.tells ∙ t)), empty_of c.args.self.now.peers.items c.is_empty.result c.if-not-is_empty.false (c.is_empty.ensures ∙ ap (λ (n : ℕ). n == 0) count))))
+    let count : vec_len c.args.self.now.peers.now ≡ length c.args.self.now.peers.now.items = search rules in
+    (c.requires.stands, (λ t. inr (ap (λ (x : Told). x.over) (e.told (sym e.tells ∙ t)), empty_of c.args.self.now.peers.now.items c.is_empty.result c.if-not-is_empty.false (c.is_empty.ensures ∙ ap (λ (n : ℕ). n == 0) count))))
 
 pub returns-else-not-is_empty : goal.returns-else-not-is_empty
 returns-else-not-is_empty g c =

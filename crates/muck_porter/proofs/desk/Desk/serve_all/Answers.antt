@@ -11,8 +11,8 @@ loop-from-preserved g c = free_then Far.free _ _ _ c.loop-from.invariant (goes_a
 
 pub loop-from-smaller : goal.loop-from-smaller
 loop-from-smaller g c =
-    let p : length c.serve_one.new.self.peers.items + c.loop-from.from < length c.loop-from.self.peers.items + c.in-Ok-Some.next =
-    subst (λ (o : Option ℕ). Nearer o c.loop-from.from c.loop-from.self.peers.items c.serve_one.new.self.peers.items) c.in-Ok-Some.field-0-is c.in-Ok-Some.ensures.place in
+    let p : length c.serve_one.new.self.peers.now.items + c.loop-from.from < length c.loop-from.self.peers.now.items + c.in-Ok-Some.next =
+    subst (λ (o : Option ℕ). Nearer o c.loop-from.from c.loop-from.self.peers.now.items c.serve_one.new.self.peers.now.items) c.in-Ok-Some.field-0-is c.in-Ok-Some.ensures.place in
     let t = c.loop-from-test.true in
     omega arith
 

@@ -37,7 +37,7 @@ returns-in-Went g c =
     let w = c.writes-next.ensures in
     record {
       goes = went_goes d c.give.new.seat.me c.give.new.seat.table_id c.give.new.seat.id c.begins.new.noted (g.C.Clock.answers c.serves-served.new.clock) (now c.in-Ok.held.state) s.0 c.requires.0 c.requires.1 (c.give.ensures.own.0 ∙ c.begins.ensures.own.0, c.give.ensures.own.1 ∙ c.begins.ensures.own.1) taken s.3 c.serves-served.result c.serves-served.new.peers.items s.2 c.in-Went.at _ _ _ _ c.in-Went.is w.tells w.listening w.ports w.wrote;
-      place = subst (λ (n : ℕ). Nearer (Some n) c.args.from c.args.self.now.peers.items c.writes-next.new.peers.items) (sym w.behind)
+      place = subst (λ (n : ℕ). Nearer (Some n) c.args.from c.args.self.now.peers.now.items c.writes-next.new.peers.items) (sym w.behind)
           (went_nearer _ c.in-Went.at c.args.from _ _ _ _ _ c.in-Went.is s.2 c.serves-served.ensures.place w.count);
     }
 
