@@ -107,7 +107,17 @@ module _ (d : Stand) (me' : Chair) (table' : TableId) (id' : ℕ) (noted' : Bool
   -- the desk behind it, with what else became of the links and of what is kept
   abbrev pub held_with : Bool → Told → ℕ → List Peer → Option Peer → Stand
   held_with tells' told' listening' peers' coming' = record d {
-    seat_table = table'; seat_id = id'; me = me'; noted = noted'; answers = answers'; tells = tells'; told = told'; listening = listening'; peers = peers'; coming = coming' }
+    seat_table = table';
+    seat_id = id';
+    me = me';
+    noted = noted';
+    answers = answers';
+    tells = tells';
+    told = told';
+    listening = listening';
+    peers = peers';
+    coming = coming';
+  }
 
   abbrev pub held : Stand
   held = held_with d.tells d.told d.listening d.peers d.coming

@@ -79,7 +79,14 @@ impl<'a, W: Wait, L: Links, C: Clock, G: Gate, R: Rest> Desk<'a, W, L, C, G, R> 
         requires { Stands Far.timed (stand L.tells L.told L.listening C.answers self.old) }
         ensures { Goes (work_reach result) (stand L.tells L.told L.listening C.answers self.old) (stand L.tells L.told L.listening C.answers self.new) }
     {
-        match begins(self.rt, self.turn, self.seat, self.links, self.rest, &mut self.noted) {
+        match begins(
+            self.rt,
+            self.turn,
+            self.seat,
+            self.links,
+            self.rest,
+            &mut self.noted,
+        ) {
             Ok(held) => {
                 let mut held = held;
                 let worked = works(&mut held.state, self.clock, &*self.peers);
@@ -96,7 +103,14 @@ impl<'a, W: Wait, L: Links, C: Clock, G: Gate, R: Rest> Desk<'a, W, L, C, G, R> 
         ensures goes { Goes (deed_reach deed.now result) (stand L.tells L.told L.listening C.answers self.old) (stand L.tells L.told L.listening C.answers self.new) }
         ensures last { EndsLast deed.now (stand L.tells L.told L.listening C.answers self.old) (stand L.tells L.told L.listening C.answers self.new) }
     {
-        match begins(self.rt, self.turn, self.seat, self.links, self.rest, &mut self.noted) {
+        match begins(
+            self.rt,
+            self.turn,
+            self.seat,
+            self.links,
+            self.rest,
+            &mut self.noted,
+        ) {
             Ok(held) => {
                 let mut held = held;
                 let did = does(deed, &mut held.state, self.clock, &*self.peers, self.noted);

@@ -100,7 +100,14 @@ impl<'a, W: Wait, L: Links, C: Clock, G: Gate, R: Rest> Desk<'a, W, L, C, G, R> 
         }
         match self.coming.take() {
             None => Ok(()),
-            Some(peer) => match begins(self.rt, self.turn, self.seat, self.links, self.rest, &mut self.noted) {
+            Some(peer) => match begins(
+                self.rt,
+                self.turn,
+                self.seat,
+                self.links,
+                self.rest,
+                &mut self.noted,
+            ) {
                 Ok(held) => {
                     let mut held = held;
                     let deed = Deed::Open(peer.number());

@@ -75,7 +75,14 @@ impl<'a, W: Wait, L: Links, C: Clock, G: Gate, R: Rest> Desk<'a, W, L, C, G, R> 
         ensures goes { Goes (served_reach result) (stand L.tells L.told L.listening C.answers self.old) (stand L.tells L.told L.listening C.answers self.new) }
         ensures place { IfOk result (λ next. Nearer next from self.old.peers.now.items self.new.peers.now.items) }
     {
-        match begins(self.rt, self.turn, self.seat, self.links, self.rest, &mut self.noted) {
+        match begins(
+            self.rt,
+            self.turn,
+            self.seat,
+            self.links,
+            self.rest,
+            &mut self.noted,
+        ) {
             Ok(held) => {
                 let mut held = held;
                 let served = serves(&mut held.state, self.clock, self.peers, from);
