@@ -1,3 +1,4 @@
 pub mod Outcome
 pub mod Drill
+pub mod Debugged
 pub mod inner
