@@ -6,6 +6,7 @@ pub mod Nesting
 pub mod Offers
 pub mod Pendings
 pub mod Rows
+pub mod SameLine
 pub mod Scopes
 pub mod Sound
 pub mod Spelling

@@ -7,8 +7,10 @@ mod control;
 mod fault;
 mod hole;
 mod known;
+mod lines;
 mod names;
 mod pass;
 
 pub use fault::{CompileFault, CompileKind, Refusal};
+pub use lines::HasLines;
 pub use pass::compile;

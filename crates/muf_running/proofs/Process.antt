@@ -16,7 +16,7 @@ use Rattle.muf_model.specs.declared.fault.MufFault.{MufFault}
 use Rattle.muf_model.specs.Answer.{stack_most, variable_at}
 use Rattle.muf_model.specs.Chains.{programs_of, Keeps}
 use Rattle.muf_model.specs.Datum.{Datum, mark}
-use Rattle.muf_model.specs.inner.Decode.{tree_of, definition_at}
+use Rattle.muf_model.specs.inner.Decode.{tree_of, definition_at, placed_or}
 use Rattle.muf_model.specs.inner.Fits.{MarksFit, none, enters, FitsState, fit}
 use Rattle.muf_model.specs.inner.Flat.{FlatMark, Flat, decode, first_code}
 use Rattle.muf_model.specs.Source.{Program, Mark, Owned, Source, handed, passed, passed_at, entered, started, last_word}
@@ -28,6 +28,8 @@ use Rattle.muf_model.specs.Unit.{Outcome, goes, ended, faulted, asks, stuck, uni
 use Rattle.muf_model.proofs.Chains.{units_keep, fault_keeps}
 use Rattle.muf_model.proofs.Nesting.{fault_nested, entered_nested, started_nested, passed_nested}
 use Rattle.muf_model.proofs.Decoded.{decoded, fits}
+use Rattle.muf_compile.specs.Lines.{next_line}
+use Rattle.muf_compile.proofs.SameLine.{same_line}
 use Rattle.muf_frame.specs.inner.Shown.{Shown, flat}
 use Rattle.muf_frame.specs.inner.Moves as moves
 use Rattle.muf_frame.specs.inner.Moves.{caught}
@@ -251,6 +253,11 @@ shows_at es f s h = subst (Shows f) h.1 (record {
   owned = refl;
   variables = refl;
 })
+
+-- the line of what comes next is that of the instruction at the place
+pub line_at : (cs : List Code) (f : Flat) (s : Source) (o : Option Placed) → decode cs f ≡ s → slice_get (first_code cs).placed f.place ≡ o → (placed_or o).line ≡ next_line s.now s.end
+line_at cs f s o at e =
+    ap (λ x. (placed_or x).line) (sym e) ∙ sym (same_line (first_code cs).placed f.place) ∙ ap (λ x. next_line x.now x.end) at
 
 -- the process once a primitive is passed
 passed_programs : (now : Block) (s : Source) → IsAtPrimitive now → programs_of (passed_at now s) ≡ programs_of s

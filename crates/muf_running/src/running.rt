@@ -7,6 +7,7 @@ ghost use Rattle.muf_model.specs.Source.{calls_of, handed, passed, entered};
 ghost use Rattle.muf_model.specs.inner.View.{view};
 ghost use Rattle.muf_model.specs.inner.Stands.{TreeStands};
 ghost use Rattle.muf_model.specs.Chains.{callers_of};
+ghost use Rattle.muf_compile.specs.Lines.{next_line};
 ghost use Rattle.muf_frame.specs.inner.Shown.{flat};
 ghost use Rattle.muf_running.specs.inner.Fitting.{codes_of, ProgramsFit, program_with, numbers_in, number_among, IsAtPrimitive};
 
@@ -74,6 +75,16 @@ impl Running {
         ensures { result.0 ≡ self.now.program.number }
     {
         self.frame.get().program()
+    }
+
+    /// The line of the source of what comes next in the running program.
+    pub fn line(&self) -> u32
+        ensures { result ≡ next_line self.now.now self.now.end }
+    {
+        match running_code(&self.programs).get(self.frame.get().place()) {
+            Some(placed) => placed.line,
+            None => 0,
+        }
     }
 
     /// The numbers of the programs that were entered before the running one, the nearest first.
