@@ -20,9 +20,11 @@ use Rattle.muck_script.specs.declared.act.Act.TheVariants.{Nothing, Open, Send, 
 use Rattle.muck_script.specs.Story.{Dumped, stored, failed, Part, outcomes_of, plain, both, then_on, if_lawful, acted, later, turns, turns_most, taken, parted, served, next_outcome, dump_entries, dumping, asks_dump, asked_dump, line_story, text_of}
 use Rattle.spec_live.specs.Connections.{connections_most}
 use Rattle.muf_debug.specs.declared.view.View.{View}
-use Rattle.muf_debug.specs.Shown.{Tracer, told_all, handed_out, TellsSo, KeepsShown}
+use Rattle.muf_debug.specs.Shown.{Tracer, new_tracer, told_all, handed_out, TellsSo, KeepsShown}
 use Rattle.muf_debug.specs.Watching.{SeesAll}
 use Rattle.muf_debug.proofs.Keeping.{keeps_shown}
+use Rattle.muck_debugging.specs.declared.act.DebugAct.{DebugAct}
+use Rattle.muck_debugging.specs.declared.act.DebugAct.TheVariants.{Plain, Break, Clear, Trace}
 use Rattle.muck_debugging.specs.Seen.{views_in, shown_of, passed, pieces_of, ended, text_of_all, units_of_all}
 use Rattle.muck_debugging.specs.Laws.{are_texts}
 use Rattle.muck_debugging.proofs.Watched.{views-append}
@@ -30,9 +32,10 @@ use Rattle.muck_debugging.proofs.Pieces.{passed-append, refused_passed, kept_sho
 use Rattle.muck_run.specs.declared.playing.RunFault.{RunFault}
 use Rattle.muck_run.specs.declared.playing.RunFault.TheVariants.{NoMemory, WriteFault}
 use Rattle.muck_run.specs.inner.Plays.{Says, Plays, Breaks, PlaysOrBreaks, ending_of}
-use Rattle.muck_run.specs.inner.Seen.{IsReady, Shows, PlaysSeen, BreaksSeen, PlaysOrBreaksSeen, nothing}
+use Rattle.muck_run.specs.inner.Seen.{IsReady, Shows, PlaysSeen, BreaksSeen, PlaysOrBreaksSeen, plain_of, nothing, act_part, commanded}
 use Rattle.muck_run.proofs.Parts.{appends_nothing, appends_as, goes_second, pending_behind, no_ending}
 use Rattle.muck_run.proofs.Turns.{turned_silent}
+use Rattle.muck_run.proofs.Lining.{first_turns, then_asked}
 
 -- Parts of which no unit is seen.
 
@@ -211,6 +214,10 @@ ready_seen f t u h k a b p r = record {
   whole = ap (λ (x : Tracer). x.refused) p.tracer ∙ refused_passed (views_in (now h) p.entries) t ∙ r.whole;
 }
 
+pub ready_new : (t : Tracer) → t ≡ new_tracer → IsReady t
+unfolding new_tracer
+ready_new t e = record { empty = ap (λ (x : Tracer). x.kept) e; whole = ap (λ (x : Tracer). x.refused) e }
+
 -- The turns, and what is shown of them.
 
 opposed : (b : Bool) → b ≡ true → b ≡ false → ⊥
@@ -327,3 +334,44 @@ breaks_nothing_seen t h k o is = record {
   appended = appends_nothing o;
   alive = λ e. no_ending e;
 }
+
+-- what happened, apart from what was written of it
+pub plays_of : (f : Part) (t u : Tracer) (h k : History) (a b : Option (List ℕ)) → PlaysSeen f t u h k a b → Plays f h k None None
+plays_of f t u h k a b p = record { entries = p.entries; said = p.said; history = p.history; text = tt; alive = p.alive }
+
+-- What a line of the script does, by its three parts.
+
+pub line_breaks_seen : (act : Act) (ending : List Entry) (t : Tracer) (h k : History) (a b : Option (List ℕ)) → BreaksSeen (first_turns act) ending t h k a b → BreaksSeen (line_story act) ending t h k a b
+unfolding line_story
+line_breaks_seen act ending t h k a b p =
+    breaks_first_seen (then_asked act) (served connections_most 1) ending t h k a b (breaks_first_seen (first_turns act) (asked_dump act) ending t h k a b p)
+
+pub line_breaks_dumping_seen : (act : Act) (ending : List Entry) (t u : Tracer) (h k m : History) (a b : Option (List ℕ)) → PlaysSeen (first_turns act) t u h k a b → Breaks (asked_dump act) ending k m b b → BreaksSeen (line_story act) ending t h m a b
+unfolding line_story
+line_breaks_dumping_seen act ending t u h k m a b p q =
+    breaks_first_seen (then_asked act) (served connections_most 1) ending t h m a b
+    (breaks_second_seen (first_turns act) (asked_dump act) ending t u h k m a b b p (breaks_unseen (asked_dump act) ending u k m b b (asked_unseen act) q))
+
+pub line_serves_seen : {T : Type 0} (act : Act) (t u : Tracer) (h k l m : History) (a b c : Option (List ℕ)) (r : Result T RunFault) → PlaysSeen (first_turns act) t u h k a b → Plays (asked_dump act) k l b b → PlaysOrBreaks (served connections_most 1) l m b c r
+    → PlaysOrBreaksSeen (line_story act) t u h m a c r
+unfolding line_story
+line_serves_seen act t u h k l m a b c r p q s =
+    second_seen (then_asked act) (served connections_most 1) t u u h l m a b c r
+    (plays_both_seen (first_turns act) (asked_dump act) t u u h k l a b b p (plays_unseen (asked_dump act) u k l b b (asked_unseen act) q))
+    (any_unseen (served connections_most 1) u l m b c r (served_unseen connections_most 1) s)
+
+commanded_plain : (act : DebugAct) (line : Act) (t : Tracer) → plain_of act ≡ Some line → commanded act t ≡ t
+commanded_plain (Plain act) line t e = refl
+commanded_plain (Break n l) line t e = cc
+commanded_plain (Clear n l) line t e = cc
+commanded_plain (Trace on) line t e = cc
+
+-- a line that `run` knows too
+pub act_seen : {T : Type 0} (act : DebugAct) (line : Act) (t u : Tracer) (h k : History) (a b : Option (List ℕ)) (r : Result T RunFault) → Some line ≡ plain_of act → PlaysOrBreaksSeen (line_story line) t u h k a b r → PlaysOrBreaksSeen (act_part (plain_of act)) (commanded act t) u h k a b r
+act_seen act line t u h k a b r e p =
+    subst (λ (o : Option Act). PlaysOrBreaksSeen (act_part o) (commanded act t) u h k a b r) e
+    (subst (λ (x : Tracer). PlaysOrBreaksSeen (line_story line) x u h k a b r) (sym (commanded_plain act line t (sym e))) p)
+
+-- one of the four
+pub command_seen : {T : Type 0} (act : DebugAct) (t u : Tracer) (h k : History) (a b : Option (List ℕ)) (r : Result T RunFault) → None ≡ plain_of act → PlaysOrBreaksSeen nothing t u h k a b r → PlaysOrBreaksSeen (act_part (plain_of act)) t u h k a b r
+command_seen act t u h k a b r e p = subst (λ (o : Option Act). PlaysOrBreaksSeen (act_part o) t u h k a b r) e p

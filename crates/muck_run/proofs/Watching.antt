@@ -71,8 +71,6 @@ lines_then : (act : DebugAct) (acts : List DebugAct) (t u : Tracer) (h k m : His
 lines_then act acts t u h k m a b c e p q =
     let next : now k ≡ after (now h) p.entries = now-longer h k _ p.history in
     let first = pieces_of (commanded act t) (now h) p.entries in
-    let split : (later : List Dumped) → debug_pieces (act ∷ acts) (outcomes_of (p.entries ++ q.entries) ++ later) (now h) t ≡ first ++ debug_pieces acts (outcomes_of q.entries ++ later) (now k) u =
-    λ later. pieces_first act acts later (now h) (now k) t u p.entries q.entries e p.said next p.tracer in
     record {
       entries = p.entries ++ q.entries;
       said = λ later.
@@ -80,8 +78,10 @@ lines_then act acts t u h k m a b c e p q =
           ∙ goes_second (act_part (plain_of act)) (lines_story (plain_acts acts)) (now h) (now k) p.entries q.entries later next p.said
           ∙ ap (λ es. p.entries ++ es) (q.said later);
       history = longer_on h k m _ _ p.history q.history;
-      text = λ later. appends_as a c _ _ (sym (ap text_of_all (split later) ∙ text-append first _)) (appends_twice a b c _ _ p.text (q.text later));
-      texts = λ later. ap are_texts (ap units_of_all (split later) ∙ units-append first _) ∙ texts_both (units_of_all first) _ p.texts (q.texts later);
+      pieces = first ++ q.pieces;
+      made = λ later. pieces_first act acts later (now h) (now k) t u p.entries q.entries e p.said next p.tracer ∙ ap (λ (ps : List Piece). first ++ ps) (q.made later);
+      text = appends_as a c _ _ (sym (text-append first q.pieces)) (appends_twice a b c _ _ p.text q.text);
+      texts = ap are_texts (units-append first q.pieces) ∙ texts_both (units_of_all first) (units_of_all q.pieces) p.texts q.texts;
       alive = q.alive;
     }
 
@@ -189,8 +189,10 @@ lines_stopped acts t h o e alive = record {
   entries = [];
   said = λ later. stopped (plain_acts acts) later (now h) e;
   history = longer_nothing h h refl;
-  text = λ later. appends_as o o [] _ (sym (ap text_of_all (stopped_pieces acts later (now h) t e))) (appends_nothing o);
-  texts = λ later. ap (λ (ps : List Piece). are_texts (units_of_all ps)) (stopped_pieces acts later (now h) t e);
+  pieces = [];
+  made = λ later. stopped_pieces acts later (now h) t e;
+  text = appends_nothing o;
+  texts = refl;
   alive = alive;
 }
 
@@ -206,8 +208,10 @@ lines_halted t h k o e is alive =
       entries = by_porter Halt ∷ [];
       said = λ later. halts;
       history = longer_one h k (by_porter Halt) is;
-      text = λ later. appends_as o o [] _ (sym (ap (λ (es : List Entry). text_of_all (pieces_of t (now h) es)) halts ∙ halt_text t (now h))) (appends_nothing o);
-      texts = λ later. ap (λ (es : List Entry). are_texts (units_of_all (pieces_of t (now h) es))) halts ∙ ap are_texts (units_unseen (by_porter Halt ∷ []) (now h) t refl);
+      pieces = pieces_of t (now h) (by_porter Halt ∷ []);
+      made = λ later. ap (pieces_of t (now h)) halts;
+      text = appends_as o o [] _ (sym (halt_text t (now h))) (appends_nothing o);
+      texts = ap are_texts (units_unseen (by_porter Halt ∷ []) (now h) t refl);
       alive = lives_on h k Halt is refl alive;
     }
 

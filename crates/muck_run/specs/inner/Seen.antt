@@ -12,7 +12,7 @@ use Rattle.muck_script.specs.Story.{Dumped, Part, outcomes_of, plain, line_story
 use Rattle.muf_debug.specs.Shown.{Tracer, handed_out, with_break, without_break}
 use Rattle.muck_debugging.specs.declared.act.DebugAct.{DebugAct}
 use Rattle.muck_debugging.specs.declared.act.DebugAct.TheVariants.{Plain, Break, Clear, Trace}
-use Rattle.muck_debugging.specs.Seen.{views_in, passed, pieces_of, ended, text_of_all, units_of_all, plain_acts, debug_pieces}
+use Rattle.muck_debugging.specs.Seen.{views_in, passed, Piece, pieces_of, ended, text_of_all, units_of_all, plain_acts, debug_pieces}
 use Rattle.muck_debugging.specs.Laws.{are_texts}
 use Rattle.muck_run.specs.Outcome.{IsPending}
 use Rattle.muck_run.specs.inner.Plays.{Says, ending_of}
@@ -107,8 +107,10 @@ pub record PlaysLines (acts : List DebugAct) (t : Tracer) (h k : History) (befor
   pub entries : List Entry
   pub said : Says (lines_story (plain_acts acts)) (now h) entries
   pub history : Longer h k entries
-  pub text : (later : List Dumped) → Appends before written (text_of_all (debug_pieces acts (outcomes_of entries ++ later) (now h) t))
-  pub texts : (later : List Dumped) → are_texts (units_of_all (debug_pieces acts (outcomes_of entries ++ later) (now h) t)) ≡ true
+  pub pieces : List Piece
+  pub made : (later : List Dumped) → debug_pieces acts (outcomes_of entries ++ later) (now h) t ≡ pieces
+  pub text : Appends before written (text_of_all pieces)
+  pub texts : are_texts (units_of_all pieces) ≡ true
   pub alive : (now k).dead ≡ false
 
 pub record BreaksLines (acts : List DebugAct) (ending : List Entry) (t : Tracer) (h k : History) (before written : Option (List ℕ)) : Type 0 where
