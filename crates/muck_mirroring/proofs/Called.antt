@@ -62,10 +62,6 @@ grammar_stands : (left : Option (List ℕ)) (line : ℕ) → IsInGrammar left �
 grammar_stands None line is outside = is
 grammar_stands (Some bytes) line is outside = let both = sym is.1 ∙ outside in cc
 
--- an error is that one
-pub err_is : {T E : Type 0} (r : Result T E) (e f : E) → r ≡ Err e → r ≡ Err f → e ≡ f
-err_is r e f one other = let both = sym one ∙ other in cc
-
 -- where nothing stood in its way
 pub completes : (left : Option (List ℕ)) (r : Result Chosen Damage) (chosen : Chosen) (U B : Type 0) (why : Why) → MirrorsAs why U B → ((line : ℕ) → why ≡ BadScript line → IsFirstOutside left line) → (why ≡ ReadFault → ⊥) → (why ≡ WriteFault → ⊥) → (why ≡ DiskFault → ⊥)
     → ((file : Bool) (at : ℕ) → why ≡ Damaged file at → r ≡ Err (record { second = file; at = at })) → r ≡ Ok chosen → IsInGrammar left → (why ≡ Fine) ⊎ (why ≡ NoMemory)

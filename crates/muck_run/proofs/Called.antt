@@ -1,5 +1,5 @@
 -- What a call answers, from where it ended.
-use Rattle.std.proofs.Common.{◌≡◌, ◌⊎◌, inl, inr, ℕ, ◌≤◌, Bool, true, List, refl, sym, ap, subst, ◌∙◌, arith, Option, Some, Result, Ok}
+use Rattle.std.proofs.Common.{◌≡◌, ◌⊎◌, inl, inr, ℕ, ◌≤◌, Bool, true, List, refl, sym, ap, subst, ◌∙◌, arith, Option, Some, None, Result, Ok, Err}
 use Rattle.std.specs.Prelude.{codes, ◌++◌}
 use Rattle.muck_io.specs.Faults.{Rose}
 use Rattle.muck_model.specs.declared.event.Entry.{Entry}
@@ -11,10 +11,11 @@ use Rattle.muck_log.specs.declared.fault.LogFault.{LogFault}
 use Rattle.muck_log.specs.declared.fault.LogFault.TheVariants.{NoMemory as LogMemory, DiskFault as LogDisk, Damaged as LogDamaged, StoreFull as LogFull, Stale}
 use Rattle.spec_dumps.specs.Fronts.{file_most}
 use Rattle.muck_script.specs.declared.act.Act.{Act}
-use Rattle.muck_run.specs.Outcome.{HasRead, HasBegun, IsUnbegun, IsUntouched, EndsAs}
+use Rattle.muck_run.specs.Done.{RunDone}
+use Rattle.muck_run.specs.Outcome.{HasRead, HasBegun, IsUnbegun, IsUntouched, EndsAs, EndsFull, IsInGrammar, IsFirstOutside}
 use Rattle.muck_run.specs.inner.Ends.{refusal_of, MayNotOpen, IsMountWhy, MayRefuse, IsScriptWhy, HasPlayed, NeverPlayed, MayEnd, MayEndDump, booted_from}
 use Rattle.muck_run.specs.declared.why.Why.{Why}
-use Rattle.muck_run.specs.declared.why.Why.TheVariants.{Fine, BadScript, NoMemory, ReadFault, WriteFault, DiskFault, Damaged, StoreFull}
+use Rattle.muck_run.specs.declared.why.Why.TheVariants.{Fine, Usage, BadScript, NoMemory, ReadFault, WriteFault, DiskFault, Damaged, ListenFault, StoreFull, Spent}
 use Rattle.muck_run.proofs.Started.{licensed_from, sourced_from, denials_from, origins_from, seats_from, stops_from, there_from, known_from}
 use Rattle.muck_run.proofs.Untouched.{untouched_still, untouched_on}
 
@@ -74,6 +75,10 @@ dump_may tells why may = absurd may
 -- the last dump of a run doesn't hide that the sink failed
 pub not_write : (tells : Bool) (why : Why) → MayEndDump tells why → why ≡ WriteFault → ⊥
 not_write tells why may e = subst (MayEndDump tells) e may
+
+-- an error is that one
+pub err_is : {T E : Type 0} (r : Result T E) (e f : E) → r ≡ Err e → r ≡ Err f → e ≡ f
+err_is r e f one other = let both = sym one ∙ other in cc
 
 -- a count that rose after another call did since before it
 pub rose_since : (a b c : ℕ) → a ≤ b → Rose b c → Rose a c
@@ -156,4 +161,67 @@ module _ {S K D : Type 0} (left : S → Option (List ℕ)) (faults : S → ℕ) 
     whole = p.whole;
     full = p.full;
     failed = p.failed;
+  }
+
+-- Where nothing stood in the way of a run, the work is done.
+
+grammar_stands : (left : Option (List ℕ)) (line : ℕ) → IsInGrammar left → IsFirstOutside left line → ⊥
+grammar_stands None line is outside = is
+grammar_stands (Some bytes) line is outside = let both = sym is.1 ∙ outside in cc
+
+completes : (left : Option (List ℕ)) (r : Result Chosen Damage) (s : Chosen) (U B : Type 0) (why : Why) → EndsAs why U B → (why ≡ Usage → ⊥) → ((line : ℕ) → why ≡ BadScript line → IsFirstOutside left line) → (why ≡ ReadFault → ⊥) → (why ≡ WriteFault → ⊥) → (why ≡ DiskFault → ⊥)
+    → ((file : Bool) (at : ℕ) → why ≡ Damaged file at → r ≡ Err (record { second = file; at = at })) → r ≡ Ok s → IsInGrammar left
+    → (F : ℕ → ℕ → Type 0) → ((end more : ℕ) → why ≡ StoreFull end more → B → F end more) → (why ≡ Fine) ⊎ ((why ≡ NoMemory) ⊎ ((end more : ℕ) × (why ≡ StoreFull end more) × F end more))
+completes left r s U B Fine ends usage bad read write disk damaged ok grammar F full = inl refl
+completes left r s U B Usage ends usage bad read write disk damaged ok grammar F full = absurd (usage refl)
+completes left r s U B (BadScript line) ends usage bad read write disk damaged ok grammar F full = absurd (grammar_stands left line grammar (bad line refl))
+completes left r s U B NoMemory ends usage bad read write disk damaged ok grammar F full = inr (inl refl)
+completes left r s U B ReadFault ends usage bad read write disk damaged ok grammar F full = absurd (read refl)
+completes left r s U B WriteFault ends usage bad read write disk damaged ok grammar F full = absurd (write refl)
+completes left r s U B DiskFault ends usage bad read write disk damaged ok grammar F full = absurd (disk refl)
+completes left r s U B (Damaged file at) ends usage bad read write disk damaged ok grammar F full = let both = sym ok ∙ damaged file at refl in cc
+completes left r s U B ListenFault ends usage bad read write disk damaged ok grammar F full = absurd ends
+completes left r s U B (Spent turns) ends usage bad read write disk damaged ok grammar F full = absurd ends
+completes left r s U B (StoreFull end more) ends usage bad read write disk damaged ok grammar F full = inr (inr (end, more, refl, full end more refl ends))
+
+-- What a call for `run` comes to: where nothing stood in its way follows from the causes of its answers.
+module _ {S K D : Type 0} (left : S → Option (List ℕ)) (faults : S → ℕ) (written : K → Option (List ℕ)) (breaks : K → ℕ) (tells : Bool) (attached : D → Option (List ℕ)) (seen : D → List ℕ) (moment : D → ℕ) (images : D → ℕ → List ℕ → Type 0) (fails : D → ℕ) (store : List ℕ)
+    (why : Why) (s t : S) (k l : K) (first second first' second' : D) (tale : List Entry) (notes : List Note) where
+  abbrev Begun : Type 0
+  Begun = HasBegun left faults written breaks tells attached seen moment images fails store why s t k l first second first' second' tale notes
+
+  ends_full : tells ≡ true → (end more : ℕ) → why ≡ StoreFull end more → Begun → EndsFull tells seen 0 first second first' second' tale notes end more
+  ends_full on end more is b = record { start = b.start; mounted = b.mounted; begins = b.begins; full = b.full end more on is }
+
+  pub run_done : EndsAs why (IsUnbegun tells seen moment images k l first second first' second' tale) Begun
+      → (why ≡ Usage → ⊥)
+      → ((line : ℕ) → why ≡ BadScript line → IsFirstOutside (left s) line)
+      → (why ≡ ReadFault → Rose (faults s) (faults t))
+      → (why ≡ WriteFault → Rose (breaks k) (breaks l))
+      → (why ≡ DiskFault → Rose (fails first) (fails first') ⊎ Rose (fails second) (fails second'))
+      → ((file : Bool) (at : ℕ) → tells ≡ true → why ≡ Damaged file at → stored (seen first) (seen second) ≡ Err (record { second = file; at = at }))
+      → ((why ≡ ReadFault → ⊥) → faults t ≡ faults s)
+      → ((why ≡ WriteFault → ⊥) → breaks l ≡ breaks k)
+      → ((file : Bool) (at : ℕ) → tells ≡ true → why ≡ Damaged file at → t ≡ s)
+      → (tells ≡ true → (why ≡ ReadFault) ⊎ ((line : ℕ) × (why ≡ BadScript line)) → (chosen : Chosen) × (stored (seen first) (seen second) ≡ Ok chosen))
+      → RunDone left faults written breaks tells attached seen moment images fails store why s t k l first second first' second' tale notes
+  run_done ends usage bad_script read_fault write_fault disk_fault damaged source_stands sink_stands unread loads = record {
+    ends = ends;
+    usage = usage;
+    bad_script = bad_script;
+    read_fault = read_fault;
+    write_fault = write_fault;
+    disk_fault = disk_fault;
+    damaged = damaged;
+    source_stands = source_stands;
+    sink_stands = sink_stands;
+    unread = unread;
+    loads = loads;
+    complete = λ chosen on ok grammar source sink a b.
+        completes (left s) _ chosen _ _ why ends usage bad_script (λ e. source (read_fault e)) (λ e. sink (write_fault e))
+        (λ e. elim (disk_fault e) [
+          | inl rose ↦ a rose
+          | inr rose ↦ b rose
+        ])
+        (λ file at e. damaged file at on e) ok grammar _ (ends_full on);
   }

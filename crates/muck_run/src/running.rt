@@ -11,7 +11,8 @@ ghost use Rattle.spec_dumps.specs.inner.Holding.{Quietly, Rests};
 ghost use Rattle.muck_dumping.specs.inner.Between.{Knows};
 ghost use Rattle.muck_run.specs.inner.Dumps.{note_of, DumpsLast, IsNotedOn};
 ghost use Rattle.muck_run.specs.inner.Ends.{why_of, MayEnd, MayEndDump, IsScriptWhy, IsBootable, unbegun_at, begun_at, EndsPlay, ComesOutAs, LastKept, HasPlayed, NeverPlayed};
-ghost use Rattle.muck_run.specs.Outcome.{halted, HasRead, HasBegun, EndsAs, IsUnbegun, IsFirstOutside};
+ghost use Rattle.muck_run.specs.Done.{RunDone};
+ghost use Rattle.muck_run.specs.Outcome.{halted, HasRead};
 
 use crate::dumping::{Store, dump};
 use crate::mounting::{awake, mount};
@@ -63,6 +64,9 @@ fn read_script<S: Source>(alloc: Global, script: &mut S) -> Result<Script, Why>
 
 /// Mounts the store of this name, reads the script whole, runs it on the world of the store, and writes its transcript. In the end the world is
 /// dumped. Answers why it ended, with what happened in the world.
+///
+/// `Damaged` comes where the files hold no store, and before the script is read; `BadScript` where a line is outside the grammar, with the number of the first, and `ReadFault` where the source
+/// failed: then nothing happened. `WriteFault` comes where the sink failed, `DiskFault` where a disk did, `StoreFull` where the last dump would pass what a file may have, and `NoMemory` at any time.
 pub fn run<S: Source, K: Sink, D: Disk>(
     alloc: Global,
     name: &str,
@@ -71,17 +75,7 @@ pub fn run<S: Source, K: Sink, D: Disk>(
     first: &mut D,
     second: &mut D,
 ) -> (Why, Tale)
-    ensures usage { result.0 ≡ Why.Usage → ⊥ }
-    ensures bad_script { (line : ℕ) → result.0 ≡ Why.BadScript line → IsFirstOutside (S.left script.old) line }
-    ensures history { EndsAs result.0 (IsUnbegun D.tells D.seen D.moment D.images out.old out.new first.old second.old first.new second.new result.1.entries) (HasBegun S.left S.faults K.written K.faults D.tells D.attached D.seen D.moment D.images D.faults name.now result.0 script.old script.new out.old out.new first.old second.old first.new second.new result.1.entries result.1.notes) }
-    ensures read_fault { result.0 ≡ Why.ReadFault → Rose (S.faults script.old) (S.faults script.new) }
-    ensures write_fault { result.0 ≡ Why.WriteFault → Rose (K.faults out.old) (K.faults out.new) }
-    ensures source_stands { (result.0 ≡ Why.ReadFault → ⊥) → S.faults script.new ≡ S.faults script.old }
-    ensures sink_stands { (result.0 ≡ Why.WriteFault → ⊥) → K.faults out.new ≡ K.faults out.old }
-    ensures disk_fault { result.0 ≡ Why.DiskFault → Rose (D.faults first.old) (D.faults first.new) ⊎ Rose (D.faults second.old) (D.faults second.new) }
-    ensures damaged { (file : Bool) (at : ℕ) → D.tells ≡ true → result.0 ≡ Why.Damaged file at → stored (D.seen first.old) (D.seen second.old) ≡ Err (record { second = file; at = at }) }
-    ensures unread { (file : Bool) (at : ℕ) → D.tells ≡ true → result.0 ≡ Why.Damaged file at → script.new ≡ script.old }
-    ensures loads { D.tells ≡ true → (result.0 ≡ Why.ReadFault) ⊎ ((line : ℕ) × (result.0 ≡ Why.BadScript line)) → (s : Chosen) × (stored (D.seen first.old) (D.seen second.old) ≡ Ok s) }
+    ensures done { RunDone S.left S.faults K.written K.faults D.tells D.attached D.seen D.moment D.images D.faults name.now result.0 script.old script.new out.old out.new first.old second.old first.new second.new result.1.entries result.1.notes }
 {
     let log = match mount(alloc, name, first, second) {
         Ok(log) => log,

@@ -1,6 +1,6 @@
 -- What a call for `serve` comes to, from what the server says.
-use Rattle.std.proofs.Common.{◌≡◌, ◌⊎◌, inl, inr, ℕ, ◌≤◌, Bool, true, false, List, refl, sym, ap, subst, ◌∙◌, Option, Some, None, Ok}
-use Rattle.std.specs.Prelude.{codes, All, ◌++◌}
+use Rattle.std.proofs.Common.{◌≡◌, ◌⊎◌, inl, inr, ℕ, ◌≤◌, Bool, true, false, List, refl, sym, ap, subst, ◌∙◌, Option, Some, None, Ok, Err}
+use Rattle.std.specs.Prelude.{codes, length, All, ◌++◌, ◌^◌}
 use Rattle.muck_codec.specs.inner.Stored.{AreProperties}
 use Rattle.muck_io.specs.Faults.{Rose}
 use Rattle.muck_io.specs.inner.Clock.{Answers}
@@ -21,15 +21,12 @@ use Rattle.muck_crew.specs.inner.Runs.{IsFresh}
 use Rattle.muck_server.specs.Served.{IsServed, IsUnserved as Never, HasEnded}
 use Rattle.muck_crew.specs.declared.why.Why.{Why as Ended}
 use Rattle.muck_crew.specs.declared.why.Why.TheVariants as ended
-use Rattle.muck_mirroring.specs.Mirroring.{MirrorsAs}
-use Rattle.muckd.specs.Words.{Command, run, drill, serve, mirror, is_scripted}
-use Rattle.muck_run.specs.Drill.{HasDrilled}
-use Rattle.muck_run.specs.Outcome.{IsUntouched, EndsAs, EndsFull}
+use Rattle.muck_run.specs.Outcome.{IsUntouched, EndsFull}
 use Rattle.muck_run.specs.inner.Dumps.{note_of}
-use Rattle.muckd.specs.Serving.{why_served, IsUnserved, HasServed, ServesAs}
-use Rattle.muck_run.specs.inner.Ends.{IsBootable, IsNoteOf, booted_at, unbegun_at, begun_at}
+use Rattle.muckd.specs.Serving.{why_served, IsUnserved, HasServed, ServesAs, ServeDone}
+use Rattle.muck_run.specs.inner.Ends.{IsBootable, IsNoteOf, MayRefuse, booted_at, unbegun_at, begun_at}
 use Rattle.muck_run.specs.declared.why.Why.{Why}
-use Rattle.muck_run.specs.declared.why.Why.TheVariants.{Fine, Usage, NoMemory, DiskFault, Damaged, ListenFault, StoreFull, Spent}
+use Rattle.muck_run.specs.declared.why.Why.TheVariants.{Fine, NoMemory, DiskFault, Damaged, ListenFault, StoreFull, Spent}
 use Rattle.muck_run.proofs.Called.{holds_still, either_since}
 use Rattle.muck_run.proofs.Started.{rests_started, licensed_from, sourced_from, denials_from, origins_from, seats_from, stops_from, there_from, known_from}
 use Rattle.muck_run.proofs.Untouched.{untouched_still, untouched_on}
@@ -205,6 +202,13 @@ module _ {L C D : Type 0} (shows : Bool) (told : L → Told) (listening : L → 
         | inr s ↦ served_ends cause Unserved (Served (why_served cause)) (has_served m (subst (λ (x : World). Ends x) is s))
       ])
 
+-- no store was mounted
+pub refused_serves : (why : Why) (U S : Type 0) → MayRefuse why → U → ServesAs why U S
+refused_serves (Damaged second at) U S may u = inl u
+refused_serves NoMemory U S may u = inl u
+refused_serves DiskFault U S may u = inl u
+refused_serves why U S may u = absurd may
+
 -- What the server itself says of the disks, by its answer.
 
 module _ {D : Type 0} (shows tells : Bool) (before now : Account) (seen : D → List ℕ) (moment : D → ℕ) (images : D → ℕ → List ℕ → Type 0) (faults : D → ℕ) (first first' : D) (second second' : D) (workers port : ℕ) (cause : Ended)
@@ -228,24 +232,8 @@ module _ {D : Type 0} (shows tells : Bool) (before now : Account) (seen : D → 
         | inr s ↦ s.undamaged file at on is
       ]
 
--- What the answer of a server tells.
-
-module _ {L C D : Type 0} (shows : Bool) (told : L → Told) (listening : L → ℕ) (answers : C → Option (List ℕ))
-    (tells : Bool) (attached : D → Option (List ℕ)) (seen : D → List ℕ) (moment : D → ℕ) (images : D → ℕ → List ℕ → Type 0) (faults : D → ℕ) (store : List ℕ) (port workers : ℕ)
-    (why : Why) (l l' : L) (c c' : C) (first second first' second' : D) (tale : List Entry) (notes : List Note) (counted : Option Counted) (U : Type 0) where
-  abbrev HasBeenServed : Type 0
-  HasBeenServed = HasServed shows told listening answers tells attached seen moment images faults store port workers why l l' c c' first second first' second' tale notes counted
-
-  pub listening_failed : ServesAs why U HasBeenServed → why ≡ ListenFault → Rose (listening l) (listening l')
-  listening_failed ends e =
-      let s : HasBeenServed = subst (λ (x : Why). ServesAs x U HasBeenServed) e ends in
-      (subst (λ (x : Ended). HasEnded workers (listening l) (listening l') s.start x tale) (cause_is s.cause ended.ListenFault ListenFault (sym s.answered ∙ e) refl) s.ended).0
-
-  pub served_full : tells ≡ true → (end more : ℕ) → why ≡ StoreFull end more → HasBeenServed → (began : ℕ) × EndsFull tells seen began first second first' second' tale notes end more
-  served_full on end more is s = (s.began, record { start = s.start; mounted = s.mounted; begins = s.begins; full = s.full end more on is })
-
 -- where nothing stood in its way
-pub serves_all : (why : Why) (U S : Type 0) → ServesAs why U S → (why ≡ DiskFault → ⊥) → (why ≡ ListenFault → ⊥) → ((file : Bool) (at : ℕ) → why ≡ Damaged file at → ⊥)
+serves_all : (why : Why) (U S : Type 0) → ServesAs why U S → (why ≡ DiskFault → ⊥) → (why ≡ ListenFault → ⊥) → ((file : Bool) (at : ℕ) → why ≡ Damaged file at → ⊥)
     → (F : ℕ → ℕ → ℕ → Type 0) → ((end more : ℕ) → why ≡ StoreFull end more → S → (began : ℕ) × F end more began)
     → (why ≡ Fine) ⊎ ((why ≡ NoMemory) ⊎ (((end more began : ℕ) × (why ≡ StoreFull end more) × F end more began) ⊎ ((turns : ℕ) × (why ≡ Spent turns))))
 serves_all Fine U S ends disk listen damaged F full = inl refl
@@ -257,33 +245,45 @@ serves_all ListenFault U S ends disk listen damaged F full = absurd (listen refl
 serves_all (Damaged file at) U S ends disk listen damaged F full = absurd (damaged file at refl)
 serves_all why U S ends disk listen damaged F full = absurd ends
 
--- A script and a drill end otherwise than by the answers of a server alone.
+-- What the answer of a server tells.
 
-abbrev pub MayScript : Why → Type 0
-MayScript ListenFault = ⊥
-MayScript (Spent turns) = ⊥
-MayScript why = Unit {0}
+module _ {L C D : Type 0} (shows : Bool) (told : L → Told) (listening : L → ℕ) (answers : C → Option (List ℕ))
+    (tells : Bool) (attached : D → Option (List ℕ)) (seen : D → List ℕ) (moment : D → ℕ) (images : D → ℕ → List ℕ → Type 0) (faults : D → ℕ) (store : List ℕ) (port workers : ℕ)
+    (why : Why) (l l' : L) (c c' : C) (first second first' second' : D) (tale : List Entry) (notes : List Note) (counted : Option Counted) where
+  abbrev U : Type 0
+  U = IsUnserved shows told answers tells seen moment images port l l' c c' first second first' second' tale counted
 
-pub ends_scripted : (why : Why) (U B : Type 0) → EndsAs why U B → MayScript why
-ends_scripted ListenFault U B ends = ends
-ends_scripted (Spent turns) U B ends = ends
-ends_scripted why U B ends = tt
+  abbrev HasBeenServed : Type 0
+  HasBeenServed = HasServed shows told listening answers tells attached seen moment images faults store port workers why l l' c c' first second first' second' tale notes counted
 
-pub drilled_scripted : {K : Type 0} (written : K → Option (List ℕ)) (faults : K → ℕ) (n : ℕ) (why : Why) (before now : K) (tale : List Entry) → HasDrilled written faults n why before now tale → MayScript why
-drilled_scripted written faults n ListenFault before now tale ends = ends
-drilled_scripted written faults n (Spent turns) before now tale ends = ends
-drilled_scripted written faults n why before now tale ends = tt
+  listening_failed : ServesAs why U HasBeenServed → why ≡ ListenFault → Rose (listening l) (listening l')
+  listening_failed ends e =
+      let s : HasBeenServed = subst (λ (x : Why). ServesAs x U HasBeenServed) e ends in
+      (subst (λ (x : Ended). HasEnded workers (listening l) (listening l') s.start x tale) (cause_is s.cause ended.ListenFault ListenFault (sym s.answered ∙ e) refl) s.ended).0
 
-pub mirrored_scripted : (why : Why) (U B : Type 0) → MirrorsAs why U B → MayScript why
-mirrored_scripted ListenFault U B ends = ends
-mirrored_scripted (Spent turns) U B ends = ends
-mirrored_scripted why U B ends = tt
+  served_full : tells ≡ true → (end more : ℕ) → why ≡ StoreFull end more → HasBeenServed → (began : ℕ) × EndsFull tells seen began first second first' second' tale notes end more
+  served_full on end more is s = (s.began, record { start = s.start; mounted = s.mounted; begins = s.begins; full = s.full end more on is })
 
--- whatever the command is
-pub scripted_may : (command : Option Command) (why : Why) → (is_scripted command ≡ false → why ≡ Usage) → ((store : List ℕ) → command ≡ Some (run store) → MayScript why) → ((n : ℕ) → command ≡ Some (drill n) → MayScript why)
-    → ((store : List ℕ) → command ≡ Some (mirror store) → MayScript why) → MayScript why
-scripted_may None why usage runs drills mirrors = subst MayScript (sym (usage refl)) tt
-scripted_may (Some (run store)) why usage runs drills mirrors = runs store refl
-scripted_may (Some (drill n)) why usage runs drills mirrors = drills n refl
-scripted_may (Some (mirror store)) why usage runs drills mirrors = mirrors store refl
-scripted_may (Some (serve store port workers)) why usage runs drills mirrors = subst MayScript (sym (usage refl)) tt
+  turns_spent : ServesAs why U HasBeenServed → (turns : ℕ) → why ≡ Spent turns → (turns ≡ 2 ^ 62) × (2 ^ 62 ≤ length tale)
+  turns_spent ends turns e =
+      let s : HasBeenServed = subst (λ (x : Why). ServesAs x U HasBeenServed) e ends in
+      subst (λ (x : Ended). HasEnded workers (listening l) (listening l') s.start x tale) (cause_is s.cause (ended.Spent turns) (Spent turns) (sym s.answered ∙ e) refl) s.ended
+
+  -- what a call comes to, from which of the two is so, and the causes of the answers that a store gives
+  pub serve_done : ServesAs why U HasBeenServed → (why ≡ DiskFault → Rose (faults first) (faults first') ⊎ Rose (faults second) (faults second'))
+      → ((file : Bool) (at : ℕ) → tells ≡ true → why ≡ Damaged file at → stored (seen first) (seen second) ≡ Err (record { second = file; at = at }))
+      → ServeDone shows told listening answers tells attached seen moment images faults store port workers why l l' c c' first second first' second' tale notes counted
+  serve_done ends disk_fault damaged = record {
+    ends = ends;
+    listen_fault = listening_failed ends;
+    disk_fault = disk_fault;
+    damaged = damaged;
+    spent = turns_spent ends;
+    complete = λ chosen on ok listen a b.
+        serves_all why U HasBeenServed ends
+        (λ e. elim (disk_fault e) [
+          | inl rose ↦ a rose
+          | inr rose ↦ b rose
+        ])
+        (λ e. listen (listening_failed ends e)) (λ file at e. let both = sym ok ∙ damaged file at on e in cc) (λ end more began. EndsFull tells seen began first second first' second' tale notes end more) (served_full on);
+  }

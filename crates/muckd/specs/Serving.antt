@@ -1,5 +1,6 @@
 -- What a call for `serve` comes to.
-use Rattle.std.specs.Prelude.{◌≡◌, ◌⊎◌, ℕ, Bool, true, false, List, [], ◌∷◌, Option, Some, None, Ok}
+use Rattle.std.specs.Prelude.{◌≡◌, ◌⊎◌, ◌≤◌, ◌^◌, ℕ, Bool, true, false, List, [], ◌∷◌, length, Option, Some, None, Ok, Err}
+use Rattle.muck_io.specs.Faults.{Rose}
 use Rattle.muck_io.specs.inner.Clock.{Answers}
 use Rattle.muck_links.specs.Sessions.{Told}
 use Rattle.muck_model.specs.declared.event.Entry.{Entry}
@@ -24,7 +25,7 @@ use Rattle.muck_server.specs.Served.{IsCarried, HasStopped, HasRunOut, HasEnded}
 use Rattle.muck_crew.specs.declared.why.Why.{Why as Ended}
 use Rattle.muck_crew.specs.declared.why.Why.TheVariants as ended
 use Rattle.muckd.specs.Words.{Command, serve}
-use Rattle.muck_run.specs.Outcome.{IsStart, IsOpened, IsUntouched, IsTooLarge}
+use Rattle.muck_run.specs.Outcome.{IsStart, IsOpened, IsUntouched, IsTooLarge, EndsFull}
 use Rattle.muck_run.specs.declared.why.Why.{Why}
 use Rattle.muck_run.specs.declared.why.Why.TheVariants.{Fine, NoMemory, DiskFault, Damaged, ListenFault, StoreFull, Spent}
 
@@ -114,3 +115,22 @@ ServesAs NoMemory unserved served = unserved ⊎ served
 ServesAs DiskFault unserved served = unserved ⊎ served
 ServesAs (Damaged second at) unserved served = unserved ⊎ served
 ServesAs why unserved served = ⊥
+
+-- A call for `serve`, by its answer.
+pub record ServeDone {L C D : Type 0} (shows : Bool) (told : L → Told) (listening : L → ℕ) (answers : C → Option (List ℕ))
+    (tells : Bool) (attached : D → Option (List ℕ)) (seen : D → List ℕ) (moment : D → ℕ) (images : D → ℕ → List ℕ → Type 0) (faults : D → ℕ) (store : List ℕ) (port workers : ℕ) (why : Why)
+    (l l' : L) (c c' : C) (first second first' second' : D) (tale : List Entry) (notes : List Note) (counted : Option Counted) : Type 0 where
+  -- Either nothing happened, nobody was let in, and nothing was written to a file; or one history happened, from the world that the two files held, at the clock's second: all parties added to it,
+  -- lawfully, and with leave. It says what the links carried, how the last dump came out, and what the files hold, whatever a crash leaves of them. The answer says which of the two, but for want of
+  -- memory and faults of the store.
+  pub ends : ServesAs why (IsUnserved shows told answers tells seen moment images port l l' c c' first second first' second' tale counted)
+      (HasServed shows told listening answers tells attached seen moment images faults store port workers why l l' c c' first second first' second' tale notes counted)
+  -- each answer but `Fine` and want of memory has its cause
+  pub listen_fault : why ≡ ListenFault → Rose (listening l) (listening l')
+  pub disk_fault : why ≡ DiskFault → Rose (faults first) (faults first') ⊎ Rose (faults second) (faults second')
+  pub damaged : (file : Bool) (at : ℕ) → tells ≡ true → why ≡ Damaged file at → stored (seen first) (seen second) ≡ Err (record { second = file; at = at })
+  -- all turns were had
+  pub spent : (turns : ℕ) → why ≡ Spent turns → (turns ≡ 2 ^ 62) × (2 ^ 62 ≤ length tale)
+  -- where a store loads and no count rose, it was stopped and all was stored, or memory was wanted, or the last dump would pass what a file may have, on what the files hold, or all turns were had
+  pub complete : (chosen : Chosen) → tells ≡ true → stored (seen first) (seen second) ≡ Ok chosen → (Rose (listening l) (listening l') → ⊥) → (Rose (faults first) (faults first') → ⊥) → (Rose (faults second) (faults second') → ⊥)
+      → (why ≡ Fine) ⊎ ((why ≡ NoMemory) ⊎ (((end more began : ℕ) × (why ≡ StoreFull end more) × EndsFull tells seen began first second first' second' tale notes end more) ⊎ ((turns : ℕ) × (why ≡ Spent turns))))

@@ -1,8 +1,6 @@
 // A world is served.
-ghost use Rattle.std.specs.Prelude.{◌≡◌, ◌⊎◌, ◌≤◌, ℕ, Bool, true, List, Ok, Err};
-ghost use Rattle.muck_io.specs.Faults.{Rose};
-ghost use Rattle.muck_log.specs.Store.{stored};
-ghost use Rattle.muckd.specs.Serving.{why_served, IsUnserved, HasServed, ServesAs};
+ghost use Rattle.std.specs.Prelude.{◌≡◌, ◌≤◌};
+ghost use Rattle.muckd.specs.Serving.{why_served, ServeDone};
 
 use muck_disk::Disk;
 use muck_io::{Clock, Gate, Rest};
@@ -29,7 +27,10 @@ fn why_served(why: Ended) -> Why
     }
 }
 
-/// Mounts the store, and serves its world from the clock's second on, until it is stopped.
+/// Mounts the store, and serves its world from the clock's second on, until it is stopped. Answers why it ended, with what happened in the world.
+///
+/// `Damaged` comes where the files hold no store, `DiskFault` where a disk failed, `ListenFault` where listening on the port did, `StoreFull` where the last dump would pass what a file may have,
+/// `Spent` where all turns were had, and `NoMemory` at any time.
 pub fn serve_store<
     T: Threads + Wait + Sync,
     L: Links + Send,
@@ -51,9 +52,7 @@ pub fn serve_store<
     rest: &R,
 ) -> (Why, Tale)
     requires few { workers ≤ 8 }
-    ensures served { ServesAs result.0 (IsUnserved (L.tells links.old) L.told C.answers D.tells D.seen D.moment D.images port links.old links.new clock.old clock.new first.old second.old first.new second.new result.1.entries result.1.counted) (HasServed (L.tells links.old) L.told L.listening C.answers D.tells D.attached D.seen D.moment D.images D.faults store.now port workers result.0 links.old links.new clock.old clock.new first.old second.old first.new second.new result.1.entries result.1.notes result.1.counted) }
-    ensures disk_fault { result.0 ≡ Why.DiskFault → Rose (D.faults first.old) (D.faults first.new) ⊎ Rose (D.faults second.old) (D.faults second.new) }
-    ensures damaged { (file : Bool) (at : ℕ) → D.tells ≡ true → result.0 ≡ Why.Damaged file at → stored (D.seen first.old) (D.seen second.old) ≡ Err (record { second = file; at = at }) }
+    ensures done { ServeDone (L.tells links.old) L.told L.listening C.answers D.tells D.attached D.seen D.moment D.images D.faults store.now port workers result.0 links.old links.new clock.old clock.new first.old second.old first.new second.new result.1.entries result.1.notes result.1.counted }
 {
     let log = match mount(alloc, store, first, second) {
         Ok(log) => log,

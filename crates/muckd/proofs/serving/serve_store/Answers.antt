@@ -1,7 +1,7 @@
-use Rattle.std.proofs.Common.{inl, inr, refl, sym, ap, ◌∙◌}
+use Rattle.std.proofs.Common.{◌≡◌, Err, inl, inr, refl, sym, ap, subst, ◌∙◌}
 use Rattle.muck_run.specs.inner.Dumps.{note_of}
-use Rattle.muck_run.specs.inner.Ends.{unbegun_at}
-use Rattle.muckd.proofs.Served.{fresh_begun, start_begun, ready_begun, server_ends, disk_failed, not_damaged}
+use Rattle.muck_run.specs.inner.Ends.{unbegun_at, IsMountWhy}
+use Rattle.muckd.proofs.Served.{fresh_begun, start_begun, ready_begun, refused_serves, server_ends, serve_done, disk_failed, not_damaged}
 use Rattle.muck_run.proofs.Called.{holds_still}
 use Rattle.muck_run.proofs.Started.{bootable}
 use Rattle.muckd.proofs.serving.serve_store.Goals as goal
@@ -17,11 +17,30 @@ pub serve-why-requires-clause-mounted : goal.serve-why-requires-clause-mounted
 serve-why-requires-clause-mounted g c κs within = λ tells.
     (c.in-Ok.log.chosen.held.number, ready_begun c.now-began.result g.D.Disk.seen g.D.Disk.moment g.D.Disk.images g.D.Disk.faults c.in-Ok.log c.mount.new.first c.mount.new.second (bootable c.in-Ok.log.chosen.held.world c.in-Ok.ensures.fine) c.in-Ok-awake.ensures.properties (c.in-Ok.ensures.log tells) c.in-Ok-awake.world c.in-Ok-awake.ensures.world)
 
+-- no store was mounted
+
+pub returns-in-Err-clause-done : goal.returns-in-Err-clause-done
+returns-in-Err-clause-done g c =
+    serve_done _ _ _ _ _ _ _ _ _ _ _ _ _ c.in-Err.why _ _ _ _ _ _ _ _ _ _ _
+    (refused_serves _ _ _ c.in-Err.ensures.why
+    (record {
+      empty = ap (λ t. t.entries) c.none.ensures;
+      unnoted = ap (λ t. t.counted) c.none.ensures;
+      nobody = λ shows. refl;
+      ports = λ shows. inl refl;
+      clock = inl refl;
+      first_file = c.in-Err.ensures.first_file;
+      second_file = c.in-Err.ensures.second_file;
+    }))
+    (λ e. c.in-Err.ensures.cause (ap Err e))
+    (λ file at on e. subst (IsMountWhy (g.D.Disk.seen c.args.first.now) (g.D.Disk.seen c.args.second.now)) e (c.in-Err.ensures.told on))
+
 -- memory was wanted for the world, behind the clock's second
 
-pub returns-in_default-clause-served : goal.returns-in_default-clause-served
-returns-in_default-clause-served g c =
-    inl (record {
+pub returns-in_default-clause-done : goal.returns-in_default-clause-done
+returns-in_default-clause-done g c =
+    serve_done _ _ _ _ _ _ _ _ _ _ _ _ _ _ _ _ _ _ _ _ _ _ _ _ _
+    (inl (record {
       empty = ap (λ t. t.entries) c.none-in_default.ensures;
       unnoted = ap (λ t. t.counted) c.none-in_default.ensures;
       nobody = λ shows. refl;
@@ -29,13 +48,19 @@ returns-in_default-clause-served g c =
       clock = inr (c.now-began.result, c.now-began.ensures, λ tells. (c.in-Ok.log.chosen, holds_still _ _ _ _ _ _ _ (c.in-Ok.ensures.first_file tells) (c.in-Ok.ensures.second_file tells) _ (c.in-Ok.ensures.log tells).mounted.load));
       first_file = c.in-Ok.ensures.first_file;
       second_file = c.in-Ok.ensures.second_file;
-    })
+    }))
+    (λ e. cc) (λ file at on e. cc)
 
-pub returns-clause-served : goal.returns-clause-served
-returns-clause-served g c =
+-- it was served
+
+pub returns-clause-done : goal.returns-clause-done
+returns-clause-done g c =
     let note = note_of g.D.Disk.moment g.D.Disk.faults c.mount.new.first c.mount.new.second (unbegun_at c.now-began.result c.in-Ok.log) in
     let boots = bootable c.in-Ok.log.chosen.held.world c.in-Ok.ensures.fine in
-    server_ends (g.L.Links.tells c.args.links.now) g.L.Links.told g.L.Links.listening g.C.Clock.answers g.D.Disk.tells g.D.Disk.attached g.D.Disk.seen g.D.Disk.moment g.D.Disk.images g.D.Disk.faults c.args.store.now c.args.port c.args.workers
+    let served = c.serve-why.ensures.served c.in-Ok.log.chosen.held.number note (fresh_begun c.now-began.result c.in-Ok.log note c.in-Ok-awake.world c.in-Ok-awake.ensures.world)
+    (λ tells. ready_begun c.now-began.result g.D.Disk.seen g.D.Disk.moment g.D.Disk.images g.D.Disk.faults c.in-Ok.log c.mount.new.first c.mount.new.second boots c.in-Ok-awake.ensures.properties (c.in-Ok.ensures.log tells) c.in-Ok-awake.world c.in-Ok-awake.ensures.world) in
+    serve_done _ _ _ _ _ _ _ _ _ _ _ _ _ _ _ _ _ _ _ _ _ _ _ _ _
+    (server_ends (g.L.Links.tells c.args.links.now) g.L.Links.told g.L.Links.listening g.C.Clock.answers g.D.Disk.tells g.D.Disk.attached g.D.Disk.seen g.D.Disk.moment g.D.Disk.images g.D.Disk.faults c.args.store.now c.args.port c.args.workers
     c.in-Ok.log c.now-began.result note c.serve-why.result.0 c.args.links.now c.serve-why.new.links c.args.clock.now c.now-began.new.self c.serve-why.new.clock c.args.first.now c.args.second.now c.mount.new.first c.mount.new.second c.serve-why.new.first c.serve-why.new.second
     c.serve-why.result.1.entries c.serve-why.result.1.notes c.serve-why.result.1.counted
     (record {
@@ -52,26 +77,6 @@ returns-clause-served g c =
       clock = c.now-began.ensures;
       note = record { first_moment = refl; second_moment = refl; first_faults = refl; second_faults = refl };
     })
-    c.in-Ok-awake.world.start (start_begun c.now-began.result c.in-Ok.log note c.in-Ok-awake.world c.in-Ok-awake.ensures.world)
-    (c.serve-why.ensures.served c.in-Ok.log.chosen.held.number note (fresh_begun c.now-began.result c.in-Ok.log note c.in-Ok-awake.world c.in-Ok-awake.ensures.world)
-    (λ tells. ready_begun c.now-began.result g.D.Disk.seen g.D.Disk.moment g.D.Disk.images g.D.Disk.faults c.in-Ok.log c.mount.new.first c.mount.new.second boots c.in-Ok-awake.ensures.properties (c.in-Ok.ensures.log tells) c.in-Ok-awake.world c.in-Ok-awake.ensures.world))
-    c.why_served.result c.why_served.ensures
-
-pub returns-clause-disk_fault : goal.returns-clause-disk_fault
-returns-clause-disk_fault g c = λ e.
-    let note = note_of g.D.Disk.moment g.D.Disk.faults c.mount.new.first c.mount.new.second (unbegun_at c.now-began.result c.in-Ok.log) in
-    let boots = bootable c.in-Ok.log.chosen.held.world c.in-Ok.ensures.fine in
-    disk_failed _ _ _ _ _ _ _ _ _ _ _ _ _ _ _ _ _ _ _ _ _
-    (c.serve-why.ensures.served c.in-Ok.log.chosen.held.number note (fresh_begun c.now-began.result c.in-Ok.log note c.in-Ok-awake.world c.in-Ok-awake.ensures.world)
-    (λ tells. ready_begun c.now-began.result g.D.Disk.seen g.D.Disk.moment g.D.Disk.images g.D.Disk.faults c.in-Ok.log c.mount.new.first c.mount.new.second boots c.in-Ok-awake.ensures.properties (c.in-Ok.ensures.log tells) c.in-Ok-awake.world c.in-Ok-awake.ensures.world))
-    _ _ c.in-Ok.ensures.first_later c.in-Ok.ensures.second_later (sym c.why_served.ensures ∙ e)
-
-pub returns-clause-damaged : goal.returns-clause-damaged
-returns-clause-damaged g c = λ file at tells e.
-    let note = note_of g.D.Disk.moment g.D.Disk.faults c.mount.new.first c.mount.new.second (unbegun_at c.now-began.result c.in-Ok.log) in
-    let boots = bootable c.in-Ok.log.chosen.held.world c.in-Ok.ensures.fine in
-    absurd
-    (not_damaged _ _ _ _ _ _ _ _ _ _ _ _ _ _ _ _ _ _ _ _ _
-    (c.serve-why.ensures.served c.in-Ok.log.chosen.held.number note (fresh_begun c.now-began.result c.in-Ok.log note c.in-Ok-awake.world c.in-Ok-awake.ensures.world)
-    (λ tells. ready_begun c.now-began.result g.D.Disk.seen g.D.Disk.moment g.D.Disk.images g.D.Disk.faults c.in-Ok.log c.mount.new.first c.mount.new.second boots c.in-Ok-awake.ensures.properties (c.in-Ok.ensures.log tells) c.in-Ok-awake.world c.in-Ok-awake.ensures.world))
-    file at tells (sym c.why_served.ensures ∙ e))
+    c.in-Ok-awake.world.start (start_begun c.now-began.result c.in-Ok.log note c.in-Ok-awake.world c.in-Ok-awake.ensures.world) served c.why_served.result c.why_served.ensures)
+    (λ e. disk_failed _ _ _ _ _ _ _ _ _ _ _ _ _ _ _ _ _ _ _ _ _ served _ _ c.in-Ok.ensures.first_later c.in-Ok.ensures.second_later (sym c.why_served.ensures ∙ e))
+    (λ file at tells e. absurd (not_damaged _ _ _ _ _ _ _ _ _ _ _ _ _ _ _ _ _ _ _ _ _ served file at tells (sym c.why_served.ensures ∙ e)))
