@@ -18,8 +18,8 @@ use Rattle.muck_debugging.specs.declared.act.DebugAct.{DebugAct}
 use Rattle.muck_debugging.specs.Seen.{Piece, text_of_all, units_of_all, plain_acts, debug_pieces, debug_text}
 use Rattle.muck_debugging.specs.Laws.{are_texts}
 use Rattle.muck_debugging.proofs.Apart.{shows_apart}
-use Rattle.muck_run.specs.Outcome.{halted, HasBegun, EndsAs, EndsFull}
-use Rattle.muck_run.specs.Debugged.{IsFirstOutside, IsInGrammar, WroteWhole, WroteFront, HasWritten}
+use Rattle.muck_run.specs.Outcome.{halted, IsUnbegun, EndsAs, EndsFull}
+use Rattle.muck_run.specs.Debugged.{IsFirstOutside, IsInGrammar, WroteWhole, WroteFront, HasWritten, HasDebugged, DebugDone}
 use Rattle.muck_run.specs.declared.playing.RunFault.{RunFault}
 use Rattle.muck_run.specs.declared.why.Why.{Why}
 use Rattle.muck_run.specs.declared.why.Why.TheVariants.{Fine, Usage, BadScript, NoMemory, ReadFault, WriteFault, DiskFault, Damaged, ListenFault, StoreFull, Spent}
@@ -185,7 +185,7 @@ grammar_stands None line is outside = is
 grammar_stands (Some bytes) line is outside = let both = sym is.1 ∙ outside in cc
 
 -- where nothing stood in its way, the work was done
-pub completes : (left : Option (List ℕ)) (r : Result Chosen Damage) (s : Chosen) (U B : Type 0) (why : Why) → EndsAs why U B → (why ≡ Usage → ⊥) → ((line : ℕ) → why ≡ BadScript line → IsFirstOutside left line) → (why ≡ ReadFault → ⊥) → (why ≡ WriteFault → ⊥) → (why ≡ DiskFault → ⊥)
+completes : (left : Option (List ℕ)) (r : Result Chosen Damage) (s : Chosen) (U B : Type 0) (why : Why) → EndsAs why U B → (why ≡ Usage → ⊥) → ((line : ℕ) → why ≡ BadScript line → IsFirstOutside left line) → (why ≡ ReadFault → ⊥) → (why ≡ WriteFault → ⊥) → (why ≡ DiskFault → ⊥)
     → ((file : Bool) (at : ℕ) → why ≡ Damaged file at → r ≡ Err (record { second = file; at = at })) → r ≡ Ok s → IsInGrammar left
     → (F : ℕ → ℕ → Type 0) → ((end more : ℕ) → why ≡ StoreFull end more → B → F end more) → (why ≡ Fine) ⊎ ((why ≡ NoMemory) ⊎ ((end more : ℕ) × (why ≡ StoreFull end more) × F end more))
 completes left r s U B Fine ends usage bad read write disk damaged ok grammar F full = inl refl
@@ -200,9 +200,44 @@ completes left r s U B ListenFault ends usage bad read write disk damaged ok gra
 completes left r s U B (Spent turns) ends usage bad read write disk damaged ok grammar F full = absurd ends
 completes left r s U B (StoreFull end more) ends usage bad read write disk damaged ok grammar F full = inr (inr (end, more, refl, full end more refl ends))
 
--- a run that began, and whose last dump was too large
 module _ {S K D : Type 0} (left : S → Option (List ℕ)) (faults : S → ℕ) (written : K → Option (List ℕ)) (breaks : K → ℕ) (tells : Bool) (attached : D → Option (List ℕ)) (seen : D → List ℕ) (moment : D → ℕ) (images : D → ℕ → List ℕ → Type 0) (fails : D → ℕ) (store : List ℕ)
     (why : Why) (s t : S) (k l : K) (first second first' second' : D) (tale : List Entry) (notes : List Note) where
-  pub ends_full : tells ≡ true → (end more : ℕ) → why ≡ StoreFull end more → HasBegun left faults written breaks tells attached seen moment images fails store why s t k l first second first' second' tale notes
-      → EndsFull tells seen 0 first second first' second' tale notes end more
-  ends_full on end more is b = record { start = b.start; mounted = b.mounted; begins = b.begins; full = b.full end more on is }
+  abbrev Debugged : Type 0
+  Debugged = HasDebugged left faults written breaks tells attached seen moment images fails store why s t k l first second first' second' tale notes
+
+  -- its last dump was too large
+  ends_full : tells ≡ true → (end more : ℕ) → why ≡ StoreFull end more → Debugged → EndsFull tells seen 0 first second first' second' tale notes end more
+  ends_full on end more is b = record { start = b.run.start; mounted = b.run.mounted; begins = b.run.begins; full = b.run.full end more on is }
+
+  pub debug_done : EndsAs why (IsUnbegun tells seen moment images k l first second first' second' tale) Debugged
+      → (why ≡ Usage → ⊥)
+      → ((line : ℕ) → why ≡ BadScript line → IsFirstOutside (left s) line)
+      → (why ≡ ReadFault → Rose (faults s) (faults t))
+      → (why ≡ WriteFault → Rose (breaks k) (breaks l))
+      → (why ≡ DiskFault → Rose (fails first) (fails first') ⊎ Rose (fails second) (fails second'))
+      → ((file : Bool) (at : ℕ) → tells ≡ true → why ≡ Damaged file at → stored (seen first) (seen second) ≡ Err (record { second = file; at = at }))
+      → ((why ≡ ReadFault → ⊥) → faults t ≡ faults s)
+      → ((why ≡ WriteFault → ⊥) → breaks l ≡ breaks k)
+      → ((file : Bool) (at : ℕ) → tells ≡ true → why ≡ Damaged file at → t ≡ s)
+      → (tells ≡ true → (why ≡ ReadFault) ⊎ ((line : ℕ) × (why ≡ BadScript line)) → (chosen : Chosen) × (stored (seen first) (seen second) ≡ Ok chosen))
+      → DebugDone left faults written breaks tells attached seen moment images fails store why s t k l first second first' second' tale notes
+  debug_done ends usage bad_script read_fault write_fault disk_fault damaged source_stands sink_stands unread loads = record {
+    ends = ends;
+    usage = usage;
+    bad_script = bad_script;
+    read_fault = read_fault;
+    write_fault = write_fault;
+    disk_fault = disk_fault;
+    damaged = damaged;
+    source_stands = source_stands;
+    sink_stands = sink_stands;
+    unread = unread;
+    loads = loads;
+    complete = λ chosen on ok grammar source sink a b.
+        completes (left s) _ chosen _ _ why ends usage bad_script (λ e. source (read_fault e)) (λ e. sink (write_fault e))
+        (λ e. elim (disk_fault e) [
+          | inl rose ↦ a rose
+          | inr rose ↦ b rose
+        ])
+        (λ file at e. damaged file at on e) ok grammar _ (ends_full on);
+  }

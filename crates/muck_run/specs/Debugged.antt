@@ -14,7 +14,7 @@ use Rattle.muck_debugging.specs.Seen.{text_of_all, plain_acts, debug_pieces, deb
 use Rattle.muck_debugging.specs.Laws.{AreApart}
 use Rattle.muck_run.specs.Outcome.{IsReadOut, IsPending, EndsBy, IsUnbegun, HasBegun, EndsAs, EndsFull}
 use Rattle.muck_run.specs.declared.why.Why.{Why}
-use Rattle.muck_run.specs.declared.why.Why.TheVariants.{Fine, BadScript, NoMemory, WriteFault, DiskFault, Damaged, StoreFull}
+use Rattle.muck_run.specs.declared.why.Why.TheVariants.{Fine, Usage, BadScript, NoMemory, ReadFault, WriteFault, DiskFault, Damaged, StoreFull}
 
 -- what was left in the source is this script of `debug`, where the source tells its bytes
 abbrev pub IsScriptIn : Option (List ℕ) → List DebugAct → Type 0
@@ -86,9 +86,19 @@ pub record DebugDone {S K D : Type 0} (left : S → Option (List ℕ)) (faults :
   -- it wasn't begun, or it was
   pub ends : EndsAs why (IsUnbegun tells seen moment images k l first second first' second' tale)
       (HasDebugged left faults written breaks tells attached seen moment images fails store why s t k l first second first' second' tale notes)
-  -- the first line outside the grammar of `debug` has this number
+  -- each answer but `Fine` and want of memory has its cause
+  pub usage : why ≡ Usage → ⊥
   pub bad_script : (line : ℕ) → why ≡ BadScript line → IsFirstOutside (left s) line
-  -- where a store loads, the script is inside that grammar and no count rose, it was done, memory was wanted, or the last dump was too large
+  pub read_fault : why ≡ ReadFault → Rose (faults s) (faults t)
+  pub write_fault : why ≡ WriteFault → Rose (breaks k) (breaks l)
+  pub disk_fault : why ≡ DiskFault → Rose (fails first) (fails first') ⊎ Rose (fails second) (fails second')
+  pub damaged : (file : Bool) (at : ℕ) → tells ≡ true → why ≡ Damaged file at → stored_in (seen first) (seen second) ≡ Err (record { second = file; at = at })
+  -- the first cause stands: no other fault of the source or the sink came, and the store was mounted before the script was read
+  pub source_stands : (why ≡ ReadFault → ⊥) → faults t ≡ faults s
+  pub sink_stands : (why ≡ WriteFault → ⊥) → breaks l ≡ breaks k
+  pub unread : (file : Bool) (at : ℕ) → tells ≡ true → why ≡ Damaged file at → t ≡ s
+  pub loads : tells ≡ true → (why ≡ ReadFault) ⊎ ((line : ℕ) × (why ≡ BadScript line)) → (chosen : Chosen) × (stored_in (seen first) (seen second) ≡ Ok chosen)
+  -- where a store loads, the script is inside the grammar and no count rose, the work was done, or memory was wanted, or the last dump would pass what a file may have, on what the files hold
   pub complete : (chosen : Chosen) → tells ≡ true → stored_in (seen first) (seen second) ≡ Ok chosen → IsInGrammar (left s) → (Rose (faults s) (faults t) → ⊥) → (Rose (breaks k) (breaks l) → ⊥)
       → (Rose (fails first) (fails first') → ⊥) → (Rose (fails second) (fails second') → ⊥)
       → (why ≡ Fine) ⊎ ((why ≡ NoMemory) ⊎ ((end more : ℕ) × (why ≡ StoreFull end more) × EndsFull tells seen 0 first second first' second' tale notes end more))

@@ -1,15 +1,13 @@
 // A script of `debug` is read, and run on the world of a store.
-ghost use Rattle.std.specs.Prelude.{◌≡◌, ◌⊎◌, ◌≤◌, ℕ, Bool, true, IfOk, IfErr, IsErrOf, None, Ok, Err};
+ghost use Rattle.std.specs.Prelude.{◌≡◌, ◌⊎◌, ◌≤◌, true, IfOk, IfErr, IsErrOf, None};
 ghost use Rattle.muck_io.specs.Faults.{Rose};
-ghost use Rattle.muck_log.specs.Store.{Chosen, stored};
 ghost use Rattle.muck_log.specs.World.{IsFine};
 ghost use Rattle.muck_log.specs.inner.Mount.{IsMountedAs};
 ghost use Rattle.spec_dumps.specs.Fronts.{file_most};
 ghost use Rattle.muck_debugging.specs.Seen.{plain_acts};
 ghost use Rattle.muck_run.specs.inner.Ends.{MayEnd, booted_from, HasPlayed, NeverPlayed};
 ghost use Rattle.muck_run.specs.inner.Seen.{IsDebugWhy};
-ghost use Rattle.muck_run.specs.Outcome.{EndsAs, IsUnbegun};
-ghost use Rattle.muck_run.specs.Debugged.{IsFirstOutside, HasRead, HasWritten, HasDebugged, DebugDone};
+ghost use Rattle.muck_run.specs.Debugged.{HasRead, HasWritten, DebugDone};
 
 use crate::dumping::Store;
 use crate::mounting::mount;
@@ -47,6 +45,8 @@ fn read_script<S: Source>(alloc: Global, script: &mut S) -> Result<DebugScript, 
 
 /// Mounts the store of this name, reads the script whole, runs it on the world of the store with a tracer, and writes its transcript with the lines of the
 /// units that are shown. In the end the world is dumped. Answers why it ended, with what happened in the world.
+///
+/// The answers come as those of `run` do, but that `BadScript` speaks of the grammar of `debug`.
 pub fn debug<S: Source, K: Sink, D: Disk>(
     alloc: Global,
     name: &str,
@@ -55,40 +55,7 @@ pub fn debug<S: Source, K: Sink, D: Disk>(
     first: &mut D,
     second: &mut D,
 ) -> (Why, Tale)
-    ensures usage { result.0 ≡ Why.Usage → ⊥ }
     ensures done { DebugDone S.left S.faults K.written K.faults D.tells D.attached D.seen D.moment D.images D.faults name.now result.0 script.old script.new out.old out.new first.old second.old first.new second.new result.1.entries result.1.notes }
-    ensures read_fault { result.0 ≡ Why.ReadFault → Rose (S.faults script.old) (S.faults script.new) }
-    ensures write_fault { result.0 ≡ Why.WriteFault → Rose (K.faults out.old) (K.faults out.new) }
-    ensures source_stands { (result.0 ≡ Why.ReadFault → ⊥) → S.faults script.new ≡ S.faults script.old }
-    ensures sink_stands { (result.0 ≡ Why.WriteFault → ⊥) → K.faults out.new ≡ K.faults out.old }
-    ensures disk_fault { result.0 ≡ Why.DiskFault → Rose (D.faults first.old) (D.faults first.new) ⊎ Rose (D.faults second.old) (D.faults second.new) }
-    ensures damaged { (file : Bool) (at : ℕ) → D.tells ≡ true → result.0 ≡ Why.Damaged file at → stored (D.seen first.old) (D.seen second.old) ≡ Err (record { second = file; at = at }) }
-    ensures unread { (file : Bool) (at : ℕ) → D.tells ≡ true → result.0 ≡ Why.Damaged file at → script.new ≡ script.old }
-    ensures loads { D.tells ≡ true → (result.0 ≡ Why.ReadFault) ⊎ ((line : ℕ) × (result.0 ≡ Why.BadScript line)) → (s : Chosen) × (stored (D.seen first.old) (D.seen second.old) ≡ Ok s) }
-{
-    run_debug(alloc, name, script, out, first, second)
-}
-
-// The same, clause by clause.
-fn run_debug<S: Source, K: Sink, D: Disk>(
-    alloc: Global,
-    name: &str,
-    script: &mut S,
-    out: &mut K,
-    first: &mut D,
-    second: &mut D,
-) -> (Why, Tale)
-    ensures usage { result.0 ≡ Why.Usage → ⊥ }
-    ensures bad_script { (line : ℕ) → result.0 ≡ Why.BadScript line → IsFirstOutside (S.left script.old) line }
-    ensures history { EndsAs result.0 (IsUnbegun D.tells D.seen D.moment D.images out.old out.new first.old second.old first.new second.new result.1.entries) (HasDebugged S.left S.faults K.written K.faults D.tells D.attached D.seen D.moment D.images D.faults name.now result.0 script.old script.new out.old out.new first.old second.old first.new second.new result.1.entries result.1.notes) }
-    ensures read_fault { result.0 ≡ Why.ReadFault → Rose (S.faults script.old) (S.faults script.new) }
-    ensures write_fault { result.0 ≡ Why.WriteFault → Rose (K.faults out.old) (K.faults out.new) }
-    ensures source_stands { (result.0 ≡ Why.ReadFault → ⊥) → S.faults script.new ≡ S.faults script.old }
-    ensures sink_stands { (result.0 ≡ Why.WriteFault → ⊥) → K.faults out.new ≡ K.faults out.old }
-    ensures disk_fault { result.0 ≡ Why.DiskFault → Rose (D.faults first.old) (D.faults first.new) ⊎ Rose (D.faults second.old) (D.faults second.new) }
-    ensures damaged { (file : Bool) (at : ℕ) → D.tells ≡ true → result.0 ≡ Why.Damaged file at → stored (D.seen first.old) (D.seen second.old) ≡ Err (record { second = file; at = at }) }
-    ensures unread { (file : Bool) (at : ℕ) → D.tells ≡ true → result.0 ≡ Why.Damaged file at → script.new ≡ script.old }
-    ensures loads { D.tells ≡ true → (result.0 ≡ Why.ReadFault) ⊎ ((line : ℕ) × (result.0 ≡ Why.BadScript line)) → (s : Chosen) × (stored (D.seen first.old) (D.seen second.old) ≡ Ok s) }
 {
     let log = match mount(alloc, name, first, second) {
         Ok(log) => log,
