@@ -257,7 +257,8 @@ pub(crate) fn makes<W: Wait, D: Disk, R: Rest>(
     ensures first_attached { D.attached first.new ≡ D.attached first.old }
     ensures second_attached { D.attached second.new ≡ D.attached second.old }
 {
-    match write(store, first, second, &pending) {
+    let number = pending.number;
+    match write(store, first, second, pending) {
         Ok(()) => ends(
             rt,
             turn,
@@ -266,7 +267,7 @@ pub(crate) fn makes<W: Wait, D: Disk, R: Rest>(
             first,
             second,
             rest,
-            pending.number,
+            number,
             true,
         ),
         Err(fault) => match fault {
@@ -280,7 +281,7 @@ pub(crate) fn makes<W: Wait, D: Disk, R: Rest>(
                 first,
                 second,
                 rest,
-                pending.number,
+                number,
             ),
         },
     }

@@ -25,13 +25,6 @@ may_makes w party may = first_true (makes_dumps party) (is_none w.dumps.running)
 
 -- What happened.
 
-module _ (E : Type 0) (party : ℕ) (h k m : History) (a b : Note) (n : ℕ) (cuts : k ≡ entered (noted h a) (by party (Cut n))) where
-  pub dumped_stored : m ≡ entered (noted k b) (by party (Stored n)) → HasDumped party {E = E} h m (Ok None)
-  dumped_stored ends = (n, a, b, ends ∙ ap (λ (x : History). entered (noted x b) (by party (Stored n))) cuts)
-
-  pub dumped_failed : (fault : LogFault) → m ≡ entered (noted k b) (by party (DumpFailed n)) → HasDumped party {E = E} h m (Ok (Some fault))
-  dumped_failed fault ends = (n, a, b, ends ∙ ap (λ (x : History). entered (noted x b) (by party (DumpFailed n))) cuts)
-
 pub dies_cut : (party : ℕ) (h k m : History) (a : Note) (n : ℕ) → k ≡ entered (noted h a) (by party (Cut n)) → m ≡ entered k (by party Died) → Dies party h m
 dies_cut party h k m a n cuts is = Dies.cut n a (is ∙ ap (λ (x : History). entered x (by party Died)) cuts)
 

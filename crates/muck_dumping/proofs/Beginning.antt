@@ -1,15 +1,9 @@
 -- A dump begins, and is pending until it is written.
-use Rattle.std.proofs.Common.{◌≡◌, ℕ, suc, List, [], ◌∷◌, length, refl, sym, ap, ◌∙◌, subst, arith, Option, Some, None}
-use Rattle.std.specs.Prelude.{slice_get, All}
+use Rattle.std.proofs.Common.{◌≡◌, ℕ, suc, List, [], ◌∷◌, length, refl, sym, ap, ◌∙◌, subst, arith, Option, Some, None, Result, Ok, Err, IfOk}
+use Rattle.std.specs.Prelude.{slice_get}
 use Rattle.muck_model.specs.declared.event.Event.TheVariants.{Cut, Died}
 use Rattle.muck_model.specs.declared.note.Note.{Note}
 use Rattle.muck_codec.specs.declared.stored.Stored.{Stored}
-use Rattle.muck_codec.specs.inner.Stored.{IsStored}
-use Rattle.muck_db.specs.inner.Limits.{IsWithinLimits}
-use Rattle.muck_store.specs.inner.Changes.{LeavesOut}
-use Rattle.muck_store.specs.Forms.{persist}
-use Rattle.spec_admin.specs.Parameters.{IsInRange}
-use Rattle.spec_live.specs.Consistent.{IsConsistent}
 use Rattle.muck_log.specs.File.{after_number}
 use Rattle.muck_log.specs.Store.{LogState, IsMounted}
 use Rattle.spec_events.specs.World.{World}
@@ -26,17 +20,13 @@ use Rattle.muck_dumping.proofs.Steps.{at_note}
 use Rattle.muck_dumping.proofs.Marks.{batch_at_cut}
 
 -- what is said of a batch behind a note
-pub batch_noted : (base : List Stored) (h k : History) (note : Note) (p : Pending) → k ≡ noted h note → LeavesOut base (persist (now k).live.objects) p.batch.records → All IsStored p.batch.records → p.batch.tune ≡ (now k).live.board.tune →
-    p.size ≡ length (now h).live.objects → IsConsistent (now k).live.objects → IsWithinLimits (now k).live.objects → IsInRange (now k).live.board.tune → IsBatchOfWorld base (now h) p
-batch_noted base h k note p is records storable tuning size consistent limits tuned = record {
-  records = at_note (λ (w : World). LeavesOut base (persist w.live.objects) p.batch.records) h k note is records;
-  storable = storable;
-  tuning = at_note (λ (w : World). p.batch.tune ≡ w.live.board.tune) h k note is tuning;
-  size = size;
-  consistent = at_note (λ (w : World). IsConsistent w.live.objects) h k note is consistent;
-  limits = at_note (λ (w : World). IsWithinLimits w.live.objects) h k note is limits;
-  tuned = at_note (λ (w : World). IsInRange w.live.board.tune) h k note is tuned;
-}
+pub batch_noted : (base : List Stored) (h k : History) (note : Note) (p : Pending) → k ≡ noted h note → IsBatchOfWorld base (now k) p → IsBatchOfWorld base (now h) p
+batch_noted base h k note p is batch = at_note (λ (w : World). IsBatchOfWorld base w p) h k note is batch
+
+-- facts of what a call answered
+pub all_ok : {A E : Type 0} (P Q S R : A → Type 0) (r : Result A E) → ((x : A) → P x → Q x → S x → R x) → IfOk r P → IfOk r Q → IfOk r S → IfOk r R
+all_ok P Q S R (Ok x) f p q s = f x p q s
+all_ok P Q S R (Err e) f p q s = tt
 
 module _ {D : Type 0} (seen : D → List ℕ) (moment : D → ℕ) (images : D → ℕ → List ℕ → Type 0) (faults : D → ℕ) (log : Option LogState) (f s : D) (mounted : ℕ) where
   -- Memory was wanted, behind a note or without one.

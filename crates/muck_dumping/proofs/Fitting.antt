@@ -8,7 +8,6 @@ use Rattle.muck_model.specs.declared.tune.Tune.{Tune}
 use Rattle.spec_live.specs.Objects.{Entry}
 use Rattle.muck_db.specs.inner.Limits.{IsDigest, FitsLimits, IsWithinLimits}
 use Rattle.muck_codec.specs.declared.stored.Stored.{Stored}
-use Rattle.muck_codec.specs.Batches.{HasFewLines}
 use Rattle.muck_codec.specs.inner.Stored.{IsStored}
 use Rattle.muck_log.specs.Store.{LogState}
 use Rattle.muck_log.specs.Append.{MakesWorld, base_of}
@@ -20,7 +19,7 @@ use Rattle.muck_store.specs.Limits.{is_digit, is_digest, fits}
 use Rattle.muck_dumping.specs.declared.parts.Pending.{Pending}
 use Rattle.muck_dumping.specs.inner.Between.{IsBatchOf, base_in}
 use Rattle.muck_dumping.proofs.Appending.{tune_of, two_there}
-use Rattle.muck_dumping.proofs.Records.{batch_few, batch_lines}
+use Rattle.muck_dumping.proofs.Records.{batch_few}
 
 digest_fits : (digest : List ℕ) → IsDigest digest → is_digest digest ≡ true
 unfolding is_digest
@@ -63,6 +62,3 @@ makes_world o log p is has kept covers =
 -- and it is short enough to be written
 pub has_few : (base : List Stored) (p : Pending) → (objects : List Entry) × (tune : Tune) × IsBatchOf base objects tune p → length p.batch.records < 2 ^ 32
 has_few base p has = batch_few has.0 has.2.records has.2.consistent
-
-pub has_lines : (base : List Stored) (p : Pending) → (objects : List Entry) × (tune : Tune) × IsBatchOf base objects tune p → HasFewLines p.batch.records
-has_lines base p has = batch_lines has.0 has.2.records has.2.limits

@@ -48,10 +48,6 @@ unmounted_holds marks o es none = λ on x is. absurd (none_some o x none is)
 pub unmarked_holds : (marks : Bool) (o : Option LogState) (es : List Object) → marks ≡ false → HoldsThese marks o es
 unmarked_holds marks o es off = λ on x is. absurd (both_ways marks off on)
 
-pub any_ok : {A E P : Type 0} (r : Result A E) → P → OnOk r P
-any_ok (Ok x) p = p
-any_ok (Err e) p = tt
-
 -- The next dump goes by them.
 
 -- it may leave out what the world was at its last Cut

@@ -20,10 +20,6 @@ no_log (Some log) e = cc
 pub one_log : (o : Option LogState) (x y : LogState) → o ≡ Some x → o ≡ Some y → x ≡ y
 one_log o x y e g = cc
 
-pub some_log : (x : Option LogState) → IsSome x → (log : LogState) × (x ≡ Some log)
-some_log None e = cc
-some_log (Some log) e = (log, refl)
-
 never_both : {A E : Type 0} (r : Result A E) (x : A) (e : E) → r ≡ Ok x → r ≡ Err e → ⊥
 never_both r x e p q = cc
 

@@ -30,16 +30,15 @@ end_lawful h note party k false alive makes runs = ap (λ (w : World). is_lawful
 pub at_note : (P : World → Type 0) (h k : History) (note : Note) → k ≡ noted h note → P (now k) → P (now h)
 at_note P h k note is p = subst P (ap now is ∙ now-noted h note) p
 
+pub noted_lives : (h : History) (note : Note) → (now h).dead ≡ false → (now (noted h note)).dead ≡ false
+noted_lives h note alive = ap (λ (w : World). w.dead) (now-noted h note) ∙ alive
+
 lives : (h k : History) (party : ℕ) (event : Event) → Longer h k (by party event ∷ []) → is_died event ≡ false → (now h).dead ≡ false → (now k).dead ≡ false
 unfolding effect
 lives h k party event is other alive = ap (λ (w : World). w.dead) (now-longer h k (by party event ∷ []) is) ∙ dead-happened event (now h) party other ∙ alive
 
 pub cut_lives : (h k : History) (note : Note) (party n : ℕ) → k ≡ entered (noted h note) (by party (Cut n)) → (now h).dead ≡ false → (now k).dead ≡ false
 cut_lives h k note party n is alive = lives h k party (Cut n) (longer_noted h k note (by party (Cut n)) is) refl alive
-
-pub end_lives : (h k : History) (note : Note) (party n : ℕ) (b : Bool) → k ≡ entered (noted h note) (by party (ending_event n b)) → (now h).dead ≡ false → (now k).dead ≡ false
-end_lives h k note party n true is alive = lives h k party (Stored n) (longer_noted h k note (by party (Stored n)) is) refl alive
-end_lives h k note party n false is alive = lives h k party (DumpFailed n) (longer_noted h k note (by party (DumpFailed n)) is) refl alive
 
 pub cut_runs : (h k : History) (note : Note) (party n : ℕ) → k ≡ entered (noted h note) (by party (Cut n)) → runs_dump n (now k).dumps ≡ true
 unfolding effect

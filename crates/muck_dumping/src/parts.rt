@@ -1,17 +1,11 @@
 // The three parts of a dump.
-ghost use Rattle.std.specs.Prelude.{◌≡◌, ◌⊎◌, ◌≤◌, ℕ, true, false, List, All, Option, Some, None, IfOk, OnOk, OnErr, IsErrOf, IsSome, Result};
-ghost use Rattle.muck_codec.specs.inner.Stored.{IsStored};
-ghost use Rattle.muck_db.specs.inner.Limits.{IsWithinLimits};
+ghost use Rattle.std.specs.Prelude.{◌≡◌, ◌⊎◌, ◌≤◌, ℕ, true, false, List, Option, Some, None, IfOk, OnOk, OnErr, IsErrOf, IsSome, Result};
 ghost use Rattle.muck_io.specs.Faults.{Rose};
 ghost use Rattle.muck_log.specs.File.{after_number};
 ghost use Rattle.muck_log.specs.Store.{LogState, IsMounted};
 ghost use Rattle.muck_log.specs.declared.fault.LogFault.{LogFault as Fault};
 ghost use Rattle.muck_model.specs.declared.event.Event.TheVariants.{Cut, Died};
 ghost use Rattle.muck_model.specs.declared.tune.Tune.{Tune};
-ghost use Rattle.muck_store.specs.inner.Changes.{LeavesOut};
-ghost use Rattle.muck_store.specs.Forms.{persist};
-ghost use Rattle.spec_admin.specs.Parameters.{IsInRange};
-ghost use Rattle.spec_live.specs.Consistent.{IsConsistent};
 ghost use Rattle.spec_live.specs.Objects.{Entry as Object};
 ghost use Rattle.spec_dumps.specs.Fronts.{at_cut, persisted};
 ghost use Rattle.spec_dumps.specs.inner.Holding.{FailedLast, Keeps, Rests};
@@ -20,7 +14,7 @@ ghost use Rattle.spec_events.specs.World.{runs_dump};
 ghost use Rattle.spec_events.specs.Steps.{is_lawful, makes_dumps, may_cut};
 ghost use Rattle.spec_events.specs.Histories.{History, now, after, entered, noted};
 ghost use Rattle.muck_dumping.specs.inner.Dumps.{note_of, by, ending_event};
-ghost use Rattle.muck_dumping.specs.inner.Between.{IsReady, IsBatchOf, IsBatchAtCut, HoldsThese, GoesByMarks, Knows, base_in, next_number, IsPending, IsWritten, EndsAs};
+ghost use Rattle.muck_dumping.specs.inner.Between.{IsReady, IsBatchOf, IsBatchOfWorld, IsBatchAtCut, HoldsThese, GoesByMarks, Knows, base_in, next_number, IsPending, IsWritten, EndsAs};
 
 use crate::store::Store;
 use muck_codec::Batch;
@@ -39,24 +33,28 @@ pub struct Pending {
 }
 
 // The Cut of a dump. It looks at what is due alone, where what isn't is kept by the log and the next batch stands on that; else at each object.
-fn cut(world: &mut World, party: u8, number: u64, store: &Store) -> Result<Batch, NoMemory>
-    requires lawful { is_lawful (now world.old) (by party (Cut number)) ≡ true }
+fn cut(world: &mut World, party: u8, store: &Store) -> Result<Pending, NoMemory>
+    requires alive { (now world.old).dead ≡ false }
+    requires lawful { is_lawful (now world.old) (by party (Cut (next_number store.now))) ≡ true }
     requires marks { GoesByMarks store.now.marks store.now.log world.old }
-    ensures records { IfOk result (λ batch. LeavesOut (base_in store.now.log) (persist (now world.old).live.objects) batch.records) }
-    ensures storable { IfOk result (λ batch. All IsStored batch.records) }
-    ensures tune { IfOk result (λ batch. batch.tune ≡ (now world.old).live.board.tune) }
-    ensures consistent { OnOk result (IsConsistent (now world.old).live.objects) }
-    ensures limits { OnOk result (IsWithinLimits (now world.old).live.objects) }
-    ensures tuned { OnOk result (IsInRange (now world.old).live.board.tune) }
-    ensures step { OnOk result (world.new ≡ entered world.old (by party (Cut number))) }
+    ensures number { IfOk result (λ p. p.number ≡ next_number store.now) }
+    ensures batch { IfOk result (λ p. IsBatchOfWorld (base_in store.now.log) (now world.old) p) }
+    ensures step { IfOk result (λ p. world.new ≡ entered world.old (by party (Cut p.number))) }
     ensures died { OnErr result (world.new ≡ entered world.old (by party Died)) }
 {
+    let number = store.next();
+    let size = world.size();
     let base = store.base();
-    if store.goes_by_marks() {
-        world.cut(party, number, base)
+    let batch = if store.goes_by_marks() {
+        world.cut(party, number, base)?
     } else {
-        world.cut_full(party, number, base)
-    }
+        world.cut_full(party, number, base)?
+    };
+    Ok(Pending {
+        number,
+        size,
+        batch,
+    })
 }
 
 /// A dump begins in the world: a note, and its Cut. Its number is one more than that of the store, or that of the dump before, which failed, where no log
@@ -84,17 +82,8 @@ pub fn begin<D: Disk>(
     ensures safe { (mounted : ℕ) → D.tells ≡ true → Keeps D.seen D.moment D.images D.faults store.now.log first.now second.now mounted world.old
         → OnErr result (IsSafe D.moment D.images D.faults first.now second.now world.new.start mounted world.new.entries world.new.notes) }
 {
-    let number = store.next();
-    let size = world.size();
     world.note(first, second);
-    let Ok(batch) = cut(world, party, number, store) else {
-        return Err(NoMemory);
-    };
-    Ok(Pending {
-        number,
-        size,
-        batch,
-    })
+    cut(world, party, store)
 }
 
 /// Its batch is written, without the world. Where that fails the log has to be mounted again; `Stale` says that it had to be before, since none was or
@@ -103,17 +92,17 @@ pub fn write<D: Disk>(
     store: &mut Store,
     first: &mut D,
     second: &mut D,
-    pending: &Pending,
+    pending: Pending,
 ) -> Result<(), LogFault>
-    requires batch { (objects : List Object) × (tune : Tune) × IsBatchOf (base_in store.old.log) objects tune pending.now }
+    requires batch { (objects : List Object) × (tune : Tune) × IsBatchOf (base_in store.old.log) objects tune pending }
     requires mounted { (log : LogState) → D.tells ≡ true → store.old.log ≡ Some log → IsMounted D.seen D.moment D.images log first.old second.old }
     ensures some { OnOk result (IsSome store.new.log) }
     ensures none { OnErr result (store.new.log ≡ None) }
     ensures number { OnErr result (store.new.number ≡ next_number store.old) }
-    ensures marks { (objects : List Object) (tune : Tune) → IsBatchOf (base_in store.old.log) objects tune pending.now → HoldsThese store.new.marks store.new.log objects }
-    ensures written { (mounted : ℕ) (h : History) → D.tells ≡ true → IsPending D.seen D.moment D.images D.faults store.old.log first.old second.old mounted h pending.now
+    ensures marks { (objects : List Object) (tune : Tune) → IsBatchOf (base_in store.old.log) objects tune pending → HoldsThese store.new.marks store.new.log objects }
+    ensures written { (mounted : ℕ) (h : History) → D.tells ≡ true → IsPending D.seen D.moment D.images D.faults store.old.log first.old second.old mounted h pending
         → IsWritten D.seen D.moment D.images D.faults store.new.log first.new second.new mounted h result }
-    ensures stale { (mounted : ℕ) (h : History) → D.tells ≡ true → IsPending D.seen D.moment D.images D.faults store.old.log first.old second.old mounted h pending.now
+    ensures stale { (mounted : ℕ) (h : History) → D.tells ≡ true → IsPending D.seen D.moment D.images D.faults store.old.log first.old second.old mounted h pending
         → IsErrOf result LogFault.Stale → store.old.log ≡ None }
     ensures first_attached { D.attached first.new ≡ D.attached first.old }
     ensures second_attached { D.attached second.new ≡ D.attached second.old }

@@ -139,15 +139,15 @@ impl Store {
         &mut self,
         first: &mut D,
         second: &mut D,
-        pending: &Pending,
+        pending: Pending,
     ) -> Result<(), LogFault>
-        requires batch { (objects : List Entry) × (tune : Tune) × IsBatchOf (base_in self.old.log) objects tune pending.now }
+        requires batch { (objects : List Entry) × (tune : Tune) × IsBatchOf (base_in self.old.log) objects tune pending }
         requires mounted { (log : LogState) → D.tells ≡ true → self.old.log ≡ Some log → IsMounted D.seen D.moment D.images log first.old second.old }
         ensures some { OnOk result (IsSome self.new.log) }
         ensures none { OnErr result (self.new.log ≡ None) }
         ensures number { OnErr result (self.new.number ≡ next_number self.old) }
-        ensures marks { (es : List Entry) (tune : Tune) → IsBatchOf (base_in self.old.log) es tune pending.now → HoldsThese self.new.marks self.new.log es }
-        ensures wrote { (log : LogState) (es : List Entry) (tune : Tune) → D.tells ≡ true → self.old.log ≡ Some log → LeavesOut (base_of log) (persist es) pending.now.batch.records → pending.now.batch.tune ≡ tune → pending.now.size ≡ length es
+        ensures marks { (es : List Entry) (tune : Tune) → IsBatchOf (base_in self.old.log) es tune pending → HoldsThese self.new.marks self.new.log es }
+        ensures wrote { (log : LogState) (es : List Entry) (tune : Tune) → D.tells ≡ true → self.old.log ≡ Some log → LeavesOut (base_of log) (persist es) pending.batch.records → pending.batch.tune ≡ tune → pending.size ≡ length es
             → tune_fits tune ≡ true → 2 ≤ length es → length log.chosen.held.world.objects ≤ length es
             → Appended D.seen D.moment D.images (payload_of log (world_batch es tune)) (record { objects = persist es; tune = tune }) log self.new.log first.old second.old first.new second.new result }
         ensures stale { self.old.log ≡ None → (result ≡ Err LogFault.Stale) × ((first.new ≡ first.old) × (second.new ≡ second.old)) }
@@ -161,11 +161,11 @@ impl Store {
             return Err(LogFault::Stale);
         };
         let number = log.next();
-        if !is_of_world(log, pending) {
+        if !is_of_world(log, &pending) {
             self.close(number);
             return Err(LogFault::Stale);
         }
-        match log.append(first, second, &pending.batch) {
+        match log.append(first, second, pending.batch) {
             Ok(_) => {
                 self.marks = true;
                 Ok(())

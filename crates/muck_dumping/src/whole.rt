@@ -70,8 +70,9 @@ fn dump_mounted<D: Disk>(
     let Ok(pending) = begin(world, party, store, first, second) else {
         return Err(NoMemory);
     };
-    match write(store, first, second, &pending) {
-        Ok(()) => match end(world, party, first, second, pending.number, true) {
+    let number = pending.number;
+    match write(store, first, second, pending) {
+        Ok(()) => match end(world, party, first, second, number, true) {
             Ok(()) => Ok(None),
             Err(NoMemory) => Err(NoMemory),
         },
@@ -80,7 +81,7 @@ fn dump_mounted<D: Disk>(
                 world.died(party);
                 Err(NoMemory)
             }
-            _ => match end(world, party, first, second, pending.number, false) {
+            _ => match end(world, party, first, second, number, false) {
                 Ok(()) => Ok(Some(fault)),
                 Err(NoMemory) => Err(NoMemory),
             },

@@ -13,5 +13,6 @@ pub mod Writing
 pub mod Written
 pub mod Placing
 pub mod Refusing
+pub mod Rereading
 pub mod Fine
 pub mod Spellings

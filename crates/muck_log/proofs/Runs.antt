@@ -1,6 +1,6 @@
 -- Reading over whole parts.
 use Rattle.std.proofs.Common.{◌≡◌, ◌≢◌, ℕ, ◌+◌, ◌<◌, ◌^◌, true, eqb, List, [], ◌∷◌, ◌++◌, length, take, drop, get_or, Some, refl, sym, ◌∙◌, ap, arith, length-append, append_assoc, take-append-drop}
-use Rattle.std.proofs.lemmas.List.{append-nil, take_more, take-take, drop-take}
+use Rattle.std.proofs.lemmas.List.{append-nil, take-take, drop-take}
 use Rattle.std.proofs.lemmas.Bool.{cond-true, cond-false, eq-eqb, ne_eqb}
 use Rattle.std.proofs.lemmas.Nat.{from_be_bytes-to_be_bytes_8}
 use Rattle.std.specs.Int.{w64, to_be_bytes, from_be_bytes}
@@ -96,10 +96,6 @@ run_over r (x ∷ xs) over = ap (λ (s : Reading). run s xs) (stays r.place r.mo
     stays place InBody size bytes held b over = cc
     stays place Shut size bytes held b over = refl
     stays place Broken size bytes held b over = refl
-
-pub run_more : (r : Reading) (xs : List ℕ) (i : ℕ) (d : ℕ) → i < length xs → run r (take (i + 1) xs) ≡ step (run r (take i xs)) (get_or xs i d)
-unfolding run
-run_more r xs i d lt = ap (run r) (take_more xs i d lt) ∙ run-append r (take i xs) (get_or xs i d ∷ [])
 
 step_in : (r : Reading) (x : ℕ) → r.mode ≡ InBody → length r.bytes + 1 < r.size → step r x ≡ record r { bytes = r.bytes ++ x ∷ [] }
 unfolding step

@@ -4,7 +4,7 @@ use Rattle.std.proofs.lemmas.Bool.{cases_eq, cases_Bool, cond-true, cond-false, 
 use Rattle.muck_log.specs.Body.{Body, body_bytes}
 use Rattle.muck_log.specs.World.{World, laid}
 use Rattle.muck_log.specs.File.{Held, End, Opened, begin, join, follows, after_number, file_of}
-use Rattle.muck_log.specs.Store.{Chosen, Damage, loaded, picked, stored, opens_new, target, next_body, after_batch, framed, IsDone, MayBe, pick}
+use Rattle.muck_log.specs.Store.{Chosen, Damage, loaded, picked, stored, opens_new, target, framed, IsDone, MayBe, pick}
 use Rattle.muck_log.specs.Append.{IsEither}
 use Rattle.muck_log.proofs.Files.{opened, file_facts, kept_open, kept_start, done_open, done_start, body_reads, head_reads, body_length}
 
@@ -196,14 +196,6 @@ module _ (s : Chosen) (payload : List ℕ) (w : World) where
   pub target_new : opens_new s.held ≡ true → target s ≡ record { second = not s.second; place = 0; held = begin (s.held.generation + 1) }
   unfolding target
   target_new e = cond-true (opens_new s.held) _ _ e
-
-  pub after_is : after_batch s payload w ≡ after_at (target s) s payload w
-  unfolding after_batch next_body
-  after_is = refl
-
-  pub next_is : next_body s payload ≡ body_at (target s) s payload
-  unfolding next_body
-  next_is = refl
 
   pub empty_same : (t : Chosen) → t ≡ record { second = false; place = 0; held = begin 1 } → opens_new t.held ≡ false
   unfolding opens_new begin

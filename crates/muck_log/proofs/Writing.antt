@@ -21,9 +21,6 @@ same_back place a b len front at back lt =
     ∙ ap (λ l. l ++ drop place b) front
     ∙ take-append-drop place b
 
-pub kept_none : (place : ℕ) (old : List ℕ) → IsKept place old old
-kept_none place old = record { front = refl; no_shorter = omega arith; shut = inr (inr refl) }
-
 -- the first write: a closed gate, where it was missing or 01
 pub closing : (place : ℕ) (old new : List ℕ) → place ≤ length old → must_close place old ≡ true → Torn place 1 old new → IsKept place old new
 unfolding must_close
@@ -62,9 +59,6 @@ closed_now place old le =
     let len : length (written old place (0 ∷ [])) ≡ place + 1 + (length old - (place + 1)) =
     omega (arith, length-append (take place old ++ 0 ∷ []) (drop (place + 1) old), length-append (take place old) (0 ∷ []), length-drop (place + 1) old, size) in
     record { front = torn.before; no_shorter = torn.no_shorter; there = omega (arith, len); shut = λ e. omega (arith, is, e) }
-
-pub kept_closed : (place : ℕ) (old new : List ℕ) → IsClosed place old new → IsKept place old new
-kept_closed place old new c = record { front = c.front; no_shorter = c.no_shorter; shut = inr (inl c.shut) }
 
 -- the second write: behind a closed gate
 pub behind : (place n : ℕ) (old closed new : List ℕ) → IsClosed place old closed → Torn (place + 1) n closed new → IsKept place old new

@@ -1,51 +1,38 @@
--- The records that are written, one after the other.
-use Rattle.std.proofs.Common.{◌≡◌, ℕ, ◌+◌, ◌<◌, ◌≤◌, Bool, true, false, cond, not, List, [], ◌∷◌, ◌++◌, length, take, get_or, refl, sym, ◌∙◌, ap, arith, length-append, length-take, append_assoc}
-use Rattle.std.specs.List.{filter, flat_map}
-use Rattle.std.proofs.lemmas.List.{append-nil, take_more}
-use Rattle.std.proofs.lemmas.List.Elements.{filter-append}
-use Rattle.std.proofs.lemmas.List.Concat.{flat_map-append}
+-- What is written of some records: those that differ from what is kept of their objects.
+use Rattle.std.proofs.Common.{◌≡◌, ◌≤◌, Bool, true, false, cond, not, List, [], ◌∷◌, length, refl, ◌∙◌, ap, subst, arith}
+use Rattle.std.specs.Prelude.{All}
+use Rattle.std.specs.List.{filter, items_where_true}
+use Rattle.std.specs.List.Retain.{ReturnsInTurn, IsFiltered}
+use Rattle.std.proofs.lemmas.List.Elements.{All-head, All-tail, All-filter}
 use Rattle.std.proofs.lemmas.List.Filters.{length-filter_both}
 use Rattle.muck_codec.specs.declared.stored.Stored.{Stored}
-use Rattle.muck_codec.specs.Spelling.{spelling}
+use Rattle.muck_codec.specs.inner.Stored.{IsStored}
 use Rattle.muck_log.specs.World.{differs, written}
 
-pub record IsWritten (objects records : List Stored) (before out : List ℕ) (n : ℕ) : Type 0 where
-  pub count : n ≡ length (written objects records)
-  pub bytes : out ≡ before ++ flat_map spelling (written objects records)
-
-pub begins : (objects : List Stored) (before : List ℕ) → IsWritten objects [] before before 0
-unfolding written
-begins objects before = record { count = refl; bytes = sym (append-nil before) }
-
-few : (objects records : List Stored) → length (written objects records) ≤ length records
+pub few : (objects records : List Stored) → length (written objects records) ≤ length records
 unfolding written
 few objects records = omega (arith, length-filter_both (differs objects) (λ o. not (differs objects o)) (λ o. refl) records)
 
-pub counts : (objects records : List Stored) (before out : List ℕ) (n i : ℕ) → IsWritten objects (take i records) before out n → i < length records → n < length records
-counts objects records before out n i so lt = omega (arith, so.count, few objects (take i records), length-take i records)
+pub all_stored : (objects records : List Stored) → All IsStored records → All IsStored (written objects records)
+unfolding written
+all_stored objects records all = All-filter (differs objects) IsStored records all
 
-module _ (objects records : List Stored) (before out : List ℕ) (n i : ℕ) (o : Stored) (lt : i < length records) (is : o ≡ get_or records i o) where
-  more : take (i + 1) records ≡ take i records ++ o ∷ []
-  more = take_more records i o lt ∙ ap (λ x. take i records ++ x ∷ []) (sym is)
+-- A closure that says of each record whether it differs.
+module _ {F : Type 0} (R : F → Stored → Bool → F → Type 0) (objects : List Stored) (f : F) (kept : All IsStored objects)
+    (says : (o : Stored) (b : Bool) (f' : F) → R f o b f' → (All IsStored objects → IsStored o → b ≡ differs objects o) × (f' ≡ f)) where
+  goes_on : (o : Stored) (os : List Stored) (bs : List Bool) (b : Bool) → b ≡ differs objects o → items_where_true bs os ≡ filter (differs objects) os → items_where_true (b ∷ bs) (o ∷ os) ≡ filter (differs objects) (o ∷ os)
+  goes_on o os bs true is rest = ap (λ l. o ∷ l) rest ∙ ap (λ c. cond c (o ∷ filter (differs objects) os) (filter (differs objects) os)) is
+  goes_on o os bs false is rest = rest ∙ ap (λ c. cond c (o ∷ filter (differs objects) os) (filter (differs objects) os)) is
 
-  one : (b : Bool) → differs objects o ≡ b → written objects (take (i + 1) records) ≡ written objects (take i records) ++ cond b (o ∷ []) []
+  in_turn : (bs : List Bool) (os : List Stored) (q : F) → All IsStored os → length bs ≡ length os → ReturnsInTurn R f bs os q → items_where_true bs os ≡ filter (differs objects) os
+  in_turn [] [] q stored size told = refl
+  in_turn [] (o ∷ os) q stored size told = absurd (omega arith)
+  in_turn (b ∷ bs) [] q stored size told = absurd told
+  in_turn (b ∷ bs) (o ∷ os) q stored size told =
+      let one = says o b told.0 told.1 in
+      goes_on o os bs b (one.0 kept (All-head IsStored o os stored)) (in_turn bs os q (All-tail IsStored o os stored) (omega arith) (subst (λ (y : F). ReturnsInTurn R y bs os q) one.1 told.2))
+
+  -- what it retains are the records that differ
+  pub retained : (records left : List Stored) → All IsStored records → IsFiltered R f records left → left ≡ written objects records
   unfolding written
-  one b e =
-      ap (filter (differs objects)) more ∙ filter-append (differs objects) (take i records) (o ∷ [])
-      ∙ ap (λ t. filter (differs objects) (take i records) ++ cond t (o ∷ []) []) e
-
-  pub puts : (n' : ℕ) (out' : List ℕ) → differs objects o ≡ true → n' ≡ n + 1 → out' ≡ out ++ spelling o → IsWritten objects (take i records) before out n → IsWritten objects (take (i + 1) records) before out' n'
-  puts n' out' is_put count bytes so = record {
-    count = omega (arith, count, so.count, ap length (one true is_put), length-append (written objects (take i records)) (o ∷ []));
-    bytes = bytes ∙ ap (λ l. l ++ spelling o) so.bytes ∙ append_assoc before (flat_map spelling (written objects (take i records))) (spelling o)
-        ∙ ap (λ l. before ++ l) (ap (λ l. flat_map spelling (written objects (take i records)) ++ l) (sym (append-nil (spelling o)))
-        ∙ sym (flat_map-append spelling (written objects (take i records)) (o ∷ [])) ∙ ap (flat_map spelling) (sym (one true is_put)));
-  }
-
-  pub leaves : (n' : ℕ) (out' : List ℕ) → differs objects o ≡ false → n' ≡ n → out' ≡ out → IsWritten objects (take i records) before out n → IsWritten objects (take (i + 1) records) before out' n'
-  leaves n' out' no_one count bytes so =
-      let same : written objects (take (i + 1) records) ≡ written objects (take i records) = one false no_one ∙ append-nil (written objects (take i records)) in
-      record {
-        count = count ∙ so.count ∙ ap length (sym same);
-        bytes = bytes ∙ so.bytes ∙ ap (λ l. before ++ flat_map spelling l) (sym same);
-      }
+  retained records left stored told = told.4 ∙ in_turn told.0 records told.1 stored told.2 told.3

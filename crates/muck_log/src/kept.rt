@@ -5,10 +5,10 @@ ghost use Rattle.std.specs.List.{flat_map, list_all};
 ghost use Rattle.muck_model.specs.Bytes.{text_fault};
 ghost use Rattle.muck_codec.specs.Spelling.{spelling};
 ghost use Rattle.muck_codec.specs.inner.Stored.{IsStored};
-ghost use Rattle.muck_codec.specs.Batches.{batch_bytes, HasFewLines};
+ghost use Rattle.muck_codec.specs.Batches.{batch_bytes};
 ghost use Rattle.muck_log.specs.World.{World, room_zero, first_digest, player_one, first_tune, start, lost, is_between, tune_fits, is_fine, IsFine, placed, all_placed, laid, kept_of, differs, written};
 ghost use Rattle.muck_store.specs.Limits.{fits};
-ghost use Rattle.muck_log.specs.inner.Head.{IsLaid, IsPut, IsPlaced, ArePlaced};
+ghost use Rattle.muck_log.specs.inner.Head.{HasWords, IsLaid, IsPut, IsPlaced, ArePlaced};
 
 use crate::same::is_same;
 use muck_codec::{Batch, CodecFault, Stored, put_record, put_tune, take_batch};
@@ -244,17 +244,12 @@ impl Kept {
         self.tune
     }
 
-    // Puts the records and the parameters of a batch over it, which is read from its bytes; false where that can't be, and
-    // nothing is said of it then.
-    #[tactic(auto, unfolding(crate::specs::World::laid, crate::specs::World::laid_over))]
-    fn put(&mut self, payload: &[u8]) -> Result<bool, NoMemory>
-        ensures { IfOk result (λ yes. IsPut yes payload.now self.old self.new) }
+    // Puts the records and the parameters of a batch over it; false where that can't be, and nothing is said of it then.
+    #[tactic(auto, unfolding(crate::specs::World::laid_over))]
+    fn put(&mut self, batch: Batch) -> Result<bool, NoMemory>
+        requires storable { All IsStored batch.records }
+        ensures { IfOk result (λ yes. IsPut yes batch self.old self.new) }
     {
-        let batch = match take_batch(self.alloc, 1, payload) {
-            Ok(batch) => batch,
-            Err(CodecFault::BadRecord { .. }) => return Ok(false),
-            Err(CodecFault::NoMemory) => return Err(NoMemory),
-        };
         let Batch { records, tune } = batch;
         if !place_all(&mut self.objects, in_order(records))? {
             return Ok(false);
@@ -264,28 +259,43 @@ impl Kept {
     }
 
     // Lays the bytes of a batch over it; false where that can't be, and nothing is said of it then.
+    #[tactic(auto, unfolding(crate::specs::World::laid))]
     pub(crate) fn lay(&mut self, payload: &[u8]) -> Result<bool, NoMemory>
         ensures laid { IfOk result (λ yes. IsLaid yes payload.now self.old self.new) }
         ensures fine { IfOk result (λ yes. yes ≡ true → IsFine self.new) }
     {
-        if !self.put(payload)? {
+        let batch = match take_batch(self.alloc, 1, payload) {
+            Ok(batch) => batch,
+            Err(CodecFault::BadRecord { .. }) => return Ok(false),
+            Err(CodecFault::NoMemory) => return Err(NoMemory),
+        };
+        if !self.put(batch)? {
             return Ok(false);
         }
         Ok(is_fine(self.alloc, &self.objects, &self.tune)?)
     }
 
-    // Lays the bytes of a batch over it that are known to make a world. Nothing of the world is judged.
-    pub(crate) fn lay_known(&mut self, payload: &[u8]) -> Result<(), NoMemory>
-        requires { (w : World) × (laid payload.now self.old ≡ Some w) }
-        ensures laid { OnOk result (laid payload.now self.old ≡ Some self.new) }
+    // Lays a batch over it whose bytes are known to make a world. They are what would be read again, so nothing is read, and
+    // nothing of the world is judged.
+    pub(crate) fn lay_known(&mut self, batch: Batch) -> Result<(), NoMemory>
+        requires few { length batch.records < 2 ^ 32 }
+        requires storable { All IsStored batch.records }
+        requires makes { (w : World) × (laid (batch_bytes batch.records batch.tune) self.old ≡ Some w) }
+        ensures laid { OnOk result (laid (batch_bytes batch.records batch.tune) self.old ≡ Some self.new) }
         ensures fine { OnOk result (IsFine self.new) }
     {
-        if !self.put(payload)? {
+        see_tune(batch.tune);
+        if !self.put(batch)? {
             unreachable!();
         }
         Ok(())
     }
 }
+
+// For contracts alone: each parameter fits its bytes.
+fn see_tune(tune: Tune)
+    ensures { HasWords tune }
+{}
 
 // Whether a record is what is kept of its object.
 fn is_kept(objects: &[Stored], object: &Stored) -> bool
@@ -303,57 +313,62 @@ fn is_kept(objects: &[Stored], object: &Stored) -> bool
 // Whether a record differs from what is kept of its object.
 #[tactic(auto, using(crate::proofs::Differing::kept_differs))]
 fn is_written(objects: &[Stored], object: &Stored) -> bool
-    requires kept { All IsStored objects.now }
-    requires storable { IsStored object.now }
-    ensures { result ≡ differs objects.now object.now }
+    ensures { All IsStored objects.now → IsStored object.now → result ≡ differs objects.now object.now }
 {
     !is_kept(objects, object)
 }
 
-// Writes the records that differ from these objects, and answers how many.
-fn put_written(
-    alloc: Global,
-    objects: &[Stored],
-    records: &[Stored],
-    out: &mut Vec<u8>,
-) -> Result<u32, NoMemory>
-    requires few { length records.now < 2 ^ 32 }
-    requires lines { HasFewLines records.now }
+// Leaves out the records that are what is kept of their objects. It takes no memory.
+fn leave_out_kept(objects: &[Stored], records: &mut Vec<Stored>)
     requires kept { All IsStored objects.now }
-    requires storable { All IsStored records.now }
-    ensures count { IfOk result (λ n. n ≡ length (written objects.now records.now)) }
-    ensures bytes { OnOk result (out.new.items ≡ out.old.items ++ flat_map spelling (written objects.now records.now)) }
+    requires storable { All IsStored records.old.items }
+    ensures { records.new.items ≡ written objects.now records.old.items }
 {
-    let mut count = 0;
-    for object in records {
-        if is_written(objects, object) {
-            put_record(alloc, object, out)?;
-            count += 1;
-        }
-    }
-    Ok(count)
+    records.retain(|object| is_written(objects, object));
 }
 
 impl Kept {
-    // The bytes of a batch that is laid over it: its records that differ from what is kept.
-    #[tactic(auto, unfolding(muck_codec::specs::Batches::batch_bytes))]
-    pub(crate) fn payload(&self, batch: &Batch) -> Result<Vec<u8>, NoMemory>
-        requires few { length batch.now.records < 2 ^ 32 }
-        requires lines { HasFewLines batch.now.records }
-        requires storable { All IsStored batch.now.records }
-        ensures bytes { IfOk result (λ v. v.items ≡ batch_bytes (written self.now.objects batch.now.records) batch.now.tune) }
+    // What is written of a batch that is laid over it: its records that differ from what is kept. It takes no memory.
+    #[tactic(auto, using(crate::proofs::Written::few))]
+    pub(crate) fn leave_out(&self, batch: Batch) -> Batch
+        requires storable { All IsStored batch.records }
+        ensures records { result.records ≡ written self.now.objects batch.records }
+        ensures tune { result.tune ≡ batch.tune }
+        ensures few { length result.records ≤ length batch.records }
+        ensures storable { All IsStored result.records }
         ensures kept { All IsStored self.now.objects }
     {
-        let mut bytes = Vec::new(self.alloc);
-        let count = put_written(
-            self.alloc,
-            &self.objects,
-            batch.records.as_slice(),
-            &mut bytes,
-        )?;
-        let mut payload = Vec::from_slice(self.alloc, &count.to_be_bytes())?;
-        payload.extend_from_slice(&bytes)?;
-        put_tune(&mut payload, &batch.tune)?;
-        Ok(payload)
+        let Batch { records, tune } = batch;
+        let mut records = records.into_vec();
+        leave_out_kept(&self.objects, &mut records);
+        Batch {
+            records: Row::of(records),
+            tune,
+        }
     }
+}
+
+// Writes these records.
+fn put_records(alloc: Global, records: &[Stored], out: &mut Vec<u8>) -> Result<(), NoMemory>
+    requires { All IsStored records.now }
+    ensures { OnOk result (out.new.items ≡ out.old.items ++ flat_map spelling records.now) }
+{
+    for object in records {
+        put_record(alloc, object, out)?;
+    }
+    Ok(())
+}
+
+// The bytes of a batch.
+#[tactic(auto, unfolding(muck_codec::specs::Batches::batch_bytes))]
+pub(crate) fn payload(alloc: Global, batch: &Batch) -> Result<Vec<u8>, NoMemory>
+    requires few { length batch.now.records < 2 ^ 32 }
+    requires storable { All IsStored batch.now.records }
+    ensures { IfOk result (λ v. v.items ≡ batch_bytes batch.now.records batch.now.tune) }
+{
+    let count = batch.records.len() as u32;
+    let mut payload = Vec::from_slice(alloc, &count.to_be_bytes())?;
+    put_records(alloc, batch.records.as_slice(), &mut payload)?;
+    put_tune(&mut payload, &batch.tune)?;
+    Ok(payload)
 }

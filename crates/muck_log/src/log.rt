@@ -12,9 +12,10 @@ ghost use Rattle.muck_log.specs.File.{after_number, begin};
 ghost use Rattle.muck_log.specs.inner.Mount.{IsLoaded, IsLoadFault};
 ghost use Rattle.muck_log.specs.Store.{LeavesBoth, MayBeAt, IsMounted, LogState, target, opens_new, next_body, after_batch, stored, framed, pick, IsDone};
 ghost use Rattle.muck_log.specs.Append.{IsEither, IsAppended, IsLaidNext, IsTarget, IsReady, IsRefused, IsFinished, IsNext, IsTouching, LoadsEither, MakesWorld, base_of, payload_of};
-ghost use Rattle.muck_codec.specs.Batches.{HasFewLines};
+ghost use Rattle.muck_codec.specs.Batches.{batch_bytes};
 ghost use Rattle.muck_codec.specs.inner.Stored.{IsStored};
 
+use crate::kept::payload;
 use crate::reader::Reader;
 use crate::write::put_target;
 use crate::{Kept, LogFault};
@@ -212,20 +213,21 @@ impl Log {
         }
     }
 
-    // Lays the payload over the world that the batch stands on, with which it makes a world. The log is stale until that is
-    // done.
+    // Lays a batch over the world that it stands on, with which it makes a world. The log is stale until that is done.
     #[tactic(auto, unfolding(crate::specs::Store::target, crate::specs::File::begin))]
-    fn lay_next(&mut self, payload: &[u8]) -> Result<(), NoMemory>
+    fn lay_next(&mut self, batch: Batch) -> Result<(), NoMemory>
         requires fresh { self.old.stale ≡ false }
-        requires makes { (w : World) × (laid payload.now (target self.old.chosen).held.world ≡ Some w) }
-        ensures { OnOk result (IsLaidNext self.old self.new payload.now) }
+        requires few { length batch.records < 2 ^ 32 }
+        requires storable { All IsStored batch.records }
+        requires makes { (w : World) × (laid (batch_bytes batch.records batch.tune) (target self.old.chosen).held.world ≡ Some w) }
+        ensures { OnOk result (IsLaidNext self.old self.new (batch_bytes batch.records batch.tune)) }
     {
         let opens = self.opens_new();
         self.stale = true;
         if opens {
             self.world = Kept::starting(self.alloc)?;
         }
-        self.world.lay_known(payload)?;
+        self.world.lay_known(batch)?;
         self.stale = false;
         Ok(())
     }
@@ -243,36 +245,36 @@ impl Log {
         self.world.objects()
     }
 
-    // The bytes of a batch over the world that it is laid over, of which each object has a spelling.
+    // What is written of a batch: its records that differ from the world that it is laid over.
     #[tactic(auto, unfolding(crate::specs::Append::payload_of, crate::specs::Store::target, crate::specs::File::begin))]
-    fn payload(&self, batch: &Batch) -> Result<Vec<u8>, NoMemory>
-        requires few { length batch.now.records < 2 ^ 32 }
-        requires lines { HasFewLines batch.now.records }
-        requires storable { All IsStored batch.now.records }
-        ensures bytes { IfOk result (λ payload. payload.items ≡ payload_of self.now batch.now) }
+    fn leave_out(&self, batch: Batch) -> Result<Batch, NoMemory>
+        requires storable { All IsStored batch.records }
+        ensures bytes { IfOk result (λ left. batch_bytes left.records left.tune ≡ payload_of self.now batch) }
+        ensures few { IfOk result (λ left. length left.records ≤ length batch.records) }
+        ensures storable { IfOk result (λ left. All IsStored left.records) }
         ensures kept { OnOk result (All IsStored (target self.now.chosen).held.world.objects) }
     {
         if self.opens_new() {
-            return Kept::starting(self.alloc)?.payload(batch);
+            return Ok(Kept::starting(self.alloc)?.leave_out(batch));
         }
-        self.world.payload(batch)
+        Ok(self.world.leave_out(batch))
     }
 
     // All that takes memory, and all refusals but those of the disks.
     #[tactic(auto, unfolding(crate::specs::Append::more_of, crate::specs::Store::next_body))]
-    fn prepare(&mut self, batch: &Batch) -> Result<Ready, LogFault>
-        requires few { length batch.now.records < 2 ^ 32 }
-        requires lines { HasFewLines batch.now.records }
-        requires storable { All IsStored batch.now.records }
-        requires makes { self.old.stale ≡ false → MakesWorld self.old batch.now }
-        ensures ok { IfOk result (λ ready. IsReady self.old self.new (payload_of self.old batch.now) ready) }
+    fn prepare(&mut self, batch: Batch) -> Result<Ready, LogFault>
+        requires few { length batch.records < 2 ^ 32 }
+        requires storable { All IsStored batch.records }
+        requires makes { self.old.stale ≡ false → MakesWorld self.old batch }
+        ensures ok { IfOk result (λ ready. IsReady self.old self.new (payload_of self.old batch) ready) }
         ensures kept { OnOk result (All IsStored (target self.old.chosen).held.world.objects) }
-        ensures err { IfErr result (λ fault. IsRefused self.old self.new batch.now fault) }
+        ensures err { IfErr result (λ fault. IsRefused self.old self.new batch fault) }
     {
         if self.stale {
             return Err(LogFault::Stale);
         }
-        let payload = self.payload(batch)?;
+        let batch = self.leave_out(batch)?;
+        let payload = payload(self.alloc, &batch)?;
         let number = self.next();
         let target = self.target();
         let body = encode(self.alloc, target.generation, number, &payload)?;
@@ -285,7 +287,7 @@ impl Log {
             });
         }
         let tail = frame(self.alloc, &body)?;
-        self.lay_next(&payload)?;
+        self.lay_next(batch)?;
         Ok(Ready {
             target,
             number,
@@ -317,7 +319,7 @@ impl Log {
     /// Writes a batch of the records of a world, by rising number, and answers its number. The batch may leave out what
     /// `base` keeps. Records that equal those of the world that the batch is laid over are left out of what is written:
     /// what is kept, or the starting world where a new generation is opened. So it makes the whole world, where that has no
-    /// fewer objects than are kept. All memory is taken before the first write.
+    /// fewer objects than are kept. What is written is moved into what is kept. All memory is taken before the first write.
     ///
     /// Each record of the batch has a spelling, and the batch, laid over that world, makes one that hangs together with
     /// every value within its limits. It isn't judged here: what a world cuts has a spelling, and the batch of a consistent
@@ -333,20 +335,19 @@ impl Log {
         &mut self,
         first: &mut D,
         second: &mut D,
-        batch: &Batch,
+        batch: Batch,
     ) -> Result<u64, LogFault>
-        requires few { length batch.now.records < 2 ^ 32 }
-        requires lines { HasFewLines batch.now.records }
-        requires storable { All IsStored batch.now.records }
-        requires makes { self.old.stale ≡ false → MakesWorld self.old batch.now }
+        requires few { length batch.records < 2 ^ 32 }
+        requires storable { All IsStored batch.records }
+        requires makes { self.old.stale ≡ false → MakesWorld self.old batch }
         requires mounted { D.tells ≡ true → self.old.stale ≡ false → IsMounted D.seen D.moment D.images self.old first.old second.old }
-        ensures answer { IsAppended self.old self.new batch.now result }
-        ensures whole { IsTouching result → (es : List WorldEntry) (tune : Tune) → LeavesOut (base_of self.old) (persist es) batch.now.records → batch.now.tune ≡ tune → tune_fits tune ≡ true → 2 ≤ length es
-            → length self.old.chosen.held.world.objects ≤ length es → laid (payload_of self.old batch.now) (target self.old.chosen).held.world ≡ Some (record { objects = persist es; tune = tune }) }
-        ensures chosen { OnOk result (IsNext self.old self.new (payload_of self.old batch.now)) }
+        ensures answer { IsAppended self.old self.new batch result }
+        ensures whole { IsTouching result → (es : List WorldEntry) (tune : Tune) → LeavesOut (base_of self.old) (persist es) batch.records → batch.tune ≡ tune → tune_fits tune ≡ true → 2 ≤ length es
+            → length self.old.chosen.held.world.objects ≤ length es → laid (payload_of self.old batch) (target self.old.chosen).held.world ≡ Some (record { objects = persist es; tune = tune }) }
+        ensures chosen { OnOk result (IsNext self.old self.new (payload_of self.old batch)) }
         ensures mounted { D.tells ≡ true → OnOk result (IsMounted D.seen D.moment D.images self.new first.new second.new) }
-        ensures any { D.tells ≡ true → self.old.stale ≡ false → (w : World) → laid (payload_of self.old batch.now) (target self.old.chosen).held.world ≡ Some w
-            → LeavesBoth D.moment D.images first.old second.old first.new second.new (LoadsEither self.old.chosen (after_batch self.old.chosen (payload_of self.old batch.now) w)) }
+        ensures any { D.tells ≡ true → self.old.stale ≡ false → (w : World) → laid (payload_of self.old batch) (target self.old.chosen).held.world ≡ Some w
+            → LeavesBoth D.moment D.images first.old second.old first.new second.new (LoadsEither self.old.chosen (after_batch self.old.chosen (payload_of self.old batch) w)) }
         ensures other { pick (target self.old.chosen).second second.new first.new ≡ pick (target self.old.chosen).second second.old first.old }
         ensures untouched { IsTouching result ⊎ ((first.new ≡ first.old) × (second.new ≡ second.old)) }
         ensures first_attached { D.attached first.new ≡ D.attached first.old }

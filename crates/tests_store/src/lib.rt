@@ -32,5 +32,5 @@ pub fn run_once<D: Disk>(
         records: Row::new(alloc)?,
         tune: start_tune(),
     };
-    log.append(first, second, &batch)
+    log.append(first, second, batch)
 }
