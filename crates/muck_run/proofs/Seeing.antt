@@ -32,7 +32,7 @@ use Rattle.muck_debugging.proofs.Pieces.{passed-append, refused_passed, kept_sho
 use Rattle.muck_run.specs.declared.playing.RunFault.{RunFault}
 use Rattle.muck_run.specs.declared.playing.RunFault.TheVariants.{NoMemory, WriteFault}
 use Rattle.muck_run.specs.inner.Plays.{Says, Plays, Breaks, PlaysOrBreaks, ending_of}
-use Rattle.muck_run.specs.inner.Seen.{IsReady, Shows, PlaysSeen, BreaksSeen, PlaysOrBreaksSeen, plain_of, nothing, act_part, commanded}
+use Rattle.muck_run.specs.inner.Seen.{IsReady, HandsOut, CutsOff, Shows, PlaysSeen, BreaksSeen, PlaysOrBreaksSeen, plain_of, nothing, act_part, commanded}
 use Rattle.muck_run.proofs.Parts.{appends_nothing, appends_as, goes_second, pending_behind, no_ending}
 use Rattle.muck_run.proofs.Turns.{turned_silent}
 use Rattle.muck_run.proofs.Lining.{first_turns, then_asked}
@@ -241,7 +241,7 @@ module _ (n : ℕ) (t u v : Tracer) (h k m : History) (a b : Option (List ℕ)) 
   lines : u.refused ≡ false → u.kept ≡ shown_of (views_in (now h) (turns n (now h))) t
   lines whole = ap (λ (x : Tracer). x.kept) (kept_of _ t u sees whole) ∙ kept_shown _ t ready.empty
 
-  pub shown_whole : Shows u v k m a b (Ok tt) → PlaysSeen (plain (turns n)) t v h m a b
+  shown_whole : HandsOut u v k m a b → PlaysSeen (plain (turns n)) t v h m a b
   shown_whole s = record {
     entries = turns n (now h);
     said = λ others. refl;
@@ -252,7 +252,7 @@ module _ (n : ℕ) (t u v : Tracer) (h k m : History) (a b : Option (List ℕ)) 
     alive = ap (λ (x : History). (now x).dead) s.still ∙ p.alive;
   }
 
-  pub shown_front : Shows u v k m a b (Err WriteFault) → BreaksSeen (plain (turns n)) [] t h m a b
+  shown_front : CutsOff u k m a b → BreaksSeen (plain (turns n)) [] t h m a b
   shown_front s =
       let text : List ℕ = flat_map ended u.kept in
       record {
@@ -268,8 +268,8 @@ module _ (n : ℕ) (t u v : Tracer) (h k m : History) (a b : Option (List ℕ)) 
         alive = λ e. ap (λ (x : History). (now x).dead) s.still ∙ p.alive;
       }
 
-  pub shown_nothing : Shows u v k m a b (Err NoMemory) → BreaksSeen (plain (turns n)) (by_porter Died ∷ []) t h m a b
-  shown_nothing s = record {
+  shown_died : (m ≡ entered k (by_porter Died)) × (b ≡ a) → BreaksSeen (plain (turns n)) (by_porter Died ∷ []) t h m a b
+  shown_died s = record {
     front = turns n (now h);
     pending = [];
     began = tt;
@@ -282,13 +282,13 @@ module _ (n : ℕ) (t u v : Tracer) (h k m : History) (a b : Option (List ℕ)) 
     alive = λ e. no_ending e;
   }
 
-  pub shown_turns : (r : Result Unit RunFault) → Shows u v k m a b r → PlaysOrBreaksSeen (plain (turns n)) t v h m a b r
+  pub shown_turns : {T : Type 0} (r : Result T RunFault) → Shows u v k m a b r → PlaysOrBreaksSeen (plain (turns n)) t v h m a b r
   shown_turns (Ok x) s = shown_whole s
-  shown_turns (Err NoMemory) s = shown_nothing s
+  shown_turns (Err NoMemory) s = shown_died s
   shown_turns (Err WriteFault) s = shown_front s
 
 -- no dump is made of it
-pub quiet_shows : (t u : Tracer) (h k : History) (a b : Option (List ℕ)) (r : Result Unit RunFault) → Shows t u h k a b r → Quietly h k
+pub quiet_shows : {T : Type 0} (t u : Tracer) (h k : History) (a b : Option (List ℕ)) (r : Result T RunFault) → Shows t u h k a b r → Quietly h k
 quiet_shows t u h k a b (Ok x) s = quiet_nothing h k s.still
 quiet_shows t u h k a b (Err NoMemory) s = quiet_one h k (by_porter Died) refl s.0
 quiet_shows t u h k a b (Err WriteFault) s = quiet_nothing h k s.still

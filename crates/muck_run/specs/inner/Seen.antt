@@ -49,7 +49,7 @@ pub record CutsOff (t : Tracer) (h k : History) (before written : Option (List �
   pub text : AppendsFront before written (flat_map ended t.kept)
 
 -- so it goes, by the answer, or memory is wanted, as it may have been before
-abbrev pub Shows : Tracer → Tracer → History → History → Option (List ℕ) → Option (List ℕ) → Result Unit RunFault → Type 0
+abbrev pub Shows : {T : Type 0} → Tracer → Tracer → History → History → Option (List ℕ) → Option (List ℕ) → Result T RunFault → Type 0
 Shows t u h k before written (Ok _) = HandsOut t u h k before written
 Shows t u h k before written (Err WriteFault) = CutsOff t h k before written
 Shows t u h k before written (Err NoMemory) = (k ≡ entered h (by_porter Died)) × (written ≡ before)
