@@ -59,10 +59,10 @@ inside b e = grind (arith, nat_tests)
 
 all_inside : (line : List ℕ) → length line ≤ position_or_len is_outside line → is_line line ≡ true
 all_inside [] h = refl
-all_inside (b ∷ line) h = by (is_outside b) refl h where
-  by : (t : Bool) → is_outside b ≡ t → suc (length line) ≤ cond (not t) (1 + position_or_len is_outside line) 0 → no_end b && is_line line ≡ true
-  by true e le = absurd (omega arith)
-  by false e le = ap (λ (t : Bool). t && is_line line) (inside b e) ∙ all_inside line (omega arith)
+all_inside (b ∷ line) h = by (is_outside b) refl h (λ le. all_inside line le) where
+  by : (t : Bool) → is_outside b ≡ t → suc (length line) ≤ cond (not t) (1 + position_or_len is_outside line) 0 → (length line ≤ position_or_len is_outside line → is_line line ≡ true) → no_end b && is_line line ≡ true
+  by true e le others = absurd (omega arith)
+  by false e le others = ap (λ (t : Bool). t && is_line line) (inside b e) ∙ others (omega arith)
 
 none_found : (line : List ℕ) → position is_outside line ≡ None → length line ≤ position_or_len is_outside line
 none_found line e = by (ltb (position_or_len is_outside line) (length line)) refl e where
@@ -96,12 +96,14 @@ high_glyph d = by (nat_lt d 10) where
 
 high_onto : (k n : ℕ) (acc : List ℕ) → list_all is_high acc ≡ true → list_all is_high (digits_onto k 10 false n acc) ≡ true
 high_onto zero n acc h = h
-high_onto (suc k) n acc h = by (n / 10 == 0) where
-  more : list_all is_high (digit_glyph false (n % 10) ∷ acc) ≡ true
-  more = ap (λ (t : Bool). t && list_all is_high acc) (high_glyph (n % 10)) ∙ h
-  by : (t : Bool) → list_all is_high (cond t (digit_glyph false (n % 10) ∷ acc) (digits_onto k 10 false (n / 10) (digit_glyph false (n % 10) ∷ acc))) ≡ true
-  by true = more
-  by false = high_onto k (n / 10) (digit_glyph false (n % 10) ∷ acc) more
+high_onto (suc k) n acc h =
+    let more : list_all is_high (digit_glyph false (n % 10) ∷ acc) ≡ true = ap (λ (t : Bool). t && list_all is_high acc) (high_glyph (n % 10)) ∙ h in
+    by (n / 10 == 0) more (high_onto k (n / 10) (digit_glyph false (n % 10) ∷ acc) more)
+  where
+    by : (t : Bool) → list_all is_high (digit_glyph false (n % 10) ∷ acc) ≡ true → list_all is_high (digits_onto k 10 false (n / 10) (digit_glyph false (n % 10) ∷ acc)) ≡ true
+        → list_all is_high (cond t (digit_glyph false (n % 10) ∷ acc) (digits_onto k 10 false (n / 10) (digit_glyph false (n % 10) ∷ acc))) ≡ true
+    by true one others = one
+    by false one others = others
 
 -- something stands there
 abbrev Begins : List ℕ → Type 0
@@ -109,10 +111,10 @@ Begins text = (b : ℕ) × (rest : List ℕ) × (text ≡ b ∷ rest)
 
 begins_onto : (k n : ℕ) (acc : List ℕ) → Begins acc → Begins (digits_onto k 10 false n acc)
 begins_onto zero n acc h = h
-begins_onto (suc k) n acc h = by (n / 10 == 0) where
-  by : (t : Bool) → Begins (cond t (digit_glyph false (n % 10) ∷ acc) (digits_onto k 10 false (n / 10) (digit_glyph false (n % 10) ∷ acc)))
-  by true = (digit_glyph false (n % 10), acc, refl)
-  by false = begins_onto k (n / 10) (digit_glyph false (n % 10) ∷ acc) (digit_glyph false (n % 10), acc, refl)
+begins_onto (suc k) n acc h = by (n / 10 == 0) (begins_onto k (n / 10) (digit_glyph false (n % 10) ∷ acc) (digit_glyph false (n % 10), acc, refl)) where
+  by : (t : Bool) → Begins (digits_onto k 10 false (n / 10) (digit_glyph false (n % 10) ∷ acc)) → Begins (cond t (digit_glyph false (n % 10) ∷ acc) (digits_onto k 10 false (n / 10) (digit_glyph false (n % 10) ∷ acc)))
+  by true others = (digit_glyph false (n % 10), acc, refl)
+  by false others = others
 
 high_decimal : (n : ℕ) → list_all is_high (decimal n) ≡ true
 unfolding digits
@@ -192,20 +194,29 @@ onto_line b (line ∷ lines) e h = ap (λ (t : Bool). (t && is_line line) && lis
 
 lines_are : (bytes : List ℕ) → list_all is_line (lines_of bytes) ≡ true
 lines_are [] = refl
-lines_are (b ∷ bytes) = by (is_line_feed b) refl where
-  by : (t : Bool) → is_line_feed b ≡ t → list_all is_line (cond t ([] ∷ lines_of bytes) (onto_first b (lines_of bytes))) ≡ true
-  by true e = lines_are bytes
-  by false e = onto_line b (lines_of bytes) (ap not e) (lines_are bytes)
+lines_are (b ∷ bytes) = by (is_line_feed b) refl (lines_are bytes) where
+  by : (t : Bool) → is_line_feed b ≡ t → list_all is_line (lines_of bytes) ≡ true → list_all is_line (cond t ([] ∷ lines_of bytes) (onto_first b (lines_of bytes))) ≡ true
+  by true e others = others
+  by false e others = onto_line b (lines_of bytes) (ap not e) others
+
+run_as : (a b : List ℕ) → a ≡ b → IsRun a → IsRun b
+run_as a b e p = record { lines = p.lines; is = sym e ∙ p.is; whole = p.whole; plain = p.plain }
+
+shown_ended : (d : ℕ) (text : List ℕ) → decimal d ++ ((codes "< " ++ text) ++ 10 ∷ []) ≡ decimal d ++ codes "< " ++ text ++ 10 ∷ []
+shown_ended d text = sym (ap (λ (x : List ℕ). x ++ 10 ∷ []) (append_assoc (decimal d) (codes "< ") text) ∙ append_assoc (decimal d) (codes "< " ++ text) (10 ∷ []))
+
+farewell_ended : (d : ℕ) → decimal d ++ (codes " closed" ++ 10 ∷ []) ≡ farewell d
+farewell_ended d = sym (append_assoc (decimal d) (codes " closed") (10 ∷ []))
 
 run_shown : (d : ℕ) (lines : List (List ℕ)) → list_all is_line lines ≡ true → IsRun (flat_map (shown d) lines)
 run_shown d [] e = run_nothing
 run_shown d (line ∷ lines) e =
     let parts = and_parts (is_line line) (list_all is_line lines) e in
-    let rest : List ℕ = codes "< " ++ take (length line - 1) line in
-    run_both (shown d line) (flat_map (shown d) lines) (run_one d rest (line_take (length line - 1) line parts.0)) (run_shown d lines parts.1)
+    let text : List ℕ = take (length line - 1) line in
+    run_both (shown d line) (flat_map (shown d) lines) (run_as _ _ (shown_ended d text) (run_one d (codes "< " ++ text) (line_take (length line - 1) line parts.0))) (run_shown d lines parts.1)
 
 run_farewell : (d : ℕ) (t : Bool) → IsRun (cond t (farewell d) [])
-run_farewell d true = run_one d (codes " closed") refl
+run_farewell d true = run_as _ _ (farewell_ended d) (run_one d (codes " closed") refl)
 run_farewell d false = run_nothing
 
 run_told : (w : World) (event : Event) → IsRun (told w event)
@@ -247,15 +258,15 @@ unfolding AreFine
 fine_both [] qs f g = g
 fine_both (p ∷ ps) qs f g = (f.0, f.1, fine_both ps qs f.2 g)
 
+fine_if : (b : Bool) (ps : List Piece) → AreFine ps → AreFine (cond b [] ps)
+unfolding AreFine
+fine_if true ps f = tt
+fine_if false ps f = f
+
 fine_debug : (acts : List DebugAct) (os : List Dumped) (w : World) (t : Tracer) → AreFine (debug_pieces acts os w t)
 unfolding AreFine
 fine_debug [] os w t = fine_pieces (halting w) w t
-fine_debug (Plain act ∷ acts) os w t = by w.stopping where
-  others : AreFine (then_pieces (debug_pieces acts) os w t (line_story act os w))
-  others = fine_both (pieces_of t w (line_story act os w)) _ (fine_pieces (line_story act os w) w t) (fine_debug acts _ _ _)
-  by : (b : Bool) → AreFine (cond b [] (then_pieces (debug_pieces acts) os w t (line_story act os w)))
-  by true = tt
-  by false = others
+fine_debug (Plain act ∷ acts) os w t = fine_if w.stopping _ (fine_both (pieces_of t w (line_story act os w)) _ (fine_pieces (line_story act os w) w t) (fine_debug acts _ _ _))
 fine_debug (Break program line ∷ acts) os w t = fine_debug acts os w (with_break (record { program = program; line = line }) t)
 fine_debug (Clear program line ∷ acts) os w t = fine_debug acts os w (without_break (record { program = program; line = line }) t)
 fine_debug (Trace on ∷ acts) os w t = fine_debug acts os w (record t { on = on })
@@ -336,21 +347,21 @@ unfolding run_of_all
 run_pieces [] w t = refl
 run_pieces (e ∷ es) w t = ap (λ (text : List ℕ). told w e.event ++ text) (run_pieces es (effect w e) (passed (seen_of w e.event) t))
 
+run_if : (b : Bool) (w : World) (ps : List Piece) (es : List Entry) → run_of_all ps ≡ text_of w es → run_of_all (cond b [] ps) ≡ text_of w (cond b [] es)
+unfolding run_of_all
+run_if true w ps es e = refl
+run_if false w ps es e = e
+
 run_debug : (acts : List DebugAct) (os : List Dumped) (w : World) (t : Tracer) → run_of_all (debug_pieces acts os w t) ≡ text_of w (lines_story (plain_acts acts) os w)
 unfolding run_of_all
 run_debug [] os w t = run_pieces (halting w) w t
-run_debug (Plain act ∷ acts) os w t = by w.stopping where
-  es : List Entry
-  es = line_story act os w
-  more : run_of_all (then_pieces (debug_pieces acts) os w t (line_story act os w)) ≡ text_of w (both (line_story act) (lines_story (plain_acts acts)) os w)
-  more =
-      flat_map-append (λ (p : Piece). p.run) (pieces_of t w (line_story act os w)) _
-      ∙ ap (λ (text : List ℕ). text ++ run_of_all (debug_pieces acts (drop (length (outcomes_of (line_story act os w))) os) (after w (line_story act os w)) (passed (views_in w (line_story act os w)) t))) (run_pieces (line_story act os w) w t)
-      ∙ ap (λ (text : List ℕ). text_of w (line_story act os w) ++ text) (run_debug acts _ _ _)
-      ∙ sym (text-append (line_story act os w) _ w)
-  by : (b : Bool) → run_of_all (cond b [] (then_pieces (debug_pieces acts) os w t (line_story act os w))) ≡ text_of w (cond b [] (both (line_story act) (lines_story (plain_acts acts)) os w))
-  by true = refl
-  by false = more
+run_debug (Plain act ∷ acts) os w t =
+    let es = line_story act os w in
+    run_if w.stopping w (then_pieces (debug_pieces acts) os w t es) (both (line_story act) (lines_story (plain_acts acts)) os w)
+    (flat_map-append (λ (p : Piece). p.run) (pieces_of t w es) (debug_pieces acts (drop (length (outcomes_of es)) os) (after w es) (passed (views_in w es) t))
+    ∙ ap (λ (text : List ℕ). text ++ run_of_all (debug_pieces acts (drop (length (outcomes_of es)) os) (after w es) (passed (views_in w es) t))) (run_pieces es w t)
+    ∙ ap (λ (text : List ℕ). text_of w es ++ text) (run_debug acts (drop (length (outcomes_of es)) os) (after w es) (passed (views_in w es) t))
+    ∙ sym (text-append es (lines_story (plain_acts acts) (drop (length (outcomes_of es)) os) (after w es)) w))
 run_debug (Break program line ∷ acts) os w t = run_debug acts os w (with_break (record { program = program; line = line }) t)
 run_debug (Clear program line ∷ acts) os w t = run_debug acts os w (without_break (record { program = program; line = line }) t)
 run_debug (Trace on ∷ acts) os w t = run_debug acts os w (record t { on = on })

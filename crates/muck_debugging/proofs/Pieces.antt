@@ -17,15 +17,15 @@ use Rattle.muck_debugging.proofs.Watched.{views-append}
 
 -- What a tracer kept before changes nothing of what it shows.
 
-keeping : List (List ℕ) → Tracer → Tracer
+abbrev keeping : List (List ℕ) → Tracer → Tracer
 keeping lines t = record t { kept = lines }
 
 told_keeping : (v : View) (t : Tracer) (lines : List (List ℕ)) → told v (keeping lines t) ≡ keeping ((told v (keeping lines t)).kept) (told v t)
-unfolding told keeping
+unfolding told
 told_keeping v t lines = refl
 
 pub all_keeping : (vs : List View) (t : Tracer) (lines others : List (List ℕ)) → keeping others (told_all vs (keeping lines t)) ≡ keeping others (told_all vs t)
-unfolding told_all keeping
+unfolding told_all
 all_keeping [] t lines others = refl
 all_keeping (v ∷ vs) t lines others =
     ap (λ (x : Tracer). keeping others (told_all vs x)) (told_keeping v t lines)
@@ -67,11 +67,9 @@ told-append [] ws t = refl
 told-append (v ∷ vs) ws t = told-append vs ws (told v t)
 
 pub passed-append : (vs ws : List View) (t : Tracer) → passed ws (passed vs t) ≡ passed (vs ++ ws) t
-unfolding keeping
 passed-append vs ws t = all_keeping ws (told_all vs t) t.kept t.kept ∙ ap (keeping t.kept) (sym (told-append vs ws t))
 
 pub shown-append : (vs ws : List View) (t : Tracer) → shown_of (vs ++ ws) t ≡ shown_of vs t ++ shown_of ws (passed vs t)
-unfolding keeping
 shown-append vs ws t =
     ap (λ (x : Tracer). x.kept) (told-append vs ws (handed_out t))
     ∙ kept-all ws (told_all vs (handed_out t))
