@@ -112,10 +112,12 @@ module _ (w : World) (note : Note) (acts : List DebugAct) (t : Tracer) (fresh : 
         pending = d.pending;
         began = pending_behind p.entries d.front d.pending d.began;
         whole = λ later.
-            let part = d.whole later in
-            (part.0, append_assoc p.entries d.front part.0 ∙ ap (λ es. p.entries ++ es) part.1
-            ∙ sym (goes_second (lines_story (plain_acts acts)) dumping (now h) (now k) p.entries d.front (d.pending ++ later) next p.said)
-            ∙ story_here (outcomes_of (p.entries ++ d.front) ++ (d.pending ++ later)));
+            let part = d.whole later in (
+              part.0,
+              append_assoc p.entries d.front part.0 ∙ ap (λ es. p.entries ++ es) part.1
+                  ∙ sym (goes_second (lines_story (plain_acts acts)) dumping (now h) (now k) p.entries d.front (d.pending ++ later) next p.said)
+                  ∙ story_here (outcomes_of (p.entries ++ d.front) ++ (d.pending ++ later)),
+            );
         ending = by_porter Died ∷ [];
         ends = refl;
         history =

@@ -108,10 +108,12 @@ lines_break act acts ending t u h k m a b c e p q =
       pending = q.pending;
       began = pending_behind p.entries q.front q.pending q.began;
       whole = λ later.
-          let part = q.whole later in
-          (part.0, append_assoc p.entries q.front part.0 ∙ ap (λ es. p.entries ++ es) part.1
-          ∙ sym (goes_second (act_part (plain_of act)) (lines_story (plain_acts acts)) (now h) (now k) p.entries q.front (q.pending ++ later) next p.said)
-          ∙ story_first act acts (outcomes_of (p.entries ++ q.front) ++ (q.pending ++ later)) (now h) e);
+          let part = q.whole later in (
+            part.0,
+            append_assoc p.entries q.front part.0 ∙ ap (λ es. p.entries ++ es) part.1
+                ∙ sym (goes_second (act_part (plain_of act)) (lines_story (plain_acts acts)) (now h) (now k) p.entries q.front (q.pending ++ later) next p.said)
+                ∙ story_first act acts (outcomes_of (p.entries ++ q.front) ++ (q.pending ++ later)) (now h) e,
+          );
       history = longer_as h m _ _ (sym (append_assoc p.entries q.front ending)) (longer_on h k m _ _ p.history q.history);
       told = text_of_all first ++ q.told;
       untold = q.untold;
@@ -269,6 +271,7 @@ length-debug [] os w t = length-pieces (halting w) w t
 length-debug (Plain act ∷ acts) os w t = by w.stopping where
   es : List Entry
   es = line_story act os w
+
   by : (b : Bool) → length (cond b (let none : List Piece = [] in none) (then_pieces (debug_pieces acts) os w t (line_story act os w))) ≡ length (cond b (let none : List Entry = [] in none) (both (line_story act) (lines_story (plain_acts acts)) os w))
   by true = refl
   by false =

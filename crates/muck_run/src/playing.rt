@@ -133,7 +133,12 @@ fn close<K: Sink>(alloc: Global, world: &mut World, d: u32, out: &mut K) -> Resu
 }
 
 /// What a line of the script asks for; only where it closes a connection that is leaving anything is written of it.
-pub fn act<K: Sink>(alloc: Global, world: &mut World, act: &Act, out: &mut K) -> Result<(), RunFault>
+pub fn act<K: Sink>(
+    alloc: Global,
+    world: &mut World,
+    act: &Act,
+    out: &mut K,
+) -> Result<(), RunFault>
     requires { (now world.old).dead ≡ false }
     ensures plays { PlaysOrBreaks (plain (acted act.now)) world.old world.new (K.written out.old) (K.written out.new) result }
     ensures quiet { Quietly world.old world.new }

@@ -127,9 +127,8 @@ pub fn muckd<
                 tale,
             }
         }
-        Some(Command::Run(_) | Command::Drill(_) | Command::Mirror(_) | Command::Debug(_)) | None => {
-            by_script(alloc, words, script, out, first, second)
-        }
+        Some(Command::Run(_) | Command::Drill(_) | Command::Mirror(_) | Command::Debug(_)) | None =>
+            { by_script(alloc, words, script, out, first, second) }
     }
 }
 

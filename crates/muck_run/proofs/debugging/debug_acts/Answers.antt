@@ -46,14 +46,17 @@ last_dump-why-requires-clause-mounted g c = λ tells.
 
 pub returns-in-Ok-play_seen-clause-ends : goal.returns-in-Ok-play_seen-clause-ends
 returns-in-Ok-play_seen-clause-ends g c =
-    inr ((
-    played _ _ _ _ _ _ _ _ _ _ _ c.in-Ok-begin.ensures.world _ _ _ _ _ _ (record { first_moment = refl; second_moment = refl; first_faults = refl; second_faults = refl }) _ _ _ _ _ (plain_plays _ _ _ _ _ _ c.in-Ok-play_seen.ensures.plays) c.in-Ok-play_seen.ensures.fine c.last_dump-why.ensures.why c.last_dump-why.ensures.plays c.last_dump-why.ensures.outcome c.last_dump-why.ensures.last
-    (noted_then _ _ _ c.in-Ok-play_seen.ensures.notes c.last_dump-why.ensures.notes)
-    (λ tells.
-    let start = rests_started 0 _ _ _ _ _ _ _ (bootable _ c.requires.fine) c.in-Ok-begin.ensures.properties (c.requires.mounted tells) _ _ c.new-store.ensures.log c.in-Ok-begin.ensures.world in
-    c.last_dump-why.ensures.kept _ tells ((c.in-Ok-play_seen.ensures.kept _ tells start).rests (λ e. cc)))
-    c.into_tale.ensures.entries c.into_tale.ensures.notes c.into_tale.ensures.lawful
-    ), wrote_by _ _ _ _ c.in-Ok.ensures _ c.in-Ok-begin.ensures.world _ _ _ _ _ _ _ c.last_dump-why.ensures.why c.in-Ok-play_seen.ensures.plays c.last_dump-why.ensures.plays c.into_tale.ensures.entries)
+    inr (
+      (
+          played _ _ _ _ _ _ _ _ _ _ _ c.in-Ok-begin.ensures.world _ _ _ _ _ _ (record { first_moment = refl; second_moment = refl; first_faults = refl; second_faults = refl }) _ _ _ _ _ (plain_plays _ _ _ _ _ _ c.in-Ok-play_seen.ensures.plays) c.in-Ok-play_seen.ensures.fine c.last_dump-why.ensures.why c.last_dump-why.ensures.plays c.last_dump-why.ensures.outcome c.last_dump-why.ensures.last
+          (noted_then _ _ _ c.in-Ok-play_seen.ensures.notes c.last_dump-why.ensures.notes)
+          (λ tells.
+          let start = rests_started 0 _ _ _ _ _ _ _ (bootable _ c.requires.fine) c.in-Ok-begin.ensures.properties (c.requires.mounted tells) _ _ c.new-store.ensures.log c.in-Ok-begin.ensures.world in
+          c.last_dump-why.ensures.kept _ tells ((c.in-Ok-play_seen.ensures.kept _ tells start).rests (λ e. cc)))
+          c.into_tale.ensures.entries c.into_tale.ensures.notes c.into_tale.ensures.lawful
+          ),
+      wrote_by _ _ _ _ c.in-Ok.ensures _ c.in-Ok-begin.ensures.world _ _ _ _ _ _ _ c.last_dump-why.ensures.why c.in-Ok-play_seen.ensures.plays c.last_dump-why.ensures.plays c.into_tale.ensures.entries,
+    )
 
 pub returns-in-Ok-play_seen-clause-why : goal.returns-in-Ok-play_seen-clause-why
 returns-in-Ok-play_seen-clause-why g c = dump_may _ _ c.last_dump-why.ensures.why
@@ -66,14 +69,17 @@ returns-in-Ok-play_seen-clause-cause g c = λ e. either_since _ _ _ _ _ _ c.in-O
 
 pub returns-in-Err-NoMemory-clause-ends : goal.returns-in-Err-NoMemory-clause-ends
 returns-in-Err-NoMemory-clause-ends g c =
-    inr ((
-    died _ _ _ _ _ _ _ _ _ _ _ c.in-Ok-begin.ensures.world _ _ _ _ _ _ (record { first_moment = refl; second_moment = refl; first_faults = refl; second_faults = refl }) _ _ _ (plain_breaks _ _ _ _ _ _ _ (broke_lines _ _ _ _ _ _ _ _ c.in-Err-NoMemory.field-0-is c.in-Err-NoMemory.ensures.plays)) (c.in-Err-NoMemory.ensures.memory (ap Err c.in-Err-NoMemory.field-0-is))
-    c.in-Err-NoMemory.ensures.notes
-    (λ tells.
-    let start = rests_started 0 _ _ _ _ _ _ _ (bootable _ c.requires.fine) c.in-Ok-begin.ensures.properties (c.requires.mounted tells) _ _ c.new-store.ensures.log c.in-Ok-begin.ensures.world in
-    (c.in-Err-NoMemory.ensures.kept _ tells start).safe)
-    c.into_tale-in-Err-NoMemory.ensures.entries c.into_tale-in-Err-NoMemory.ensures.notes c.into_tale-in-Err-NoMemory.ensures.lawful
-    ), wrote_died _ _ _ _ c.in-Ok.ensures _ c.in-Ok-begin.ensures.world _ _ _ _ (broke_lines _ _ _ _ _ _ _ _ c.in-Err-NoMemory.field-0-is c.in-Err-NoMemory.ensures.plays) c.into_tale-in-Err-NoMemory.ensures.entries)
+    inr (
+      (
+          died _ _ _ _ _ _ _ _ _ _ _ c.in-Ok-begin.ensures.world _ _ _ _ _ _ (record { first_moment = refl; second_moment = refl; first_faults = refl; second_faults = refl }) _ _ _ (plain_breaks _ _ _ _ _ _ _ (broke_lines _ _ _ _ _ _ _ _ c.in-Err-NoMemory.field-0-is c.in-Err-NoMemory.ensures.plays)) (c.in-Err-NoMemory.ensures.memory (ap Err c.in-Err-NoMemory.field-0-is))
+          c.in-Err-NoMemory.ensures.notes
+          (λ tells.
+          let start = rests_started 0 _ _ _ _ _ _ _ (bootable _ c.requires.fine) c.in-Ok-begin.ensures.properties (c.requires.mounted tells) _ _ c.new-store.ensures.log c.in-Ok-begin.ensures.world in
+          (c.in-Err-NoMemory.ensures.kept _ tells start).safe)
+          c.into_tale-in-Err-NoMemory.ensures.entries c.into_tale-in-Err-NoMemory.ensures.notes c.into_tale-in-Err-NoMemory.ensures.lawful
+          ),
+      wrote_died _ _ _ _ c.in-Ok.ensures _ c.in-Ok-begin.ensures.world _ _ _ _ (broke_lines _ _ _ _ _ _ _ _ c.in-Err-NoMemory.field-0-is c.in-Err-NoMemory.ensures.plays) c.into_tale-in-Err-NoMemory.ensures.entries,
+    )
 
 pub stop-requires : goal.stop-requires
 stop-requires g c = (broke_lines _ _ _ _ _ _ _ _ c.in-Err-WriteFault.field-0-is c.in-Err-WriteFault.ensures.plays).alive refl
@@ -92,15 +98,18 @@ last_dump-requires-clause-mounted g c = λ tells.
 
 pub returns-clause-ends : goal.returns-clause-ends
 returns-clause-ends g c =
-    inr ((
-    broke _ _ _ _ _ _ _ _ _ _ _ c.in-Ok-begin.ensures.world _ _ _ _ _ _ (record { first_moment = refl; second_moment = refl; first_faults = refl; second_faults = refl }) _ _ _ _ _ (plain_breaks _ _ _ _ _ _ _ (broke_lines _ _ _ _ _ _ _ _ c.in-Err-WriteFault.field-0-is c.in-Err-WriteFault.ensures.plays)) (c.in-Err-WriteFault.ensures.write (ap Err c.in-Err-WriteFault.field-0-is))
-    c.stop.ensures.halts c.last_dump.ensures.last
-    (noted_then _ _ _ c.in-Err-WriteFault.ensures.notes (noted_then _ _ _ (noted_quiet _ _ c.stop.ensures.quiet) c.last_dump.ensures.notes))
-    (λ tells.
-    let start = rests_started 0 _ _ _ _ _ _ _ (bootable _ c.requires.fine) c.in-Ok-begin.ensures.properties (c.requires.mounted tells) _ _ c.new-store.ensures.log c.in-Ok-begin.ensures.world in
-    (c.last_dump.ensures.kept _ tells (rests_quiet _ _ _ _ _ _ _ _ _ _ c.stop.ensures.quiet ((c.in-Err-WriteFault.ensures.kept _ tells start).rests (λ e. let is = c.in-Err-WriteFault.field-0-is in cc)))).safe)
-    c.into_tale-in-Err-WriteFault.ensures.entries c.into_tale-in-Err-WriteFault.ensures.notes c.into_tale-in-Err-WriteFault.ensures.lawful
-    ), wrote_front _ _ _ _ c.in-Ok.ensures _ c.in-Ok-begin.ensures.world _ _ _ _ _ _ (broke_lines _ _ _ _ _ _ _ _ c.in-Err-WriteFault.field-0-is c.in-Err-WriteFault.ensures.plays) c.stop.ensures.halts c.last_dump.ensures.last c.into_tale-in-Err-WriteFault.ensures.entries)
+    inr (
+      (
+          broke _ _ _ _ _ _ _ _ _ _ _ c.in-Ok-begin.ensures.world _ _ _ _ _ _ (record { first_moment = refl; second_moment = refl; first_faults = refl; second_faults = refl }) _ _ _ _ _ (plain_breaks _ _ _ _ _ _ _ (broke_lines _ _ _ _ _ _ _ _ c.in-Err-WriteFault.field-0-is c.in-Err-WriteFault.ensures.plays)) (c.in-Err-WriteFault.ensures.write (ap Err c.in-Err-WriteFault.field-0-is))
+          c.stop.ensures.halts c.last_dump.ensures.last
+          (noted_then _ _ _ c.in-Err-WriteFault.ensures.notes (noted_then _ _ _ (noted_quiet _ _ c.stop.ensures.quiet) c.last_dump.ensures.notes))
+          (λ tells.
+          let start = rests_started 0 _ _ _ _ _ _ _ (bootable _ c.requires.fine) c.in-Ok-begin.ensures.properties (c.requires.mounted tells) _ _ c.new-store.ensures.log c.in-Ok-begin.ensures.world in
+          (c.last_dump.ensures.kept _ tells (rests_quiet _ _ _ _ _ _ _ _ _ _ c.stop.ensures.quiet ((c.in-Err-WriteFault.ensures.kept _ tells start).rests (λ e. let is = c.in-Err-WriteFault.field-0-is in cc)))).safe)
+          c.into_tale-in-Err-WriteFault.ensures.entries c.into_tale-in-Err-WriteFault.ensures.notes c.into_tale-in-Err-WriteFault.ensures.lawful
+          ),
+      wrote_front _ _ _ _ c.in-Ok.ensures _ c.in-Ok-begin.ensures.world _ _ _ _ _ _ (broke_lines _ _ _ _ _ _ _ _ c.in-Err-WriteFault.field-0-is c.in-Err-WriteFault.ensures.plays) c.stop.ensures.halts c.last_dump.ensures.last c.into_tale-in-Err-WriteFault.ensures.entries,
+    )
 
 pub play_seen-requires-clause-ready : goal.play_seen-requires-clause-ready
 play_seen-requires-clause-ready g c = ready_new _ c.in-Ok.ensures
