@@ -259,30 +259,10 @@ pub(crate) fn makes<W: Wait, D: Disk, R: Rest>(
 {
     let number = pending.number;
     match write(store, first, second, pending) {
-        Ok(()) => ends(
-            rt,
-            turn,
-            seat,
-            store,
-            first,
-            second,
-            rest,
-            number,
-            true,
-        ),
+        Ok(()) => ends(rt, turn, seat, store, first, second, rest, number, true),
         Err(fault) => match fault {
             LogFault::NoMemory => Err(dies(rt, turn, seat, first, second, rest)),
-            _ => fails(
-                rt,
-                alloc,
-                turn,
-                seat,
-                store,
-                first,
-                second,
-                rest,
-                number,
-            ),
+            _ => fails(rt, alloc, turn, seat, store, first, second, rest, number),
         },
     }
 }

@@ -1,7 +1,7 @@
 -- A dump that is made at once.
 use Rattle.std.proofs.Common.{◌≡◌, ℕ, Bool, true, false, ◌&&◌, List, refl, sym, ap, ◌∙◌, subst, Option, Some, None, Ok, Err}
 use Rattle.std.specs.Prelude.{is_none, ◌||◌, ◌==◌, IsSome}
-use Rattle.muck_model.specs.declared.event.Event.TheVariants.{Cut, Stored, DumpFailed, Died}
+use Rattle.muck_model.specs.declared.event.Event.TheVariants.{Cut, Died}
 use Rattle.muck_model.specs.declared.note.Note.{Note}
 use Rattle.muck_log.specs.Store.{LogState, IsMounted}
 use Rattle.muck_log.specs.declared.fault.LogFault.{LogFault}
@@ -11,7 +11,7 @@ use Rattle.spec_events.specs.Steps.{makes_dumps, may_cut, is_dump_due}
 use Rattle.spec_events.specs.Histories.{History, entered, noted}
 use Rattle.spec_dumps.specs.inner.Holding.{Keeps}
 use Rattle.muck_dumping.specs.declared.parts.Pending.{Pending}
-use Rattle.muck_dumping.specs.inner.Dumps.{by, Dies, HasDumped, Dumps}
+use Rattle.muck_dumping.specs.inner.Dumps.{by, Dies, Dumps}
 use Rattle.muck_dumping.specs.inner.Between.{IsPending, IsWritten, EndsAs}
 use Rattle.muck_dumping.proofs.Writing.{unwritten}
 

@@ -1,9 +1,16 @@
 -- A dump begins, and is pending until it is written.
 use Rattle.std.proofs.Common.{◌≡◌, ℕ, suc, List, [], ◌∷◌, length, refl, sym, ap, ◌∙◌, subst, arith, Option, Some, None, Result, Ok, Err, IfOk}
-use Rattle.std.specs.Prelude.{slice_get}
+use Rattle.std.specs.Prelude.{slice_get, All}
 use Rattle.muck_model.specs.declared.event.Event.TheVariants.{Cut, Died}
 use Rattle.muck_model.specs.declared.note.Note.{Note}
+use Rattle.muck_codec.specs.declared.stored.Batch.{Batch}
 use Rattle.muck_codec.specs.declared.stored.Stored.{Stored}
+use Rattle.muck_codec.specs.inner.Stored.{IsStored}
+use Rattle.muck_db.specs.inner.Limits.{IsWithinLimits}
+use Rattle.muck_store.specs.inner.Changes.{LeavesOut}
+use Rattle.muck_store.specs.Forms.{persist}
+use Rattle.spec_admin.specs.Parameters.{IsInRange}
+use Rattle.spec_live.specs.Consistent.{IsConsistent}
 use Rattle.muck_log.specs.File.{after_number}
 use Rattle.muck_log.specs.Store.{LogState, IsMounted}
 use Rattle.spec_events.specs.World.{World}
@@ -18,6 +25,21 @@ use Rattle.muck_dumping.specs.inner.Dumps.{note_of, by, HasRisen}
 use Rattle.muck_dumping.specs.inner.Between.{IsReady, IsBatchOfWorld, base_in, IsPending}
 use Rattle.muck_dumping.proofs.Steps.{at_note}
 use Rattle.muck_dumping.proofs.Marks.{batch_at_cut}
+
+-- what a Cut hands out is the batch of the world, where it says all of it
+pub batch_cut : (base taken : List Stored) (w : World) (p : Pending) (batch : Batch) → p.batch ≡ batch → taken ≡ base → p.size ≡ length w.live.objects → LeavesOut taken (persist w.live.objects) batch.records → All IsStored batch.records → batch.tune ≡ w.live.board.tune →
+    IsConsistent w.live.objects → IsWithinLimits w.live.objects → IsInRange w.live.board.tune → IsBatchOfWorld base w p
+batch_cut base taken w p batch is over size records storable tuning consistent limits tuned = record {
+  records =
+      subst (λ (b : Batch). LeavesOut base (persist w.live.objects) b.records) (sym is)
+      (subst (λ (os : List Stored). LeavesOut os (persist w.live.objects) batch.records) over records);
+  storable = subst (λ (b : Batch). All IsStored b.records) (sym is) storable;
+  tuning = ap (λ (b : Batch). b.tune) is ∙ tuning;
+  size = size;
+  consistent = consistent;
+  limits = limits;
+  tuned = tuned;
+}
 
 -- what is said of a batch behind a note
 pub batch_noted : (base : List Stored) (h k : History) (note : Note) (p : Pending) → k ≡ noted h note → IsBatchOfWorld base (now k) p → IsBatchOfWorld base (now h) p

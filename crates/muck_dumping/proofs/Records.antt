@@ -3,7 +3,7 @@ use Rattle.std.proofs.Common.{◌≡◌, ℕ, suc, ◌<◌, ◌^◌, List, [], �
 use Rattle.muck_codec.specs.declared.stored.Stored.{Stored}
 use Rattle.muck_store.proofs.Changing.{left_fewer}
 use Rattle.muck_store.specs.inner.Changes.{LeavesOut}
-use Rattle.muck_store.specs.Forms.{stored_of, stored_from, persist}
+use Rattle.muck_store.specs.Forms.{stored_from, persist}
 use Rattle.spec_live.specs.Objects.{Entry}
 use Rattle.spec_live.specs.Consistent.{IsConsistent}
 

@@ -37,11 +37,11 @@ pub returns-in-Ok-end-2-clause-knows : goal.returns-in-Ok-end-2-clause-knows
 returns-in-Ok-end-2-clause-knows g c =
     knows_failed c.write.new.store c.end-in_default-fault.new.world c.in-Ok.pending.number c.in-Err.ensures.none (c.in-Err.ensures.number ∙ sym c.in-Ok.ensures.number) (c.in-Ok-end-2.ensures.last refl)
 
-pub returns-in-Ok-write-clause-happened : goal.returns-in-Ok-write-clause-happened
-returns-in-Ok-write-clause-happened g c = dies_ending c.args.party _ _ _ _ _ _ c.in-Ok.ensures.step c.in-Err-end.ensures.died
+pub returns-in-Err-end-clause-happened : goal.returns-in-Err-end-clause-happened
+returns-in-Err-end-clause-happened g c = dies_ending c.args.party _ _ _ _ _ _ c.in-Ok.ensures.step c.in-Err-end.ensures.died
 
-pub returns-in-Ok-write-clause-kept : goal.returns-in-Ok-write-clause-kept
-returns-in-Ok-write-clause-kept g c = λ mounted tells v.
+pub returns-in-Err-end-clause-kept : goal.returns-in-Err-end-clause-kept
+returns-in-Err-end-clause-kept g c = λ mounted tells v.
     dumps_dead g.D.Disk.seen g.D.Disk.moment g.D.Disk.images g.D.Disk.faults _ _ _ mounted _ _ (c.in-Err-end.ensures.safe mounted c.write.new.store.log (Ok tt) tells (c.in-Ok-write.ensures.written mounted c.begin.new.world tells (c.in-Ok.ensures.pending mounted tells (ready_mounted g.D.Disk.seen g.D.Disk.moment g.D.Disk.images g.D.Disk.faults mounted c.args.store.now.log c.args.first.now c.args.second.now c.args.world.now c.requires.some v))))
 
 pub returns-in-NoMemory-clause-happened : goal.returns-in-NoMemory-clause-happened
@@ -63,9 +63,16 @@ returns-in-Ok-end-2-clause-kept g c = λ mounted tells v.
     (λ is. some_not_none c.args.store.now.log c.requires.some (c.in-Err.ensures.stale mounted c.begin.new.world tells pend (ap Err is))) w
     (fault_ends c.in-Err.fault c.in_default-fault.not-NoMemory (never_damaged g.D.Disk.seen g.D.Disk.moment g.D.Disk.images g.D.Disk.faults c.write.new.store.log c.write.new.first c.write.new.second mounted c.begin.new.world c.in-Err.fault w))
 
-pub returns-clause-happened : goal.returns-clause-happened
-returns-clause-happened g c = dies_ending c.args.party _ _ _ _ _ _ c.in-Ok.ensures.step c.in-Err-end-2.ensures.died
-
-pub returns-clause-kept : goal.returns-clause-kept
-returns-clause-kept g c = λ mounted tells v.
-    dumps_dead g.D.Disk.seen g.D.Disk.moment g.D.Disk.images g.D.Disk.faults _ _ _ mounted _ _ (c.in-Err-end-2.ensures.safe mounted c.write.new.store.log (Err c.in-Err.fault) tells (c.in-Err.ensures.written mounted c.begin.new.world tells (c.in-Ok.ensures.pending mounted tells (ready_mounted g.D.Disk.seen g.D.Disk.moment g.D.Disk.images g.D.Disk.faults mounted c.args.store.now.log c.args.first.now c.args.second.now c.args.world.now c.requires.some v))))
+pub returns-in-Err-end-2 : goal.returns-in-Err-end-2
+returns-in-Err-end-2 g c = record {
+  happened = dies_ending c.args.party _ _ _ _ _ _ c.in-Ok.ensures.step c.in-Err-end-2.ensures.died;
+  knows = tt;
+  kept = λ mounted tells v.
+      dumps_dead g.D.Disk.seen g.D.Disk.moment g.D.Disk.images g.D.Disk.faults _ _ _ mounted _ _ (c.in-Err-end-2.ensures.safe mounted c.write.new.store.log (Err c.in-Err.fault) tells (c.in-Err.ensures.written mounted c.begin.new.world tells (c.in-Ok.ensures.pending mounted tells (ready_mounted g.D.Disk.seen g.D.Disk.moment g.D.Disk.images g.D.Disk.faults mounted c.args.store.now.log c.args.first.now c.args.second.now c.args.world.now c.requires.some v))));
+  first_attached = c.write.ensures.first_attached;
+  second_attached = c.write.ensures.second_attached;
+  first_later = c.write.ensures.first_later;
+  second_later = c.write.ensures.second_later;
+  cause = tt;
+  apart = tt;
+}
