@@ -28,7 +28,7 @@ use Rattle.muck_run.specs.inner.Ends.{EndsPlay, MayEndDump, IsScriptWhy}
 use Rattle.muck_run.specs.inner.Plays.{Plays, Breaks, ending_of}
 use Rattle.muck_run.specs.inner.Seen.{PlaysLines, BreaksLines, IsDebugWhy}
 use Rattle.muck_run.proofs.Parts.{appends_as, outcomes-append, goes_second, pending_behind}
-use Rattle.muck_run.proofs.Watching.{length-debug}
+use Rattle.muck_run.proofs.Onward.{length-debug}
 use Rattle.muck_run.proofs.Whole.{begun, begun_now, played_whole}
 
 -- what happened, apart from what was written of it

@@ -17,6 +17,6 @@ pub mod Untouched
 pub mod Called
 pub mod Drilled
 pub mod Seeing
-pub mod Watching
+pub mod Onward
 pub mod Scripts
 pub mod Debugged

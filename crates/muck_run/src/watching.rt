@@ -1,5 +1,5 @@
 // A run of a script of `debug`: what such a run of `run` does, with a tracer that is told of each unit, and whose lines are written.
-ghost use Rattle.std.specs.Prelude.{◌≡◌, ◌≤◌, OnOk, IfSome, IsErrOf, OnErr, length, true, false, Option, None, Err, List, ℕ};
+ghost use Rattle.std.specs.Prelude.{◌≡◌, ◌≤◌, OnOk, IfSome, IsErrOf, OnErr, length, option_copied, true, false, Option, None, Err, List, ℕ};
 ghost use Rattle.muck_io.specs.Faults.{Rose};
 ghost use Rattle.spec_events.specs.Histories.{now};
 ghost use Rattle.muck_script.specs.Story.{acted, turns, turns_most, plain, both, line_story};

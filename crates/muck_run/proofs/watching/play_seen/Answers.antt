@@ -5,7 +5,7 @@ use Rattle.muck_dumping.proofs.Knowing.{knows_quiet}
 use Rattle.muck_run.proofs.Lining.{held_resting, held_quiet}
 use Rattle.muck_run.proofs.Opening.{opens_more}
 use Rattle.muck_run.proofs.Noted.{noted_same, noted_one, noted_then}
-use Rattle.muck_run.proofs.Watching.{lines_begin, lines_stop, lines_go_on, lines_halt, lines_broke}
+use Rattle.muck_run.proofs.Onward.{lines_begin, lines_stop, lines_go_on, lines_halt, lines_broke}
 use Rattle.muck_run.proofs.watching.play_seen.Goals as goal
 
 pub loop-act-init : goal.loop-act-init

@@ -4,7 +4,7 @@ use Rattle.spec_events.specs.Histories.{now}
 use Rattle.muck_dumping.specs.inner.Between.{Knows}
 use Rattle.muck_run.specs.inner.Dumps.{IsNotedOn}
 use Rattle.muck_run.specs.inner.Opens.{Opens}
-use Rattle.muck_run.proofs.Watching.{TowardsLines}
+use Rattle.muck_run.proofs.Onward.{TowardsLines}
 use Rattle.muck_run.proofs.watching.play_seen.Given as goal
 
 abbrev pub invariant-loop-act : goal.invariant-loop-act
