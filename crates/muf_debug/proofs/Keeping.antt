@@ -1,0 +1,26 @@
+-- What a tracer keeps.
+use Rattle.std.proofs.Common.{◌≡◌, ◌⊎◌, inl, inr, Bool, true, false, List, [], ◌∷◌, ◌∙◌, ap}
+use Rattle.muf_debug.specs.declared.view.View.{View}
+use Rattle.muf_debug.specs.Watching.{SeesAll}
+use Rattle.muf_debug.specs.Shown.{Tracer, told, told_all, TellsSo, KeepsShown}
+
+opposed : (b : Bool) → b ≡ true → b ≡ false → ⊥
+opposed b e f = cc
+
+still_refused : (t m : Tracer) (v : View) → t.refused ≡ true → TellsSo t v m → m.refused ≡ true
+still_refused t m v so (inl e) = e
+still_refused t m v so (inr e) = absurd (opposed t.refused so e.0)
+
+stays_refused : (vs : List View) (t u : Tracer) → t.refused ≡ true → SeesAll TellsSo vs t u → u.refused ≡ true
+stays_refused [] t u so all = ap (λ (x : Tracer). x.refused) all ∙ so
+stays_refused (v ∷ vs) t u so all = stays_refused vs all.0 u (still_refused t all.0 v so all.1) all.2
+
+pub keeps_shown : KeepsShown
+unfolding told_all
+keeps_shown [] t u all = inr all
+keeps_shown (v ∷ vs) t u all = by all.1 (keeps_shown vs all.0 u all.2)
+  where
+    by : TellsSo t v all.0 → (u.refused ≡ true) ⊎ (u ≡ told_all vs all.0) → (u.refused ≡ true) ⊎ (u ≡ told_all vs (told v t))
+    by (inl e) more = inl (stays_refused vs all.0 u e all.2)
+    by (inr e) (inl f) = inl f
+    by (inr e) (inr f) = inr (f ∙ ap (told_all vs) e.1)
