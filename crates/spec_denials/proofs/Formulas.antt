@@ -1,24 +1,24 @@
 -- A formula that is denied something is so in the world that it leaves. What holds of each fault of a question and of a deed, in the world in which it comes, holds of the
 -- fault of a formula, in the world after it; whatever else may go wrong is no denial.
-use Rattle.std.proofs.Common.{◌≡◌, ℕ, zero, suc, ◌-◌, Bool, true, false, cond, List, [], ◌∷◌, ◌++◌, take, Option, Some, None, refl, subst}
-use Rattle.std.specs.Prelude.{not, Result, Ok, Err, ℤ, int_lt, pos, codes, nat_le, length, ◌==◌}
+use Rattle.std.proofs.Common.{◌≡◌, ℕ, zero, suc, Bool, true, false, cond, List, [], ◌∷◌, ◌++◌, take, Option, Some, None, refl, subst}
+use Rattle.std.specs.Prelude.{not, Result, Ok, Err, ℤ, int_lt, pos, codes, length, ◌==◌}
 use Rattle.std.specs.Fmt.{signed_decimal}
 use Rattle.std.specs.FinMap.{get}
-use Rattle.std.specs.Option.{option_map, option_map_or}
+use Rattle.std.specs.Option.{option_map_or}
 use Rattle.muck_model.specs.declared.dbref.Dbref.{Dbref}
 use Rattle.muck_model.specs.declared.dbref.Denial.{Denial}
 use Rattle.muck_prop.specs.declared.value.PropValue.TheVariants.{Text as TextValue}
 use Rattle.spec_live.specs.declared.object.Object.{Object}
-use Rattle.spec_live.specs.Objects.{Entry, object_at}
+use Rattle.spec_live.specs.Objects.{object_at}
 use Rattle.spec_live.specs.Seen.{places_of, listed_in}
-use Rattle.spec_live.specs.Lives.{Live, Change, tell_player, tell_others}
+use Rattle.spec_live.specs.Lives.{Live, Change}
 use Rattle.spec_rights.specs.declared.act.Actor.{Actor}
 use Rattle.spec_rights.specs.declared.act.Act.{Act}
 use Rattle.spec_rights.specs.declared.act.Act.TheVariants.{Read, Write}
 use Rattle.spec_rights.specs.Verdict.{verdict}
 use Rattle.spec_rights.specs.Changing.{stored, unstored}
 use Rattle.mpi.specs.declared.fault.MpiFault.{MpiFault}
-use Rattle.mpi.specs.declared.fault.MpiFault.TheVariants.{Unclosed, UnknownFunction, BadCount, BadValue, TooManyCommands, TooLong, Denied}
+use Rattle.mpi.specs.declared.fault.MpiFault.TheVariants.{Unclosed, BadCount, BadValue, TooLong, Denied}
 use Rattle.mpi.specs.declared.functions.Function.{Function}
 use Rattle.mpi.specs.declared.functions.Function.TheVariants as function
 use Rattle.mpi.specs.declared.functions.Group.{Group}
@@ -44,7 +44,7 @@ use Rattle.mpi.specs.Values.{nth, alike, is_true, truth, number_of, text_of, ite
 use Rattle.mpi.specs.Variables.{Variables}
 use Rattle.mpi.specs.Meaning.{Scene, scene_of, is_within, next_number, texts_of, with_count, prepared, behind_name, variable_in, branch_at, before_body, from_old, variable_row, done, ask_of, deed_of, doing, drawn, diced, acted_by, each_value, chosen, until, turns_while, while_true, text_with, turns_for, each_item, bodies, in_scope, lazily, performed, called_ahead, called_as, called, spelled, entered, meaning, nesting_most, evaluated}
 use Rattle.spec_mpi.specs.Stages.{Stage}
-use Rattle.spec_mpi.specs.Telling.{Answer, path_in, at_path, by_leave, fault, value_of, text_at, first_of, first_text, below_at, of_object, told_by, tells_in, signs_in}
+use Rattle.spec_mpi.specs.Telling.{Answer, path_in, at_path, by_leave, fault, text_at, first_of, first_text, below_at, of_object, told_by, tells_in, signs_in}
 use Rattle.spec_mpi.specs.Doing.{Done, refused, changed, written, does_in, powers}
 use Rattle.spec_mpi.specs.Messages.{heard}
 use Rattle.spec_mpi.proofs.Leave.{same_actor}
@@ -357,9 +357,6 @@ module _ (s : Stage) where
   tells_ends : (q : Ask) → Ends Noted (tells_in q s) s
   unfolding tells_in
   tells_ends q = told_ends q
-
-  DoneNoted : Done → Type 0
-  DoneNoted d = DoneIs Noted d.0 d.1
 
   write_ends : (act : Act) → IsNote act → (f : Change) → DoneIs Noted (by_leave (refused s) s.live.objects s.actor act (changed f s)).0 (by_leave (refused s) s.live.objects s.actor act (changed f s)).1
   write_ends act is f = at (verdict s.live.objects s.actor act) refl
