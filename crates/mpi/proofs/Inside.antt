@@ -1,5 +1,5 @@
 -- Bytes that a text may have, and how many it may have.
-use Rattle.std.proofs.Common.{◌≡◌, ℕ, ◌<◌, ◌≤◌, ◌+◌, ◌^◌, zero, suc, Bool, true, false, cond, List, [], ◌∷◌, ◌++◌, length, map, take, drop, get_or, Some, None, refl, inl, inr, arith}
+use Rattle.std.proofs.Common.{◌≡◌, ℕ, ◌<◌, ◌≤◌, ◌+◌, ◌^◌, zero, suc, Bool, true, false, cond, List, [], ◌∷◌, ◌++◌, length, map, take, drop, Some, None, refl, inl, inr, arith}
 use Rattle.std.specs.Prelude.{not, ◌&&◌, decimal, ℤ, pos, negsuc}
 use Rattle.std.specs.Fmt.{signed_decimal}
 use Rattle.std.specs.Int.Signed.{mag}
@@ -117,12 +117,6 @@ inside_number (negsuc n) h = inside-decimal (suc n) (omega (arith, h))
 
 pub inside_byte : (b : ℕ) → is_outside b ≡ false → Inside (b ∷ [])
 inside_byte b h = rw h refl
-
--- each byte of a text
-pub inside_at : (xs : List ℕ) (i : ℕ) → Inside xs → i < length xs → Inside (get_or xs i 0 ∷ [])
-inside_at [] i h less = absurd (omega (arith, less))
-inside_at (x ∷ xs) zero h less = all_cons is_inside x [] (all_head is_inside x xs h) refl
-inside_at (x ∷ xs) (suc i) h less = inside_at xs i (all_tail is_inside x xs h) (omega (arith, less))
 
 pub inside_more : (xs ys : List ℕ) → Inside xs → Inside ys → Inside (xs ++ ys)
 inside_more xs ys h k = all_append is_inside xs ys h k
