@@ -10,7 +10,7 @@ use Rattle.std.specs.List.{list_all, position_or_len, prefix_len}
 use Rattle.std.proofs.lemmas.Bool.{le-ltb, lt-ltb, cases_lt, false≢true}
 use Rattle.std.proofs.lemmas.List.{length-take, length-drop}
 use Rattle.std.proofs.lemmas.List.Sums.{prefix_len-le-length}
-use Rattle.muck_model.specs.Bytes.{is_outside, fault_of, text_fault}
+use Rattle.muck_model.specs.Bytes.{is_outside, fault_of, text_fault, text_most}
 use Rattle.mpi.specs.Made.{Inside}
 
 abbrev pub is_inside : ℕ → Bool
@@ -60,10 +60,10 @@ all_drop p (suc n) (x ∷ xs) h =
     ] h
 
 -- enough bytes and none too many are a text
-pub made_is_text : (xs : List ℕ) → Inside xs → length xs ≤ 4096 → text_fault xs ≡ None
+pub made_is_text : (xs : List ℕ) → Inside xs → length xs ≤ text_most → text_fault xs ≡ None
 made_is_text xs h le =
     let e = all_prefix is_inside xs h in
-    rw (le-ltb (position_or_len is_outside xs) (length xs) (omega (arith, e)), le-ltb 4096 (length xs) le) refl
+    rw (le-ltb (position_or_len is_outside xs) (length xs) (omega (arith, e)), le-ltb text_most (length xs) le) refl
 
 -- a text has such bytes, and not too many
 pub text_inside : (xs : List ℕ) → text_fault xs ≡ None → Inside xs
@@ -73,13 +73,13 @@ text_inside xs h =
       | inr past ↦ prefix_all is_inside xs (omega (arith, past, prefix_len-le-length is_inside xs))
     ]
 
-pub text_short : (xs : List ℕ) → text_fault xs ≡ None → length xs ≤ 4096
+pub text_short : (xs : List ℕ) → text_fault xs ≡ None → length xs ≤ text_most
 text_short xs h =
-    elim (cases_lt 4096 (length xs)) [
+    elim (cases_lt text_most (length xs)) [
       | inl long ↦ absurd (
           let e = all_prefix is_inside xs (text_inside xs h) in
           let none : fault_of None (length xs) ≡ None = rw (le-ltb (position_or_len is_outside xs) (length xs) (omega (arith, e))) at h in
-          let some : Some 4096 ≡ None = rw (lt-ltb 4096 (length xs) long) at none in cc)
+          let some : Some text_most ≡ None = rw (lt-ltb text_most (length xs) long) at none in cc)
       | inr le ↦ le
     ]
 

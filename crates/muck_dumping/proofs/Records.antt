@@ -1,6 +1,7 @@
 -- The records of a world within its limits can be handed to the log, without what it keeps.
 use Rattle.std.proofs.Common.{◌≡◌, ℕ, suc, ◌<◌, ◌≤◌, ◌^◌, List, [], ◌∷◌, length, refl, ap, arith}
 use Rattle.std.proofs.lemmas.List.Elements.{All-nil, All-cons}
+use Rattle.muck_model.specs.Bytes.{lines_most}
 use Rattle.muck_codec.specs.declared.stored.Stored.{Stored}
 use Rattle.muck_codec.specs.Batches.{HasFewLines}
 use Rattle.muck_db.specs.inner.Limits.{IsWithinLimits}
@@ -12,9 +13,9 @@ use Rattle.spec_live.specs.Consistent.{IsConsistent}
 
 lines_from : (es : List Entry) (k : ℕ) (rest : List Entry) → IsWithinLimits rest → HasFewLines (stored_from es k rest)
 unfolding stored_from stored_of object_in
-lines_from es k [] limits = All-nil (λ (o : Stored). length o.lines ≤ 4096)
+lines_from es k [] limits = All-nil (λ (o : Stored). length o.lines ≤ lines_most)
 lines_from es k (e ∷ rest) limits =
-    All-cons (λ (o : Stored). length o.lines ≤ 4096) (stored_of es k e) (stored_from es (suc k) rest) (limits 0 e.object refl).lines (lines_from es (suc k) rest (λ j o is. limits (suc j) o is))
+    All-cons (λ (o : Stored). length o.lines ≤ lines_most) (stored_of es k e) (stored_from es (suc k) rest) (limits 0 e.object refl).lines (lines_from es (suc k) rest (λ j o is. limits (suc j) o is))
 
 length_from : (es : List Entry) (k : ℕ) (rest : List Entry) → length (stored_from es k rest) ≡ length rest
 unfolding stored_from
@@ -23,7 +24,7 @@ length_from es k (e ∷ rest) = ap suc (length_from es (suc k) rest)
 
 pub batch_lines : {base records : List Stored} (es : List Entry) → LeavesOut base (persist es) records → IsWithinLimits es → HasFewLines records
 unfolding persist
-batch_lines es left limits = left_all (λ (o : Stored). length o.lines ≤ 4096) left (lines_from es 0 es limits)
+batch_lines es left limits = left_all (λ (o : Stored). length o.lines ≤ lines_most) left (lines_from es 0 es limits)
 
 pub batch_few : {base records : List Stored} (es : List Entry) → LeavesOut base (persist es) records → IsConsistent es → length records < 2 ^ 32
 unfolding persist
