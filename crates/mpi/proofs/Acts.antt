@@ -1,7 +1,6 @@
 -- What functions make of their arguments, once these are evaluated.
-use Rattle.std.proofs.Common.{◌≡◌, ℕ, true, false, cond, List, [], ◌∷◌, refl, sym, subst, ap, ◌∙◌}
-use Rattle.std.specs.Prelude.{Result, Ok, Err, Option, Some, None, ℤ, pos, int_lt}
-use Rattle.std.specs.Fmt.{signed_decimal}
+use Rattle.std.proofs.Common.{◌≡◌, ℕ, List, refl, sym, subst}
+use Rattle.std.specs.Prelude.{Result, Ok, Err, Option, Some, None}
 use Rattle.mpi.specs.declared.fault.MpiFault.{MpiFault}
 use Rattle.mpi.specs.declared.fault.MpiFault.TheVariants.{Unclosed, UnknownFunction, BadCount, BadValue, TooManyCommands, TooLong, Denied, NoMemory}
 use Rattle.mpi.specs.declared.functions.Function.{Function}
@@ -11,9 +10,9 @@ use Rattle.mpi.specs.declared.host.Deed.{Deed}
 use Rattle.mpi.specs.declared.mind.Mind.{Mind}
 use Rattle.mpi.specs.Hosting.{Means, Meant}
 use Rattle.mpi.specs.Made.{found_text}
-use Rattle.mpi.specs.Thoughts.{State, Thinks, followed, found, found_or_bad, answers, sized, gives}
-use Rattle.mpi.specs.Values.{text_of, rolled}
-use Rattle.mpi.specs.Meaning.{Scene, acted_by, doing, done, diced, drawn, deed_of, ask_of, given_by}
+use Rattle.mpi.specs.Thoughts.{State, Thinks, followed, found, found_or_bad, answers, sized}
+use Rattle.mpi.specs.Values.{text_of}
+use Rattle.mpi.specs.Meaning.{Scene, acted_by, doing, done, deed_of, ask_of, given_by}
 use Rattle.mpi.proofs.Thinking.{then_ok, then_err, known, comes_by}
 
 module _ {S : Type 0} (scene : Scene S) where
@@ -85,16 +84,3 @@ module _ {S : Type 0} (scene : Scene S) where
   unfolding acted_by
   text_made f values s r h =
       comes_by (followed (found (text_of f values)) sized s) (found_text (text_of f values), s) s r (text_is (text_of f values) s) (known (found_text (text_of f values)) r s h)
-
-  -- no number is drawn below 1
-  pub nothing_drawn : (n : ℤ) (s : State S) (text : List ℕ) → int_lt n (pos 1) ≡ true → text ≡ 48 ∷ [] → Thinks (diced scene n) s s (Ok text)
-  unfolding diced
-  nothing_drawn n s text low e = ap (λ b. cond b (gives (48 ∷ [])) (drawn scene n) s) low ∙ ap (λ t. (Ok t, s)) (sym e)
-
-  -- a number that is drawn
-  pub number_drawn : (n : ℤ) (m : Mind) (w v : S) (word : ℕ) (text : List ℕ) → int_lt n (pos 1) ≡ false → scene.powers.draws w ≡ (word, v) → text ≡ signed_decimal (rolled n word)
-      → Thinks (diced scene n) (m, w) (m, v) (Ok text)
-  unfolding diced
-  number_drawn n m w v word text high h e =
-      let drawn_is : drawn scene n (m, w) ≡ (Ok (signed_decimal (rolled n word)), (m, v)) = λ i. (Ok (signed_decimal (rolled n (h i).0)), (m, (h i).1)) in
-      ap (λ b. cond b (gives (48 ∷ [])) (drawn scene n) (m, w)) high ∙ drawn_is ∙ ap (λ t. (Ok t, (m, v))) (sym e)

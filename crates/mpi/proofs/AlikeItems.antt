@@ -24,7 +24,7 @@ use Rattle.mpi.specs.Thoughts.{State, Thought, Thinks, fails, keeps, with_value,
 use Rattle.mpi.specs.Values.{nth, is_true, items}
 use Rattle.mpi.specs.Variables.{Variables, name_cmp, given_back}
 use Rattle.mpi.specs.inner.Alike.{said, alike_items, answer_alike, transposed}
-use Rattle.muck_model.specs.Bytes.{text_fault}
+use Rattle.muck_model.specs.Bytes.{text_fault, text_most}
 use Rattle.mpi.specs.inner.Written.{is_plain_byte, is_plain}
 use Rattle.mpi.proofs.Inside.{text_short, all_head, all_tail}
 use Rattle.mpi.proofs.Items.{items_some}
@@ -76,10 +76,10 @@ said_up_to zero text said_text e = let f : Some [] ≡ Some said_text = e in let
 said_up_to (suc n) [] said_text e = let f : Some [] ≡ Some said_text = e in let is : [] ≡ said_text = cc in omega (arith, ap length is)
 said_up_to (suc n) (b ∷ more) said_text e = first_short n (first_piece b more).0 (first_piece b more).1 said_text (λ rest f. said_up_to n (first_piece b more).1 rest f) e
 
-said_short : (text said_text : List ℕ) → text_fault text ≡ None → said (pieces text) ≡ Some said_text → length said_text ≤ 4096
+said_short : (text said_text : List ℕ) → text_fault text ≡ None → said (pieces text) ≡ Some said_text → length said_text ≤ text_most
 said_short text said_text short e = omega (arith, text_short text short, said_up_to (length text) text said_text e)
 
-byte_within : (out : List ℕ) (b : ℕ) (o : Option (List ℕ)) (text : List ℕ) → option_map (λ xs. b ∷ xs) o ≡ Some text → length (out ++ text) ≤ 4096 → length (out ++ b ∷ []) ≤ 4096
+byte_within : (out : List ℕ) (b : ℕ) (o : Option (List ℕ)) (text : List ℕ) → option_map (λ xs. b ∷ xs) o ≡ Some text → length (out ++ text) ≤ text_most → length (out ++ b ∷ []) ≤ text_most
 byte_within out b None text e le = absurd (let f : None ≡ Some text = e in cc)
 byte_within out b (Some rest) text e le =
     let f : Some (b ∷ rest) ≡ Some text = e in
@@ -93,17 +93,17 @@ module _ {S : Type 0} (go : List ℕ → Thought S (List ℕ)) where
   fits out value ps s short = ap (λ t. cond t (fails TooLong) (spelled go (out ++ value) ps) s) short
 
   means_byte : (out : List ℕ) (b : ℕ) (more : List Piece) (o : Option (List ℕ)) (text : List ℕ) (s : State S)
-      → ((rest : List ℕ) → o ≡ Some rest → length ((out ++ b ∷ []) ++ rest) ≤ 4096 → spelled go (out ++ b ∷ []) more s ≡ (Ok ((out ++ b ∷ []) ++ rest), s))
-      → option_map (λ xs. b ∷ xs) o ≡ Some text → length (out ++ text) ≤ 4096 → spelled go (out ++ b ∷ []) more s ≡ (Ok (out ++ text), s)
+      → ((rest : List ℕ) → o ≡ Some rest → length ((out ++ b ∷ []) ++ rest) ≤ text_most → spelled go (out ++ b ∷ []) more s ≡ (Ok ((out ++ b ∷ []) ++ rest), s))
+      → option_map (λ xs. b ∷ xs) o ≡ Some text → length (out ++ text) ≤ text_most → spelled go (out ++ b ∷ []) more s ≡ (Ok (out ++ text), s)
   means_byte out b more None text s next e le = absurd (let f : None ≡ Some text = e in cc)
   means_byte out b more (Some rest) text s next e le =
       let f : Some (b ∷ rest) ≡ Some text = e in
       let is : b ∷ rest ≡ text = cc in
       let same : (out ++ b ∷ []) ++ rest ≡ out ++ text = append_assoc out (b ∷ []) rest ∙ ap (λ xs. out ++ xs) is in
-      next rest refl (subst (λ xs. length xs ≤ 4096) (sym same) le) ∙ (λ i. (Ok (same i), s))
+      next rest refl (subst (λ xs. length xs ≤ text_most) (sym same) le) ∙ (λ i. (Ok (same i), s))
 
   -- what is said without functions is meant, whatever the state
-  said_spells : (ps : List Piece) (out text : List ℕ) (s : State S) → said ps ≡ Some text → length (out ++ text) ≤ 4096 → spelled go out ps s ≡ (Ok (out ++ text), s)
+  said_spells : (ps : List Piece) (out text : List ℕ) (s : State S) → said ps ≡ Some text → length (out ++ text) ≤ text_most → spelled go out ps s ≡ (Ok (out ++ text), s)
   unfolding said spelled
   said_spells [] out text s e le =
       let f : Some [] ≡ Some text = e in
@@ -219,7 +219,7 @@ fault_known (Some (Err k)) f h = let e : Err k ≡ Err f = h in let is : k ≡ f
 module _ {S : Type 0} (scene : Scene S) (n : ℕ) where
   text_comes : (keep : Keep) (texts before values : List (List ℕ)) (body : List ℕ) (o : Option (List ℕ)) (s t : State S) (answer r : Result (List ℕ) MpiFault)
       → said (pieces body) ≡ o → before ≡ take 2 texts → each_value (meaning scene n) [] before s ≡ (Ok values, t) → body ≡ nth 2 texts
-      → ((text : List ℕ) → o ≡ Some text → length text ≤ 4096)
+      → ((text : List ℕ) → o ≡ Some text → length text ≤ text_most)
       → option_map (λ text. alike_items keep text None (items (nth 1 values))) o ≡ Some answer → Means answer r → Thinks (in_scope (Items keep) (meaning scene n) texts) s t r
   text_comes keep texts before values body None s t answer r e f h at short is means = absurd (let k : None ≡ Some answer = is in cc)
   text_comes keep texts before values body (Some text) s t answer r e f h at short is means =
@@ -289,19 +289,19 @@ join_longer : (list : List ℕ) (more : List (List ℕ)) → length list ≤ len
 join_longer list [] = omega arith
 join_longer list (next ∷ more) = omega (arith, length-append list (13 ∷ join_with_byte 13 (next ∷ more)))
 
-all_behind : (text list : List ℕ) (parts : List (List ℕ)) → is_true text ≡ true → length (join_with_byte 13 (list ∷ parts)) ≤ 4096
+all_behind : (text list : List ℕ) (parts : List (List ℕ)) → is_true text ≡ true → length (join_with_byte 13 (list ∷ parts)) ≤ text_most
     → alike_items keep.Items text (Some list) parts ≡ Ok (join_with_byte 13 (list ∷ parts))
 unfolding alike_items
 all_behind text list [] holds le = refl
 all_behind text list (item ∷ more) holds le =
     let grown : List ℕ = list ++ 13 ∷ item in
     let same : join_with_byte 13 (grown ∷ more) ≡ list ++ 13 ∷ join_with_byte 13 (item ∷ more) = join_grown list item more in
-    let within : length (join_with_byte 13 (grown ∷ more)) ≤ 4096 = subst (λ xs. length xs ≤ 4096) (sym same) le in
+    let within : length (join_with_byte 13 (grown ∷ more)) ≤ text_most = subst (λ xs. length xs ≤ text_most) (sym same) le in
     (λ i. cond (is_long (as_text (cond (holds i) (Some grown) (Some list)))) (Err TooLong) (alike_items keep.Items text (cond (holds i) (Some grown) (Some list)) more))
     ∙ ap (λ t. cond t (Err TooLong) (alike_items keep.Items text (Some grown) more)) (is_short grown (omega (arith, join_longer grown more, within)))
     ∙ all_behind text grown more holds within ∙ ap Ok same
 
-all_of : (text : List ℕ) (parts : List (List ℕ)) → is_true text ≡ true → 0 < length parts → length (join_with_byte 13 parts) ≤ 4096 → alike_items keep.Items text None parts ≡ Ok (join_with_byte 13 parts)
+all_of : (text : List ℕ) (parts : List (List ℕ)) → is_true text ≡ true → 0 < length parts → length (join_with_byte 13 parts) ≤ text_most → alike_items keep.Items text None parts ≡ Ok (join_with_byte 13 parts)
 unfolding alike_items
 all_of text [] holds some le = absurd (omega (arith, some))
 all_of text (item ∷ more) holds some le =
@@ -309,16 +309,16 @@ all_of text (item ∷ more) holds some le =
     ∙ ap (λ t. cond t (Err TooLong) (alike_items keep.Items text (Some item) more)) (is_short item (omega (arith, join_longer item more, le)))
     ∙ all_behind text item more holds le
 
-pub last_is : (text list : List ℕ) → length text ≤ 4096 → 0 < length list → alike_items keep.Last text None (items list) ≡ Ok text
+pub last_is : (text list : List ℕ) → length text ≤ text_most → 0 < length list → alike_items keep.Last text None (items list) ≡ Ok text
 last_is text list short some = last_of text None (items list) (is_short text short) (some_items list some)
 
 pub none_is : (text list : List ℕ) → is_true text ≡ false → alike_items keep.Items text None (items list) ≡ Ok []
 none_is text list isnt = none_of text (items list) isnt
 
-pub all_is : (text list : List ℕ) → is_true text ≡ true → 0 < length list → length list ≤ 4096 → alike_items keep.Items text None (items list) ≡ Ok list
+pub all_is : (text list : List ℕ) → is_true text ≡ true → 0 < length list → length list ≤ text_most → alike_items keep.Items text None (items list) ≡ Ok list
 all_is text list holds some short =
     let joined : join_with_byte 13 (items list) ≡ list = ap (join_with_byte 13) (items_some list some) ∙ join_with_byte-slice_split 13 list in
-    all_of text (items list) holds (some_items list some) (subst (λ xs. length xs ≤ 4096) (sym joined) short) ∙ ap Ok joined
+    all_of text (items list) holds (some_items list some) (subst (λ xs. length xs ≤ text_most) (sym joined) short) ∙ ap Ok joined
 
 -- the list of the text for what is left of the items, of which another begins behind each byte 13
 unfoldable pub texts_behind : List ℕ → List ℕ → List ℕ → Result (List ℕ) MpiFault
@@ -360,7 +360,7 @@ unfolding alike_items
 first_text text [] short some = absurd (omega (arith, some))
 first_text text (part ∷ parts) short some = ap (λ t. cond t (Err TooLong) (alike_items keep.Texts text (Some text) parts)) short
 
-pub texts_begin : (text list bytes : List ℕ) → length text ≤ 4096 → 0 < length list → bytes ≡ text → alike_items keep.Texts text None (items list) ≡ texts_behind text bytes list
+pub texts_begin : (text list bytes : List ℕ) → length text ≤ text_most → 0 < length list → bytes ≡ text → alike_items keep.Texts text None (items list) ≡ texts_behind text bytes list
 texts_begin text list bytes short some is =
     first_text text (items list) (is_short text short) (some_items list some)
     ∙ ap (λ parts. alike_items keep.Texts text (Some text) (drop 1 parts)) (items_some list some)

@@ -1,5 +1,5 @@
 -- Bytes that a text may have, and how many it may have.
-use Rattle.std.proofs.Common.{◌≡◌, ℕ, ◌<◌, ◌≤◌, ◌+◌, ◌^◌, zero, suc, Bool, true, false, cond, List, [], ◌∷◌, ◌++◌, length, map, take, drop, get_or, Some, None, refl, inl, inr, arith}
+use Rattle.std.proofs.Common.{◌≡◌, ℕ, ◌<◌, ◌≤◌, ◌+◌, ◌^◌, zero, suc, Bool, true, false, cond, List, [], ◌∷◌, ◌++◌, length, map, take, drop, Some, None, refl, inl, inr, arith}
 use Rattle.std.specs.Prelude.{not, ◌&&◌, decimal, ℤ, pos, negsuc}
 use Rattle.std.specs.Fmt.{signed_decimal}
 use Rattle.std.specs.Int.Signed.{mag}
@@ -10,7 +10,7 @@ use Rattle.std.specs.List.{list_all, position_or_len, prefix_len}
 use Rattle.std.proofs.lemmas.Bool.{le-ltb, lt-ltb, cases_lt, false≢true}
 use Rattle.std.proofs.lemmas.List.{length-take, length-drop}
 use Rattle.std.proofs.lemmas.List.Sums.{prefix_len-le-length}
-use Rattle.muck_model.specs.Bytes.{is_outside, fault_of, text_fault}
+use Rattle.muck_model.specs.Bytes.{is_outside, fault_of, text_fault, text_most}
 use Rattle.mpi.specs.Made.{Inside}
 
 abbrev pub is_inside : ℕ → Bool
@@ -60,10 +60,10 @@ all_drop p (suc n) (x ∷ xs) h =
     ] h
 
 -- enough bytes and none too many are a text
-pub made_is_text : (xs : List ℕ) → Inside xs → length xs ≤ 4096 → text_fault xs ≡ None
+pub made_is_text : (xs : List ℕ) → Inside xs → length xs ≤ text_most → text_fault xs ≡ None
 made_is_text xs h le =
     let e = all_prefix is_inside xs h in
-    rw (le-ltb (position_or_len is_outside xs) (length xs) (omega (arith, e)), le-ltb 4096 (length xs) le) refl
+    rw (le-ltb (position_or_len is_outside xs) (length xs) (omega (arith, e)), le-ltb text_most (length xs) le) refl
 
 -- a text has such bytes, and not too many
 pub text_inside : (xs : List ℕ) → text_fault xs ≡ None → Inside xs
@@ -73,13 +73,13 @@ text_inside xs h =
       | inr past ↦ prefix_all is_inside xs (omega (arith, past, prefix_len-le-length is_inside xs))
     ]
 
-pub text_short : (xs : List ℕ) → text_fault xs ≡ None → length xs ≤ 4096
+pub text_short : (xs : List ℕ) → text_fault xs ≡ None → length xs ≤ text_most
 text_short xs h =
-    elim (cases_lt 4096 (length xs)) [
+    elim (cases_lt text_most (length xs)) [
       | inl long ↦ absurd (
           let e = all_prefix is_inside xs (text_inside xs h) in
           let none : fault_of None (length xs) ≡ None = rw (le-ltb (position_or_len is_outside xs) (length xs) (omega (arith, e))) at h in
-          let some : Some 4096 ≡ None = rw (lt-ltb 4096 (length xs) long) at none in cc)
+          let some : Some text_most ≡ None = rw (lt-ltb text_most (length xs) long) at none in cc)
       | inr le ↦ le
     ]
 
@@ -117,12 +117,6 @@ inside_number (negsuc n) h = inside-decimal (suc n) (omega (arith, h))
 
 pub inside_byte : (b : ℕ) → is_outside b ≡ false → Inside (b ∷ [])
 inside_byte b h = rw h refl
-
--- each byte of a text
-pub inside_at : (xs : List ℕ) (i : ℕ) → Inside xs → i < length xs → Inside (get_or xs i 0 ∷ [])
-inside_at [] i h less = absurd (omega (arith, less))
-inside_at (x ∷ xs) zero h less = all_cons is_inside x [] (all_head is_inside x xs h) refl
-inside_at (x ∷ xs) (suc i) h less = inside_at xs i (all_tail is_inside x xs h) (omega (arith, less))
 
 pub inside_more : (xs ys : List ℕ) → Inside xs → Inside ys → Inside (xs ++ ys)
 inside_more xs ys h k = all_append is_inside xs ys h k

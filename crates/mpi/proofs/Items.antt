@@ -4,7 +4,7 @@ use Rattle.std.specs.Prelude.{Option, is_none, ◌==◌, bytes_eq}
 use Rattle.std.specs.List.{list_all, slice_split, onto_first}
 use Rattle.std.proofs.lemmas.Bool.{le-ltb, lt-ltb, ltb-true}
 use Rattle.std.proofs.lemmas.List.Sums.{position_or_len_is}
-use Rattle.muck_model.specs.Bytes.{text_fault}
+use Rattle.muck_model.specs.Bytes.{text_fault, text_most}
 use Rattle.mpi.specs.Made.{is_text}
 use Rattle.mpi.specs.Values.{items, from_one, place_of_item}
 use Rattle.mpi.proofs.Inside.{is_inside, all_head, all_tail, all_cons, text_inside, text_short, made_is_text}
@@ -38,7 +38,7 @@ unfolding items
 items_short [] = refl
 items_short (x ∷ xs) = split_short (λ c. c == 13) (x ∷ xs)
 
-texts_if : (n : ℕ) (parts : List (List ℕ)) → n ≤ 4096 → list_all (is_short n) parts ≡ true → list_all (λ part. list_all is_inside part) parts ≡ true → list_all is_text parts ≡ true
+texts_if : (n : ℕ) (parts : List (List ℕ)) → n ≤ text_most → list_all (is_short n) parts ≡ true → list_all (λ part. list_all is_inside part) parts ≡ true → list_all is_text parts ≡ true
 texts_if n [] le h k = refl
 texts_if n (part ∷ parts) le h k =
     let short : length part < suc n = ltb-true _ _ (all_head (is_short n) part parts h) in

@@ -2,7 +2,7 @@
 use Rattle.std.proofs.Common.{◌≡◌, ℕ, ◌<◌, ◌≤◌, Bool, true, false, cond, List, [], ◌∷◌, ◌++◌, length, refl, sym, subst, ap, arith, length-append}
 use Rattle.std.specs.Prelude.{Ok, Err, Option, Some, None, IfSome}
 use Rattle.std.proofs.lemmas.Bool.{ltb-true, ltb-false, lt-ltb, le-ltb}
-use Rattle.muck_model.specs.Bytes.{text_fault}
+use Rattle.muck_model.specs.Bytes.{text_fault, text_most}
 use Rattle.mpi.specs.declared.fault.MpiFault.{MpiFault}
 use Rattle.mpi.specs.declared.fault.MpiFault.TheVariants.{Unclosed, UnknownFunction, BadCount, BadValue, TooManyCommands, TooLong, Denied, NoMemory}
 use Rattle.mpi.specs.Gathering.{as_text, list_or_long, longer}
@@ -10,21 +10,21 @@ use Rattle.mpi.specs.Hosting.{Means}
 use Rattle.mpi.specs.Made.{Inside, is_long, text_or_long, IsGrown}
 use Rattle.mpi.proofs.Inside.{text_inside, inside_more, made_is_text, text_short}
 
-pub short_length : (xs : List ℕ) → is_long xs ≡ false → length xs ≤ 4096
+pub short_length : (xs : List ℕ) → is_long xs ≡ false → length xs ≤ text_most
 unfolding is_long
-short_length xs h = omega (arith, ltb-false 4096 (length xs) h)
+short_length xs h = omega (arith, ltb-false text_most (length xs) h)
 
-pub is_short : (xs : List ℕ) → length xs ≤ 4096 → is_long xs ≡ false
+pub is_short : (xs : List ℕ) → length xs ≤ text_most → is_long xs ≡ false
 unfolding is_long
-is_short xs h = le-ltb 4096 (length xs) h
+is_short xs h = le-ltb text_most (length xs) h
 
-long_length : (xs : List ℕ) → is_long xs ≡ true → 4096 < length xs
+long_length : (xs : List ℕ) → is_long xs ≡ true → text_most < length xs
 unfolding is_long
-long_length xs h = ltb-true 4096 (length xs) h
+long_length xs h = ltb-true text_most (length xs) h
 
-length_long : (xs : List ℕ) → 4096 < length xs → is_long xs ≡ true
+length_long : (xs : List ℕ) → text_most < length xs → is_long xs ≡ true
 unfolding is_long
-length_long xs h = lt-ltb 4096 (length xs) h
+length_long xs h = lt-ltb text_most (length xs) h
 
 -- what is longer than what is too long is too long
 pub longer_long : (xs ys : List ℕ) → length xs ≤ length ys → is_long xs ≡ true → is_long ys ≡ true

@@ -1,7 +1,6 @@
 pub mod Acts
 pub mod AlikeItems
 pub mod Calls
-pub mod Evaluations
 pub mod Growing
 pub mod Inside
 pub mod Items

@@ -8,8 +8,8 @@ use Rattle.std.proofs.lemmas.Bool.{cases_lt}
 use Rattle.muck_model.specs.Bytes.{text_fault}
 use Rattle.mpi.specs.Made.{is_text}
 use Rattle.mpi.specs.Values.{nth, above, cut}
-use Rattle.mpi.proofs.Inside.{all_append, all_cons, all_head, all_tail}
-use Rattle.mpi.proofs.Items.{text_there, no_fault}
+use Rattle.mpi.proofs.Inside.{all_append, all_cons}
+use Rattle.mpi.proofs.Items.{text_there}
 
 -- the next one, and those behind it
 pub next_mapped : {A B : Type 0} (f : A → B) (xs : List A) (i : ℕ) (d : A) → i < length xs → drop i (map f xs) ≡ f (get_or xs i d) ∷ drop (i + 1) (map f xs)
@@ -17,9 +17,6 @@ next_mapped f xs i d less =
     drop-cons (map f xs) i (f d) (omega (arith, less, length-map xs f))
     ∙ ap (λ x. x ∷ drop (suc i) (map f xs)) (get_or-map f xs i d (f d) less)
     ∙ ap (λ k. f (get_or xs i d) ∷ drop k (map f xs)) (sym (add-one i))
-
-pub next_there : {A B : Type 0} (f : A → B) (xs : List A) (i : ℕ) (x : A) → i < length xs → x ≡ get_or xs i x → drop i (map f xs) ≡ f x ∷ drop (i + 1) (map f xs)
-next_there f xs i x less e = next_mapped f xs i x less ∙ ap (λ y. f y ∷ drop (i + 1) (map f xs)) (sym e)
 
 -- behind the last one there is none
 pub none_mapped : {A B : Type 0} (f : A → B) (xs : List A) (i : ℕ) → length xs ≤ i → drop i (map f xs) ≡ []
@@ -34,21 +31,10 @@ mapped_text f xs i d h less =
 pub text_more : (xs : List (List ℕ)) (x : List ℕ) → list_all is_text xs ≡ true → text_fault x ≡ None → list_all is_text (xs ++ x ∷ []) ≡ true
 text_more xs x h k = all_append is_text xs (x ∷ []) h (all_cons is_text x [] (ap is_none k) refl)
 
--- the one at a place; past the last one there is none
-pub nth_mapped : {A : Type 0} (f : A → List ℕ) (xs : List A) (i : ℕ) (d : A) → i < length xs → nth i (map f xs) ≡ f (get_or xs i d)
-nth_mapped f [] i d less = absurd (omega (arith, less))
-nth_mapped f (x ∷ xs) zero d less = refl
-nth_mapped f (x ∷ xs) (suc i) d less = nth_mapped f xs i d (omega (arith, less))
-
 pub nth_past : {A : Type 0} (f : A → List ℕ) (xs : List A) (i : ℕ) → length xs ≤ i → nth i (map f xs) ≡ []
 nth_past f [] i le = refl
 nth_past f (x ∷ xs) zero le = absurd (omega (arith, le))
 nth_past f (x ∷ xs) (suc i) le = nth_past f xs i (omega (arith, le))
-
-pub nth_is_text : (xs : List (List ℕ)) (i : ℕ) → list_all is_text xs ≡ true → text_fault (nth i xs) ≡ None
-nth_is_text [] i h = refl
-nth_is_text (x ∷ xs) zero h = no_fault (text_fault x) (all_head is_text x xs h)
-nth_is_text (x ∷ xs) (suc i) h = nth_is_text xs i (all_tail is_text x xs h)
 
 -- those before a place
 pub taken : {A B : Type 0} (f : A → B) (xs : List A) (m n : ℕ) → (m ≤ length xs → n ≡ m) → (length xs ≤ m → n ≡ length xs) → map f (take n xs) ≡ take m (map f xs)

@@ -6,9 +6,6 @@ use Rattle.std.proofs.lemmas.Bool.{ltb-true, lt-ltb}
 use Rattle.mpi.proofs.Inside.{text_short, part_is_text, rest_is_text}
 use Rattle.mpi.specs.Brackets.{begun, part_len, part, behind_part, arguments_up_to, arguments, byte, escaped, call_ahead, first_piece, pieces_up_to, pieces}
 
-behind_shorter : (w : ℕ) (text : List ℕ) (n : ℕ) → part_len w begun text < length text → length text ≤ suc n → length (behind_part w text) ≤ n
-behind_shorter w text n h le = omega (arith, h, le, length-drop (suc (part_len w begun text)) text)
-
 by_comma : (text : List ℕ) (n m : ℕ) (t : Bool) → nat_lt (part_len 44 begun text) (length text) ≡ t
     → ((xs : List ℕ) → length xs < length text → arguments_up_to n xs ≡ arguments_up_to m xs)
     → cond t (part 44 text ∷ arguments_up_to n (behind_part 44 text)) (text ∷ []) ≡ cond t (part 44 text ∷ arguments_up_to m (behind_part 44 text)) (text ∷ [])

@@ -4,6 +4,7 @@ use Rattle.std.proofs.lemmas.Bool.{cases_Bool}
 use Rattle.std.proofs.lemmas.List.{append-nil}
 use Rattle.std.specs.Prelude.{Ok, Err, Option, ◌&&◌, ◌==◌}
 use Rattle.std.specs.Option.{option_map}
+use Rattle.muck_model.specs.Bytes.{text_most}
 use Rattle.mpi.specs.declared.fault.MpiFault.{MpiFault}
 use Rattle.mpi.specs.Hosting.{Means}
 use Rattle.mpi.specs.Made.{is_long, text_or_long, IsGrown}
@@ -100,7 +101,7 @@ pub whole_long : (whole out more rest new : List ℕ) (f : MpiFault) → whole �
 whole_long whole out more rest new f e h =
     long_fails out more new whole f h (λ long. ap is_long e ∙ front_long (out ++ more) rest long)
 
-pub whole_made : (whole out : List ℕ) → whole ≡ out → length out ≤ 4096 → text_or_long whole ≡ Ok out
+pub whole_made : (whole out : List ℕ) → whole ≡ out → length out ≤ text_most → text_or_long whole ≡ Ok out
 whole_made whole out e le = made_whole whole out (sym e) (ap is_long e ∙ is_short out le)
 
 -- the part is not empty

@@ -214,8 +214,3 @@ pub none_taken : (d : ℕ) (b : Board) (c new : Connection) → Some c ≡ conne
 none_taken d b c new there w same =
     let P : Option Connection → Type 0 = HasNoLine in
     ((subst P there w, ap (λ (x : Board). x.connections) (rewritten d b c new there same)), refl)
-
-pub none_there : (d : ℕ) (b : Board) → None ≡ connection_in d b → BoardTakesLine d b b None
-none_there d b none =
-    let P : Option Connection → Type 0 = HasNoLine in
-    ((subst P none tt, refl), refl)

@@ -28,10 +28,6 @@ pub none_length : length (lines_bytes []) ≡ 0
 unfolding lines_bytes
 none_length = refl
 
-pub no_lines : (lines : List (List ℕ)) → length lines ≡ 0 → lines ≡ []
-no_lines [] h = refl
-no_lines (line ∷ lines) h = absurd (omega arith)
-
 pub sent_length : (line : List ℕ) → length (sent_form line) ≡ length line + 2
 sent_length line = length-append line _
 

@@ -129,9 +129,6 @@ pub part_more : (whole got buf front : List ℕ) (i n m : ℕ) → got ≡ take 
 part_more whole got buf front i n m so le read at =
     ap (λ l. l ++ front) so ∙ ap (λ l. take i whole ++ l) (at ∙ sym (take-take m n buf le) ∙ ap (take m) read ∙ take-take m n (drop i whole) le) ∙ sym (take-add i m whole)
 
-pub part_all : (whole got : List ℕ) (i size : ℕ) → got ≡ take i whole → length whole ≤ i → i ≤ size → got ≡ take size whole
-part_all whole got i size so le fits = so ∙ take_all i whole le ∙ sym (take_all size whole (omega (arith, le, fits)))
-
 -- the first 34 bytes, or all
 pub front_of : (whole buf front : List ℕ) (n left : ℕ) → length whole ≡ left → n ≡ min 34 left → take n buf ≡ take n whole → front ≡ take n buf → front ≡ take 34 whole
 front_of whole buf front n left size is read at = at ∙ read ∙ by (leb 34 left) refl

@@ -73,9 +73,6 @@ either_ok false x a e h = absurd (not_ok x e h)
 abbrev Ends : Reading → End → Type 0
 Ends r e = ends r.mode r ≡ Ok e
 
-abbrev at_once : ℕ → Held → List ℕ → ℕ → List ℕ → Reading
-at_once place held l size behind = run (body_at place held size []) behind
-
 -- what stands behind a length that is whole
 in_body : (n place : ℕ) (held : Held) (size : ℕ) (behind : List ℕ) (e : End) → 0 < size → Ends (run (body_at place held size []) behind) e
     → ((p : ℕ) (k : Held) (l : List ℕ) → length l ≤ length behind → Ends (run (gate_at p k) l) e → Lead k (bodies n l) e.held)

@@ -5,6 +5,7 @@ use Rattle.std.specs.Int.{w16, w32, w64, to_be_bytes, cast_unsigned}
 use Rattle.std.specs.Ordering.{int_eq}
 use Rattle.std.proofs.lemmas.Bool.{and_parts, and_from, cond-true, cond-false}
 use Rattle.std.proofs.lemmas.Slice.Eq.{bytes_eq-Decides}
+use Rattle.muck_model.specs.Bytes.{lines_most, text_most}
 use Rattle.muck_model.specs.declared.dbref.Dbref.{Dbref}
 use Rattle.muck_prop.specs.Paths.{IsPath, path_text, path_fault, segments_of, is_filled}
 use Rattle.muck_prop.specs.declared.path.PropFault.{PropFault}
@@ -123,8 +124,8 @@ integer_again n rest fits some =
 tagged_takes : (tag : ℕ) (bytes rest : List ℕ) (v : PropValue) → IsBytes bytes → tagged tag bytes ≡ Ok (v, rest) → Takes (tag ∷ bytes) (value_bytes v) rest × IsValue v
 tagged_takes zero bytes rest v fits e =
     let made : PropValue × List ℕ = (v, rest) in
-    let a = bind_ok (text_at 1 4096 bytes) (λ text. Ok (Text text.0, text.1)) made e in
-    let one = (text_codes 1 4096 (omega arith)).takes bytes a.0.1 a.0.0 fits a.1 in
+    let a = bind_ok (text_at 1 text_most bytes) (λ text. Ok (Text text.0, text.1)) made e in
+    let one = (text_codes 1 text_most (omega arith)).takes bytes a.0.1 a.0.0 fits a.1 in
     let whole : PropValue × List ℕ = (Text a.0.0, a.0.1) in
     subst (λ (y : PropValue × List ℕ). Takes (0 ∷ bytes) (value_bytes y.0) y.1 × IsValue y.0) (ok_is whole made a.2)
     (record { parts = ap (λ l. 0 ∷ l) one.0.parts; rest_fits = one.0.rest_fits }, one.1)
@@ -142,7 +143,7 @@ value_takes (tag ∷ bytes) rest v fits e = tagged_takes tag bytes rest v (bytes
 
 value_again : (v : PropValue) (rest : List ℕ) → IsValue v → value_at 1 (value_bytes v ++ rest) ≡ Ok (v, rest)
 unfolding value_at tags_in
-value_again (Text text) rest rule = ap (λ r. r >>= λ t. Ok (Text t.0, t.1)) ((text_codes 1 4096 (omega arith)).again text rest rule)
+value_again (Text text) rest rule = ap (λ r. r >>= λ t. Ok (Text t.0, t.1)) ((text_codes 1 text_most (omega arith)).again text rest rule)
 value_again (Number n) rest rule = integer_again n rest rule.0 rule.1
 
 pub value_codes : Codes (value_at 1) value_bytes IsValue
@@ -167,11 +168,11 @@ unfolding properties_bytes
 properties_codes = counted_codes path_key (property_at 1) property_bytes IsProperty property_codes (number_at w64) (to_be_bytes w64) (λ n. n < 2 ^ 64) codes64
 
 line_codes : (before : Option (List ℕ)) → Codes (line_at before) text_bytes (IsLine before)
-line_codes before = record { takes = (text_codes 0 4096 (omega arith)).takes; again = (text_codes 0 4096 (omega arith)).again }
+line_codes before = record { takes = (text_codes 0 text_most (omega arith)).takes; again = (text_codes 0 text_most (omega arith)).again }
 
-lines_codes : Codes (counted (short_at 0 4096) lines_at) lines_bytes AreLines
+lines_codes : Codes (counted (short_at 0 lines_most) lines_at) lines_bytes AreLines
 unfolding lines_bytes
-lines_codes = counted_codes line_key line_at text_bytes IsLine line_codes (short_at 0 4096) (to_be_bytes w16) (λ n. (0 ≤ n) × (n ≤ 4096)) (short_codes 0 4096 (omega arith))
+lines_codes = counted_codes line_key line_at text_bytes IsLine line_codes (short_at 0 lines_most) (to_be_bytes w16) (λ n. (0 ≤ n) × (n ≤ lines_most)) (short_codes 0 text_most (omega arith))
 
 -- The record.
 
@@ -222,7 +223,7 @@ lists_codes = mapped_codes lists_of (both dbref_at (both dbref_at dbref_at))
     (λ x. IsDbref x.0 × (IsDbref x.1.0 × IsDbref x.1.1)) ListsRule (λ x rule. refl) (λ x rule. rule) (λ l rule. ((l.first_content, (l.first_exit, l.next)), refl, rule)) three_dbrefs
 
 abbrev TextsRule : Texts → Type 0
-TextsRule t = IsText 0 4096 t.name × (AreProperties t.props × (AreLines t.lines × IsText 0 4096 t.digest))
+TextsRule t = IsText 0 text_most t.name × (AreProperties t.props × (AreLines t.lines × IsText 0 text_most t.digest))
 
 abbrev texts_spelled : Texts → List ℕ
 texts_spelled t = text_bytes t.name ++ (properties_bytes t.props ++ (lines_bytes t.lines ++ text_bytes t.digest))
@@ -231,16 +232,16 @@ abbrev properties_part : List ℕ → Result (List Property × List ℕ) ℕ
 properties_part bytes = counted (number_at w64) (properties_at 1) bytes
 
 abbrev lines_part : List ℕ → Result (List (List ℕ) × List ℕ) ℕ
-lines_part bytes = counted (short_at 0 4096) lines_at bytes
+lines_part bytes = counted (short_at 0 lines_most) lines_at bytes
 
 texts_codes : Codes (texts_at 1) texts_spelled TextsRule
 unfolding texts_at
-texts_codes = mapped_codes texts_of (both (text_at 0 4096) (both properties_part (both lines_part (text_at 0 4096))))
+texts_codes = mapped_codes texts_of (both (text_at 0 text_most) (both properties_part (both lines_part (text_at 0 text_most))))
     (λ x. text_bytes x.0 ++ (properties_bytes x.1.0 ++ (lines_bytes x.1.1.0 ++ text_bytes x.1.1.1))) texts_spelled
-    (λ x. IsText 0 4096 x.0 × (AreProperties x.1.0 × (AreLines x.1.1.0 × IsText 0 4096 x.1.1.1))) TextsRule (λ x rule. refl) (λ x rule. rule) (λ t rule. ((t.name, (t.props, (t.lines, t.digest))), refl, rule))
-    (both_codes (text_at 0 4096) (both properties_part (both lines_part (text_at 0 4096))) text_bytes (λ x. properties_bytes x.0 ++ (lines_bytes x.1.0 ++ text_bytes x.1.1)) (IsText 0 4096) (λ x. AreProperties x.0 × (AreLines x.1.0 × IsText 0 4096 x.1.1)) (text_codes 0 4096 (omega arith))
-    (both_codes properties_part (both lines_part (text_at 0 4096)) properties_bytes (λ x. lines_bytes x.0 ++ text_bytes x.1) AreProperties (λ x. AreLines x.0 × IsText 0 4096 x.1) properties_codes
-    (both_codes lines_part (text_at 0 4096) lines_bytes text_bytes AreLines (IsText 0 4096) lines_codes (text_codes 0 4096 (omega arith)))))
+    (λ x. IsText 0 text_most x.0 × (AreProperties x.1.0 × (AreLines x.1.1.0 × IsText 0 text_most x.1.1.1))) TextsRule (λ x rule. refl) (λ x rule. rule) (λ t rule. ((t.name, (t.props, (t.lines, t.digest))), refl, rule))
+    (both_codes (text_at 0 text_most) (both properties_part (both lines_part (text_at 0 text_most))) text_bytes (λ x. properties_bytes x.0 ++ (lines_bytes x.1.0 ++ text_bytes x.1.1)) (IsText 0 text_most) (λ x. AreProperties x.0 × (AreLines x.1.0 × IsText 0 text_most x.1.1)) (text_codes 0 text_most (omega arith))
+    (both_codes properties_part (both lines_part (text_at 0 text_most)) properties_bytes (λ x. lines_bytes x.0 ++ text_bytes x.1) AreProperties (λ x. AreLines x.0 × IsText 0 text_most x.1) properties_codes
+    (both_codes lines_part (text_at 0 text_most) lines_bytes text_bytes AreLines (IsText 0 text_most) lines_codes (text_codes 0 text_most (omega arith)))))
 
 abbrev parts_of : Stored → Head × (Ties × (Lists × Texts))
 parts_of o = (

@@ -10,9 +10,14 @@ ghost use Rattle.muck_codec.specs.Records.{kind_of, kind_at, flags_at, head_at, 
 use crate::fault::{CodecFault, Unread};
 use crate::reading::{byte_at, dbref_at, short_at, text_at, u16_at, u32_at, u64_at};
 use crate::stored::{Property, Stored};
-use muck_model::{Dbref, Flags, Kind, Line, LineList, NoMemory, Row};
+use muck_model::{Dbref, Flags, Kind, LINES_MOST, Line, LineList, NoMemory, Row, TEXT_MOST};
 use muck_prop::{Path, PropFault, PropValue, read_path};
 use std::alloc::Global;
+
+// The most bytes of a text, and the most lines of a program, as their counts are written.
+const TEXT_LONG: u16 = TEXT_MOST as u16;
+
+const LINES_LONG: u16 = LINES_MOST as u16;
 
 // The fields of fixed size.
 #[derive(Clone, Copy, Drop)]
@@ -195,7 +200,7 @@ fn tagged(alloc: Global, tag: u8, rest: &[u8]) -> Result<(PropValue, &[u8]), Unr
 {
     match tag {
         0 => {
-            let (text, rest) = text_at(alloc, 1, 4096, rest)?;
+            let (text, rest) = text_at(alloc, 1, TEXT_LONG, rest)?;
             Ok((PropValue::Text(text), rest))
         }
         1 => integer_at(rest),
@@ -267,7 +272,7 @@ fn lines_at(alloc: Global, count: u16, bytes: &[u8]) -> Result<(Vec<Line>, &[u8]
     let mut lines = Vec::new(alloc);
     let mut rest = bytes;
     for _ in 0..count {
-        let (line, after) = text_at(alloc, 0, 4096, rest)?;
+        let (line, after) = text_at(alloc, 0, TEXT_LONG, rest)?;
         lines.push(line)?;
         rest = after;
     }
@@ -278,12 +283,12 @@ fn lines_at(alloc: Global, count: u16, bytes: &[u8]) -> Result<(Vec<Line>, &[u8]
 fn texts_at(alloc: Global, version: u8, bytes: &[u8]) -> Result<(Texts, &[u8]), Unread>
     ensures { Gives (λ x. (x.0, x.1.now)) result (texts_at version bytes.now) }
 {
-    let (name, rest) = text_at(alloc, 0, 4096, bytes)?;
+    let (name, rest) = text_at(alloc, 0, TEXT_LONG, bytes)?;
     let (count, rest) = u64_at(rest)?;
     let (props, rest) = properties_at(alloc, version, count, rest)?;
-    let (count, rest) = short_at(0, 4096, rest)?;
+    let (count, rest) = short_at(0, LINES_LONG, rest)?;
     let (lines, rest) = lines_at(alloc, count, rest)?;
-    let (digest, rest) = text_at(alloc, 0, 4096, rest)?;
+    let (digest, rest) = text_at(alloc, 0, TEXT_LONG, rest)?;
     let texts = Texts {
         name,
         props: Row::of(props),

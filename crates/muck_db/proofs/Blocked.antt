@@ -64,13 +64,6 @@ flag_more flag [] (suc j) h = h
 flag_more flag (y ∷ ys) zero h = h
 flag_more flag (y ∷ ys) (suc j) h = flag_more flag ys j h
 
--- one more slot in a block
-pub joined_has : (flag : Flag) (b c : Block) (s : Slot) → c ≡ record { unsaved = b.unsaved || is_so Unsaved s; garbage = b.garbage || is_so Garbage s; marked = b.marked || is_so Marked s }
-    → has flag c ≡ has flag b || is_so flag s
-joined_has Unsaved b c s is = ap (λ (z : Block). z.unsaved) is
-joined_has Garbage b c s is = ap (λ (z : Block). z.garbage) is
-joined_has Marked b c s is = ap (λ (z : Block). z.marked) is
-
 -- Changes that keep the flags true of the slots.
 
 -- what was said of a block holds of its slots, and the others are as they were

@@ -7,6 +7,7 @@ use Rattle.std.proofs.lemmas.Bool.{and_parts, ne_eqb}
 use Rattle.std.proofs.lemmas.Bool.Decides.{nat_tests}
 use Rattle.std.proofs.lemmas.List.Sums.{AllPass-from_list_all}
 use Rattle.std.proofs.lemmas.Option.{slice_get-map}
+use Rattle.muck_model.specs.Bytes.{lines_most}
 use Rattle.muck_codec.specs.declared.stored.Stored.{Stored}
 use Rattle.muck_store.specs.Forms.{next_at as record_next, entry_of as record_entry, object_of, loaded}
 use Rattle.muck_store.specs.inner.Hung.{IsHung}
@@ -183,13 +184,13 @@ all_six false b c d e f h = absurd (cc h)
 record_within : (s : Stored) → fits s ≡ true → FitsLimits (object_of s)
 unfolding fits
 record_within s h =
-    let t : AllSix (nat_le 1 (length s.name)) (nat_le (length s.name) 80) (nat_le s.level 3) (nat_lt s.flags.0 16384) (nat_le (length s.lines) 4096) (is_digest s.digest) = all_six _ _ _ _ _ _ h in
+    let t : AllSix (nat_le 1 (length s.name)) (nat_le (length s.name) 80) (nat_le s.level 3) (nat_lt s.flags.0 16384) (nat_le (length s.lines) lines_most) (is_digest s.digest) = all_six _ _ _ _ _ _ h in
     record {
       named = least 1 (length s.name) t.first;
       short = least (length s.name) 80 t.second;
       level = least s.level 3 t.third;
       flags = below s.flags.0 16384 t.fourth;
-      lines = least (length s.lines) 4096 t.fifth;
+      lines = least (length s.lines) lines_most t.fifth;
       digest = digest_within s.digest t.sixth;
     }
   where

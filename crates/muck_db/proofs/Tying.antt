@@ -1,5 +1,5 @@
 -- Who is tied to a number is noted there.
-use Rattle.std.proofs.Common.{◌≡◌, ◌⊎◌, ℕ, zero, suc, get_or, ◌+◌, ◌<◌, ◌≤◌, List, [], ◌∷◌, ◌++◌, Option, Some, None, inl, inr, refl, sym, ◌∙◌, ap, subst, length, length-append, arith, Bool, true, false, cond, ◌||◌, map, Result, Ok}
+use Rattle.std.proofs.Common.{◌≡◌, ◌⊎◌, ℕ, zero, suc, get_or, ◌+◌, ◌<◌, ◌≤◌, List, [], ◌∷◌, ◌++◌, Option, Some, None, inl, inr, refl, sym, ◌∙◌, ap, subst, length, length-append, arith, Bool, true, false, cond, ◌||◌, map, Ok}
 use Rattle.std.proofs.lemmas.Bool.{cases_eq, cases_lt, false≢true}
 use Rattle.std.proofs.lemmas.Option.{slice_get-map, slice_get_past, slice_get_read, get_or_from_slice_get}
 use Rattle.std.proofs.lemmas.Map.Lookups.{exact_unsigned}
@@ -14,7 +14,6 @@ use Rattle.muck_model.specs.declared.dbref.Kind.{Kind}
 use Rattle.muck_model.specs.declared.dbref.Kind.TheVariants.{Thing, Player}
 use Rattle.muck_model.proofs.Dbrefs.{eq_same, same_eq}
 use Rattle.spec_live.specs.declared.object.Object.{Object}
-use Rattle.spec_live.specs.declared.fault.DbFault.{DbFault}
 use Rattle.spec_live.specs.declared.mark.Mark.{Mark}
 use Rattle.spec_live.specs.declared.saving.Saving.{Saving}
 use Rattle.spec_live.specs.Objects.{Entry, dbref_of, nothing, home, index_of, same, changed_at, with_object, garbage, object_in, kind_in}
@@ -306,10 +305,6 @@ ties_untied d old new ties after is long others h = record {
 
 pub ties_emptied : (d : ℕ) (old new : List Slot) (ties : List Tied) (s : Tied) → new ≡ map (untied_slot d) old → HasTies old ties → HasTies new (slice_set ties d s)
 ties_emptied d old new ties s is h = ties_untied d old new ties (slice_set ties d s) is (set_long ties d s) (λ e ne. set_other ties d e s ne) h
-
--- a slot that isn't tied to d stays as it is
-end_stays : (d : ℕ) (a z : Dbref) → same a (dbref_of d) ≡ false → cond (same a (dbref_of d)) z a ≡ a
-end_stays d a z h = ap (λ t. cond t z a) h
 
 both_false : (a b : Bool) → (a || b) ≡ false → (a ≡ false) × (b ≡ false)
 both_false true b h = absurd (false≢true (sym h))

@@ -37,12 +37,6 @@ goes_to first first' calls later x step same is by =
     subst (λ f. Elapses (length calls) (length later) (left_at first calls) (left_at f later) step) (sym same)
     (subst (λ (l : List Call). Elapses (length calls) (length l) (left_at first calls) (left_at first l) step) (sym is) (goes_on first calls x step by))
 
-pub stands_to : (first first' : List ℕ) (calls later : List Call) (step : List ℕ → List ℕ → Type 0)
-    → first' ≡ first → later ≡ calls → Elapses (length calls) (length later) (left_at first calls) (left_at first' later) step
-stands_to first first' calls later step same is =
-    subst (λ f. Elapses (length calls) (length later) (left_at first calls) (left_at f later) step) (sym same)
-    (subst (λ (l : List Call). Elapses (length calls) (length l) (left_at first calls) (left_at first l) step) (sym is) (stands first calls step))
-
 -- what a sync leaves at last
 pub settled : (first first' : List ℕ) (calls later : List Call) (seen : List ℕ)
     → first' ≡ first → later ≡ calls ++ Synced true ∷ [] → seen ≡ seen_after first (reverse calls)

@@ -4,7 +4,7 @@ use Rattle.std.proofs.lemmas.Bool.{and_parts, leb-true, leb-false}
 use Rattle.std.proofs.lemmas.List.{take_at, length-replicate, take_all, append-nil, drop-drop, drop_at, append_assoc, take_more, take-append-drop, drop_all, reverse-append}
 use Rattle.muck_disk.specs.Images.{Torn, written}
 use Rattle.muck_disk.specs.inner.Memory.{Torn-none}
-use Rattle.muck_disk.specs.inner.Replay.{seen_after, seen_at, seen_by, left_after, left_at, all_within, is_within, torn_to, image_after, image_at, synced_length, synced_at}
+use Rattle.muck_disk.specs.inner.Replay.{seen_after, seen_at, left_after, left_at, all_within, is_within, torn_to, image_after, image_at, synced_length}
 use Rattle.muck_disk.specs.declared.memory.Call.{Call}
 use Rattle.muck_disk.specs.declared.memory.Call.TheVariants.{Asked, Wrote, Synced}
 
@@ -100,18 +100,6 @@ image_left kept byte first (Asked ∷ calls) all = image_left kept byte first ca
 
 one_more : (calls : List Call) (i : ℕ) (d : Call) → i < length calls → reverse (take (i + 1) calls) ≡ get_or calls i d ∷ reverse (take i calls)
 one_more calls i d lt = ap reverse (take_more calls i d lt) ∙ reverse-append (take i calls) (get_or calls i d ∷ [])
-
--- one call more
-pub seen_more : (first : List ℕ) (calls : List Call) (i : ℕ) (d : Call) (now : List ℕ) → i < length calls → now ≡ seen_by (seen_at first calls i) (get_or calls i d) → now ≡ seen_at first calls (i + 1)
-seen_more first calls i d now lt is = is ∙ ap (seen_after first) (sym (one_more calls i d lt))
-
-pub image_more : (kept byte : ℕ) (first : List ℕ) (calls : List Call) (i : ℕ) (d : Call) (now : List ℕ) → i < length calls
-    → now ≡ image_after kept byte first (get_or calls i d ∷ reverse (take i calls)) → now ≡ image_at kept byte first calls (i + 1)
-image_more kept byte first calls i d now lt is = is ∙ ap (image_after kept byte first) (sym (one_more calls i d lt))
-
-pub room_more : (kept : ℕ) (first : List ℕ) (calls : List Call) (i : ℕ) (d : Call) (room : ℕ) → i < length calls
-    → room ≡ synced_length first (get_or calls i d ∷ reverse (take i calls)) + kept → room ≡ synced_at first calls (i + 1) + kept
-room_more kept first calls i d room lt is = is ∙ ap (λ l. synced_length first l + kept) (sym (one_more calls i d lt))
 
 -- all within: each within, of an earlier part too
 later : (first : List ℕ) (xs ys : List Call) → all_within first (xs ++ ys) ≡ true → all_within first ys ≡ true

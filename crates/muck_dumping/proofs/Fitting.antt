@@ -4,6 +4,7 @@ use Rattle.std.specs.Prelude.{All, nat_le, nat_lt, ◌&&◌, ◌==◌, slice_get
 use Rattle.std.specs.List.{list_all}
 use Rattle.std.proofs.lemmas.Bool.{and_from, or_left, or_right, eq-eqb, le-leb, lt-ltb}
 use Rattle.std.proofs.lemmas.List.Sums.{list_all-from_AllPass}
+use Rattle.muck_model.specs.Bytes.{lines_most}
 use Rattle.muck_model.specs.declared.tune.Tune.{Tune}
 use Rattle.spec_live.specs.Objects.{Entry}
 use Rattle.muck_db.specs.inner.Limits.{IsDigest, FitsLimits, IsWithinLimits}
@@ -34,7 +35,7 @@ one_fits es k e h =
     (and_from (nat_le (length e.object.name) 80) _ (le-leb (length e.object.name) 80 h.short)
     (and_from (nat_le e.object.level 3) _ (le-leb e.object.level 3 h.level)
     (and_from (nat_lt e.object.flags.0 16384) _ (lt-ltb e.object.flags.0 16384 (omega (arith, h.flags)))
-    (and_from (nat_le (length e.object.lines) 4096) _ (le-leb (length e.object.lines) 4096 h.lines) (digest_fits e.object.digest h.digest)))))
+    (and_from (nat_le (length e.object.lines) lines_most) _ (le-leb (length e.object.lines) lines_most h.lines) (digest_fits e.object.digest h.digest)))))
 
 all_fit : (es : List Entry) (k : ℕ) (rest : List Entry) → ((i : ℕ) (e : Entry) → slice_get rest i ≡ Some e → FitsLimits e.object) → list_all fits (stored_from es k rest) ≡ true
 unfolding stored_from

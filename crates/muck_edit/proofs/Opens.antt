@@ -3,6 +3,7 @@ use Rattle.std.proofs.Common.{◌≡◌, ℕ, zero, suc, ◌+◌, ◌-◌, ◌<�
 use Rattle.spec_live.proofs.Keeping.{keeps_followed}
 use Rattle.std.proofs.lemmas.Bool.{ltb-true, leb-true, ltb-false}
 use Rattle.std.specs.Option.{option_map, option_and_then, option_map_or}
+use Rattle.muck_model.specs.Bytes.{lines_most}
 use Rattle.muck_model.specs.declared.dbref.Dbref.{Dbref}
 use Rattle.muck_model.specs.declared.dbref.Denial.{Denial}
 use Rattle.muck_model.specs.declared.edit.EditState.{EditState}
@@ -185,8 +186,8 @@ inserted_after d s at line w p h = by_cases (bytes_eq line (codes ".")) (nat_lt 
     by_cases : (b c : Bool) → nat_lt (length s.lines) lines_most ≡ c → IsOpenAfter (cond b (stepped Stay (record s { inserting = None }) (tell d exiting)) (cond c (stepped Stay (with_line at line s) unchanged) (stepped Stay s (tell d illegal))) w)
     by_cases true c e = record { program = quiet_there s.program (tell d exiting) (quiet_tell d exiting) w h.program; few = h.few; within = tt }
     by_cases false true e =
-        let below : length s.lines < 4096 = ltb-true (length s.lines) lines_most e in
-        let room : length s.lines + 1 ≤ 4096 = omega arith in
+        let below : length s.lines < lines_most = ltb-true (length s.lines) lines_most e in
+        let room : length s.lines + 1 ≤ lines_most = omega arith in
         record { program = h.program; few = rw (inserted_few at line s.lines p) room; within = rw (inserted_few at line s.lines p) (omega arith) }
     by_cases false false e = still_open s (tell d illegal) (quiet_tell d illegal) w h
 
@@ -201,7 +202,7 @@ done_after d a s (Insert at) w e p h = record { program = quiet_there s.program 
 done_after d a s (Delete from to) w e p h =
     let P : Option ℕ → Type 0 = λ q. IfSome q (λ at. at ≤ length (take from s.lines ++ drop to s.lines)) in
     let fewer : length (take from s.lines ++ drop to s.lines) ≤ length s.lines = removed_few from to s.lines p.0 p.1 in
-    let few : length s.lines ≤ 4096 = h.few in
+    let few : length s.lines ≤ lines_most = h.few in
     record { program = quiet_there s.program (tell d deleted_reply) (quiet_tell d deleted_reply) w h.program; few = omega arith; within = subst P (sym e) tt }
 done_after d a s (Show from to) w e p h = still_open s _ (quiet_lines_shown d _) w h
 done_after d a s Compile w e p h = by_verdict (verdict w.objects a (Edit s.program))

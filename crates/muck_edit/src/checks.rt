@@ -4,7 +4,7 @@ ghost use Rattle.muck_perm.specs.inner.Guards.{world_of};
 ghost use Rattle.spec_commands.specs.Editing.{is_between, is_open};
 
 use cmd_common::is_program;
-use muck_model::EditState;
+use muck_model::{EditState, LINES_MOST};
 use muck_perm::Guard;
 
 // Whether lines are inserted between the lines, where they are.
@@ -21,5 +21,5 @@ fn is_between(state: &EditState) -> bool
 pub fn is_open(guard: &Guard, state: &EditState) -> bool
     ensures { result ≡ is_open state.now (world_of guard.now) }
 {
-    is_program(guard, state.program) && (state.lines.len() <= 4096 && is_between(state))
+    is_program(guard, state.program) && (state.lines.len() <= LINES_MOST && is_between(state))
 }

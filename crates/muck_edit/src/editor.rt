@@ -10,12 +10,9 @@ use crate::keeping::{compile, quit};
 use crate::lines::{insert_line, remove_lines};
 use crate::showing::tell_illegal;
 use cmd_common::show_lines;
-use muck_model::{EditState, Line, NoMemory};
+use muck_model::{EditState, LINES_MOST, Line, NoMemory};
 use muck_perm::Guard;
 use spec_commands::{EditCommand, EditStep};
-
-// The most lines of a program.
-const LINES_MOST: usize = 4096;
 
 /// An editor of a program: its program, the lines so far, and where lines are being inserted.
 #[derive(Drop)]

@@ -1,6 +1,6 @@
 -- What was written of a script so far.
 use Rattle.std.specs.Prelude.{OnErr, Result, Ok, Err}
-use Rattle.std.proofs.Common.{◌≡◌, true, false, ℕ, ◌+◌, ◌<◌, ◌≤◌, List, [], ◌∷◌, ◌++◌, length, take, drop, get_or, take-append-drop, Option, Some, None, refl, sym, ◌∙◌, ap, subst, append_assoc, append-nil}
+use Rattle.std.proofs.Common.{◌≡◌, true, false, ℕ, ◌+◌, ◌<◌, ◌≤◌, List, [], ◌∷◌, ◌++◌, length, take, drop, get_or, take-append-drop, Option, refl, sym, ◌∙◌, ap, subst, append_assoc, append-nil}
 use Rattle.std.proofs.Math.ListN.{drop_of_length-le}
 use Rattle.std.proofs.lemmas.List.{drop_more}
 use Rattle.std.proofs.Math.Seq.{take-append_seam}
@@ -18,13 +18,6 @@ pub record SoFar (acts rest : List Act) (bodies : List (List ℕ)) (m n : Mirror
   pub part : List ℕ
   pub whole : part ++ replies rest bodies n ≡ replies acts bodies m
   pub written : Appends before now part
-
-appends_nothing : (o : Option (List ℕ)) → Appends o o []
-appends_nothing None = tt
-appends_nothing (Some w) = ap Some (sym (append-nil w))
-
-pub nothing_yet : (acts : List Act) (bodies : List (List ℕ)) (m : Mirror) (o : Option (List ℕ)) → SoFar acts acts bodies m m o o
-nothing_yet acts bodies m o = record { part = []; whole = refl; written = appends_nothing o }
 
 next_replies : (act : Act) (acts : List Act) (bodies : List (List ℕ)) (m : Mirror) → replies (act ∷ acts) bodies m ≡ reply_of act bodies m ++ replies acts bodies (left_by act bodies m)
 unfolding replies

@@ -53,7 +53,7 @@ line_is_text : (line : List ℕ) → IsLineSoFar line → text_fault line ≡ No
 unfolding line_most
 line_is_text line h =
     ap (λ t. model.fault_of (cond t (Some (position_or_len is_outside line)) None) (length line)) (not_below _ _ (none_outside line h.0))
-    ∙ ap (λ t. if t then Some text_most else None) (not_above (length line) 4096 (omega (arith, h.1)))
+    ∙ ap (λ t. if t then Some text_most else None) (not_above (length line) text_most (omega (arith, h.1)))
   where
     not_below : (n most : ℕ) → n ≡ most → nat_lt n most ≡ false
     not_below n most e = grind arith

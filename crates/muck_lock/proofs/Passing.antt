@@ -170,10 +170,6 @@ is_fault names size (Group ∷ k) lock b rest stays a o =
 is_fault names size (Both f ∷ k) lock b rest stays a o = absurd (false≢true (sym a ∙ not-false (b == 38) stays))
 is_fault names size (Either f ∷ k) lock b rest stays a o = absurd (let e : not (b == 38) && not (b == 124) ≡ true = rw (a, o) refl in false≢true (sym stays ∙ e))
 
--- At the end of the text a lock is whole, unless a `(` waits.
-is_done : (names : Naming) (size : ℕ) (lock : Lock) → whole size (resumed names [] Term (Ok (lock, []))) ≡ Ok lock
-is_done names size lock = refl
-
 is_open : (names : Naming) (size : ℕ) (w : Waiting) (k : List Waiting) (lock : Lock) → LastStays None (w ∷ k)
     → whole size (resumed names (w ∷ k) Term (Ok (lock, []))) ≡ Err size
 is_open names size Not k lock stays = absurd (false≢true (sym stays))

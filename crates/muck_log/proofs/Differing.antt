@@ -7,6 +7,7 @@ use Rattle.std.proofs.lemmas.Bool.{or_parts, or_from, not-false, not_from_true, 
 use Rattle.std.proofs.lemmas.List.Elements.{All-get_or}
 use Rattle.std.proofs.lemmas.Option.{slice_get_within, get_or_from_slice_get}
 use Rattle.std.proofs.lemmas.Slice.Eq.{bytes_eq-Decides}
+use Rattle.muck_model.specs.Bytes.{lines_most}
 use Rattle.spec_live.specs.Objects.{index_of}
 use Rattle.muck_codec.specs.declared.stored.Stored.{Stored}
 use Rattle.muck_codec.specs.Spelling.{spelling}
@@ -16,7 +17,7 @@ use Rattle.muck_store.specs.inner.Changes.{IsKept}
 use Rattle.muck_log.specs.World.{kept_of, differs}
 
 abbrev pub differs_from : Stored → Stored → Bool
-differs_from o kept = nat_lt 4096 (length kept.lines) || not (bytes_eq (spelling kept) (spelling o))
+differs_from o kept = nat_lt lines_most (length kept.lines) || not (bytes_eq (spelling kept) (spelling o))
 
 pub differs_by : (objects : List Stored) (o : Stored) (found : Option Stored) → kept_of objects o ≡ found → differs objects o ≡ option_map_or (differs_from o) found true
 unfolding differs
@@ -24,11 +25,11 @@ differs_by objects o found is = ap (λ (x : Option Stored). option_map_or (diffe
 
 pub equals : (o r : Stored) → IsStored r → IsStored o → differs_from o r ≡ false → r ≡ o
 equals o r one two e =
-    same_record r o one two ((bytes_eq-Decides (spelling r) (spelling o)).0 (not-false (bytes_eq (spelling r) (spelling o)) (or_parts (nat_lt 4096 (length r.lines)) (not (bytes_eq (spelling r) (spelling o))) e).1))
+    same_record r o one two ((bytes_eq-Decides (spelling r) (spelling o)).0 (not-false (bytes_eq (spelling r) (spelling o)) (or_parts (nat_lt lines_most (length r.lines)) (not (bytes_eq (spelling r) (spelling o))) e).1))
 
 itself : (o : Stored) → IsStored o → differs_from o o ≡ false
 itself o is =
-    or_from (nat_lt 4096 (length o.lines)) (not (bytes_eq (spelling o) (spelling o))) (le-ltb 4096 (length o.lines) is.lines.0.1)
+    or_from (nat_lt lines_most (length o.lines)) (not (bytes_eq (spelling o) (spelling o))) (le-ltb lines_most (length o.lines) is.lines.0.1)
     (not_from_true (bytes_eq (spelling o) (spelling o)) ((bytes_eq-Decides (spelling o) (spelling o)).1 refl))
 
 another : (o : Stored) (found : Option Stored) → IsStored o → ((r : Stored) → found ≡ Some r → IsStored r) → (found ≡ Some o → ⊥) → option_map_or (differs_from o) found true ≡ true

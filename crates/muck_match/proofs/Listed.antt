@@ -1,6 +1,6 @@
 -- The player of a name, by a list of numbers in which each player stands.
-use Rattle.std.proofs.Common.{◌≡◌, ℕ, zero, suc, ◌<◌, ◌≤◌, ◌+◌, ◌-◌, pos, Bool, true, false, ◌==◌, cond, List, [], ◌∷◌, ◌++◌, Option, Some, None, refl, sym, ◌∙◌, ap, subst, length, map, ◌&&◌, inl, inr, arith}
-use Rattle.std.proofs.lemmas.Bool.{and_parts, false≢true, cases_eq, eqb-true}
+use Rattle.std.proofs.Common.{◌≡◌, ℕ, zero, suc, ◌<◌, ◌≤◌, ◌+◌, ◌-◌, pos, Bool, true, false, ◌==◌, cond, List, [], ◌∷◌, Option, Some, None, refl, sym, ◌∙◌, ap, length, map, ◌&&◌, arith}
+use Rattle.std.proofs.lemmas.Bool.{and_parts, false≢true, eqb-true}
 use Rattle.std.proofs.lemmas.Option.{slice_get_within}
 use Rattle.std.specs.Prelude.{slice_get}
 use Rattle.std.specs.Option.{option_map_or}
@@ -10,7 +10,7 @@ use Rattle.muck_model.specs.Numbers.{numbered, dbref_of}
 use Rattle.muck_match.specs.Words.{is_same}
 use Rattle.muck_match.specs.Scenery.{Scenery, Sight, sees, is_player}
 use Rattle.muck_match.specs.Naming.{one_of, is_player_named, player_named, starred, found_by_sign, found}
-use Rattle.muck_match.specs.inner.Listed.{IsAmong, AreListed}
+use Rattle.muck_match.specs.inner.Listed.{AreListed}
 use Rattle.muck_match.proofs.Candidates.{numbers_from, numbers_step, find_all}
 
 -- the first number at which a test holds
@@ -48,15 +48,8 @@ is_seen name w d e = at (w.sight d) e
 abbrev pub Passed : List ℕ → Scenery → List ℕ → ℕ → ℕ → Type 0
 Passed name w ns index least = (at m : ℕ) → at < index → slice_get ns at ≡ Some m → m < least → is_player_named name w (numbered (pos m)) ≡ false
 
-pub passed_more : (name : List ℕ) (w : Scenery) (ns : List ℕ) (index least lower n : ℕ) → Passed name w ns index least → lower ≤ least → slice_get ns index ≡ Some n → (n < lower → is_player_named name w (numbered (pos n)) ≡ false)
-    → Passed name w ns (index + 1) lower
-passed_more name w ns index least lower n passed le is here at m lt e below = elim (cases_eq at index) [
-  | inl same ↦ let it : n ≡ m = some_same (sym is ∙ ap (slice_get ns) (sym same) ∙ e) in ap (λ (k : ℕ). is_player_named name w (numbered (pos k))) (sym it) ∙ here (omega (arith, it))
-  | inr other ↦ passed at m (omega (arith, other)) e (omega arith)
 ]
   where
-    some_same : {m n : ℕ} → ◌≡◌ {A = Option ℕ} (Some n) (Some m) → n ≡ m
-    some_same e = cc
 
 unnamed : (name : List ℕ) (w : Scenery) (ns : List ℕ) (end least m : ℕ) → AreListed w ns → length ns ≤ end → Passed name w ns end least → m < least → is_player_named name w (numbered (pos m)) ≡ false
 unnamed name w ns end least m listed past passed below = at (is_player_named name w (numbered (pos m))) refl

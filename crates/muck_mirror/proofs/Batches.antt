@@ -12,9 +12,6 @@ use Rattle.muck_mirror.specs.Fronts.{AreBatches, laid_body, or_else_world, front
 use Rattle.muck_mirror.proofs.Numbers.{num, num_zero, num_next, num_later, far_ahead, num_same}
 use Rattle.muck_mirror.proofs.Indices.{Has, Rising, put, cont}
 
-abbrev pub some_bytes : List ℕ → Option (List ℕ)
-some_bytes l = Some l
-
 -- the batch of place i
 pub record BatchAt (g first i : ℕ) (w : World) (bodies : List (List ℕ)) (bytes : List ℕ) : Type 0 where
   pub body : Body

@@ -16,10 +16,6 @@ pub num_later : (first i : ℕ) → num ((first + 1) % 2 ^ 64) i ≡ num first (
 unfolding num
 num_later first i = omega arith
 
-pub num_below : (first i : ℕ) → num first i < 2 ^ 64
-unfolding num
-num_below first i = omega arith
-
 pub far_ahead : (first j i : ℕ) → j ≤ i → i ≤ 2 ^ 63 → (num first i + (2 ^ 64 - num first j)) % 2 ^ 64 ≡ i - j
 unfolding num
 far_ahead first j i le most = omega (arith, le, most)

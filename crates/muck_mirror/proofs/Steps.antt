@@ -37,9 +37,6 @@ module _ (g first : ℕ) (bodies : List (List ℕ)) (small : first < 2 ^ 64) (fe
   abbrev choose : Bool → Bool → Bool → Mirror → Fed × Mirror → Mirror → Fed × Mirror
   choose known next full m n e = if known then (Known, m) else if next then n else if full then (Full, m) else (Early, e)
 
-  abbrev chosen : ℕ → List ℕ → ℕ → ℕ → Fed × Mirror
-  chosen j is i n = body_fed (at j is) (b_at i) n
-
   far_is : (j i : ℕ) → j ≤ i → i < length bodies → ahead (num first j) (b_at i).number ≡ i - j
   unfolding ahead
   far_is j i le lt = ap (λ n. (n + (2 ^ 64 - num first j)) % 2 ^ 64) (number_at g first bodies small few are i lt) ∙ far_ahead first j i le (omega (arith, lt, few))

@@ -1,13 +1,10 @@
 -- Steps of the loops.
-use Rattle.std.proofs.Common.{◌≡◌, ◌≢◌, ℕ, ◌+◌, ◌-◌, ◌<◌, ◌≤◌, eqb, ltb, List, [], ◌∷◌, ◌++◌, length, take, drop, get_or, Option, Some, None, Ok, Err, refl, sym, ◌∙◌, ap, arith, length-drop, append_assoc}
+use Rattle.std.proofs.Common.{◌≡◌, ◌≢◌, ℕ, ◌+◌, ◌-◌, ◌<◌, ◌≤◌, eqb, ltb, List, [], ◌∷◌, ◌++◌, length, take, drop, get_or, Ok, Err, sym, ◌∙◌, ap, arith, length-drop, append_assoc}
 use Rattle.std.proofs.lemmas.List.{drop_more, take_more}
 use Rattle.std.proofs.Math.ListN.{drop_of_length-le}
 use Rattle.std.proofs.lemmas.Bool.{cond-true, cond-false, eq-eqb, ne_eqb, lt-ltb, le-ltb}
-use Rattle.muck_log.specs.World.{World}
-use Rattle.muck_mirror.specs.Laying.{laid_in}
 use Rattle.muck_mirror.specs.Bodies.{Body, literal_at}
-use Rattle.muck_log.specs.File.{after_number}
-use Rattle.muck_mirror.specs.Mirrors.{Come, ahead, followed, kept_with}
+use Rattle.muck_mirror.specs.Mirrors.{ahead, kept_with}
 
 -- Literals.
 
@@ -38,30 +35,6 @@ literal_end wanted bytes i le = ap (λ l. literal_at l (drop i bytes)) (drop_of_
 
 item : (kept : List Body) (i : ℕ) (k : Body) → i < length kept → k ≡ get_or kept i k → drop i kept ≡ k ∷ drop (i + 1) kept
 item kept i k lt is = drop_more kept i k lt ∙ ap (λ x. x ∷ drop (i + 1) kept) (sym is)
-
-abbrev pub come_at : ℕ → World → List Body → Come
-come_at next w kept = record { next = next; world = w; kept = kept }
-
-pub followed_none : (kept : List Body) (next : ℕ) (w : World) → kept ≡ [] → followed kept next w ≡ come_at next w kept
-unfolding followed
-followed_none kept next w none = ap (λ l. followed l next w) none ∙ ap (come_at next w) (sym none)
-
-pub followed_other : (kept rest : List Body) (k : Body) (next : ℕ) (w : World) → kept ≡ k ∷ rest → k.number ≢ next → followed kept next w ≡ come_at next w kept
-unfolding followed
-followed_other kept rest k next w is other = ap (λ l. followed l next w) is ∙ cond-false (eqb k.number next) _ _ (ne_eqb _ _ other) ∙ ap (come_at next w) (sym is)
-
-abbrev pub laid_next : List Body → ℕ → World → Option World → Come
-laid_next kept next w None = come_at next w kept
-laid_next kept next w (Some v) = followed kept (after_number next) v
-
-pub followed_next : (kept rest : List Body) (k : Body) (next : ℕ) (w : World) (o : Option World) → kept ≡ k ∷ rest → k.number ≡ next → laid_in k.version k.payload w ≡ o
-    → followed kept next w ≡ laid_next rest next w o
-unfolding followed
-followed_next kept rest k next w o is same lays = ap (λ l. followed l next w) is ∙ cond-true (eqb k.number next) _ _ (eq-eqb _ _ same) ∙ by (laid_in k.version k.payload w) ∙ ap (laid_next rest next w) lays
-  where
-    by : (o : Option World) → elim o as (λ _. Come) [ None ↦ come_at next w rest | Some v ↦ followed rest (after_number next) v ] ≡ laid_next rest next w o
-    by None = refl
-    by (Some v) = refl
 
 -- Where a body stands.
 

@@ -11,7 +11,7 @@ use Rattle.mpi.specs.Hosting.{Means}
 use Rattle.spec_live.specs.Objects.{Entry}
 use Rattle.spec_mpi.specs.Telling.{sign_in, signs_in}
 use Rattle.muck_mpi.specs.inner.Signing.{signs_behind}
-use Rattle.muck_model.specs.Bytes.{text_fault}
+use Rattle.muck_model.specs.Bytes.{text_fault, text_most}
 use Rattle.muck_model.specs.declared.dbref.Flags.{Flags}
 use Rattle.spec_live.specs.Flags.{has_flag, flag_of}
 use Rattle.spec_live.specs.Seen.{flag_letters}
@@ -88,8 +88,8 @@ pub long_signs : (es : List Entry) (ds : List Dbref) (text more : List ℕ) → 
 unfolding is_long
 long_signs es ds text more h l =
     let whole : 4097 < length (signs_behind es ds) = omega (arith, length-append text more, ap length h, l) in
-    let long : 4096 < length (drop 1 (signs_behind es ds)) = omega (arith, length-drop 1 (signs_behind es ds), whole) in
-    ap text_or_long (signs_in_are es ds) ∙ ap (λ b. cond b (Err TooLong) (Ok (drop 1 (signs_behind es ds)))) (lt-ltb 4096 (length (drop 1 (signs_behind es ds))) long)
+    let long : text_most < length (drop 1 (signs_behind es ds)) = omega (arith, length-drop 1 (signs_behind es ds), whole) in
+    ap text_or_long (signs_in_are es ds) ∙ ap (λ b. cond b (Err TooLong) (Ok (drop 1 (signs_behind es ds)))) (lt-ltb text_most (length (drop 1 (signs_behind es ds))) long)
 
 pub all_signs : (es : List Entry) (ds : List Dbref) (text seen : List ℕ) (rest : List Dbref) (r : Result (List ℕ) MpiFault) → rest ≡ [] → seen ≡ text → text ++ signs_behind es rest ≡ signs_behind es ds → Means (text_or_long (drop 1 seen)) r → Means (text_or_long (signs_in es ds)) r
 unfolding signs_behind

@@ -58,7 +58,7 @@ short : (out : List ℕ) (b n : ℕ) → length out + n ≤ 4095 → is_long (ou
 unfolding is_long
 short out b n h = le-ltb _ _ (omega (arith, h, length-append out (b ∷ [])))
 
-spelled_plain : {S : Type 0} (go : List ℕ → Thought S (List ℕ)) (out text : List ℕ) (s : State S) → is_plain text ≡ true → length out + length text ≤ 4096 → spelled go out (pieces text) s ≡ (Ok (out ++ text), s)
+spelled_plain : {S : Type 0} (go : List ℕ → Thought S (List ℕ)) (out text : List ℕ) (s : State S) → is_plain text ≡ true → length out + length text ≤ text_most → spelled go out (pieces text) s ≡ (Ok (out ++ text), s)
 spelled_plain go out [] s h few = spelled_end go out s ∙ ap (λ t. (Ok t, s)) (sym (append-nil out))
 spelled_plain go out (b ∷ more) s h few =
     spelled_byte go out b more more b s (first_plain b more (all_head is_plain_byte b more h)) (short out b (length more) (omega (arith, few)))

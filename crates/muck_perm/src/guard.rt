@@ -2,6 +2,7 @@
 ghost use Rattle.std.specs.Prelude.{◌≡◌, ◌≤◌, IfOk, None, length, true, min};
 ghost use Rattle.std.specs.Option.{option_copied, option_and_then, option_map};
 ghost use Rattle.std.specs.FinMap.{get};
+ghost use Rattle.muck_model.specs.Bytes.{lines_most};
 ghost use Rattle.muck_model.specs.declared.dbref.Kind.{Kind};
 ghost use Rattle.muck_prop.specs.Paths.{class_of};
 ghost use Rattle.spec_live.specs.Objects.{dbref_of, nothing, home, object_at};
@@ -326,7 +327,7 @@ impl<'a> Guard<'a> {
     #[tactic(auto, using(crate::proofs::Guarding::makes_lines))]
     pub fn set_lines(&mut self, pass: Pass, program: Dbref, lines: LineList) -> Result<(), DbFault>
         requires leave { IsLeave pass (Act.Edit program) self.old }
-        requires few { length lines ≤ 4096 }
+        requires few { length lines ≤ lines_most }
         ensures { Makes (lines_kept program lines) (lines_check program (objects_of self.old)) self.old self.new result }
     {
         let _ = pass;

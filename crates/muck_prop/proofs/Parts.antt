@@ -112,7 +112,3 @@ at_text text es kept free = by_cases (lookup (λ path. path_eq path (segments_of
 
 pub at_barred : (text : List ℕ) (found : Option PropValue) → list_any is_barred text ≡ true → ◌≡◌ {A = Option PropValue} None (option_map_or (λ fault. None) (path_fault text) found)
 at_barred text found h = rw h refl
-
--- the first entry
-pub found_here : {X : Type 0} (test : List (List ℕ) → Bool) (entries more : List (List (List ℕ) × X)) (path : List (List ℕ)) (value : X) → entries ≡ (path, value) ∷ more → test path ≡ true → lookup test entries ≡ Some value
-found_here {X} test entries more path value e h = ap (λ (z : List (List (List ℕ) × X)). lookup test z) e ∙ ap (λ b. cond b (Some value) (lookup test more)) h

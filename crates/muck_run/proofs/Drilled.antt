@@ -7,14 +7,14 @@ use Rattle.muck_model.specs.declared.event.Entry.{Entry}
 use Rattle.muck_model.specs.declared.event.Event.TheVariants.{Died}
 use Rattle.spec_events.specs.World.{World, starting, booted}
 use Rattle.spec_events.specs.Steps.{effect}
-use Rattle.spec_events.specs.Histories.{History, after, now, entered, by_porter, AllLawful}
+use Rattle.spec_events.specs.Histories.{History, after, now, by_porter}
 use Rattle.spec_events.proofs.Runs.{after-append, now-longer}
 use Rattle.muck_script.specs.declared.act.Act.{Act}
 use Rattle.muck_script.specs.declared.act.Act.TheVariants.{Send}
 use Rattle.muck_script.specs.Lines.{is_line_feed}
 use Rattle.muck_script.specs.Story.{Dumped, stored, failed, next_outcome, dump_entries, outcomes_of, told, text_of, lines_story, transcript}
-use Rattle.muck_run.specs.Drill.{describing, round, rounds, summary, objects_in, drill_script, IsDrillFront, BrokeDrill}
-use Rattle.muck_run.specs.inner.Drills.{fresh, IsPlayedAs, IsDrilledAs, IsCutShort, IsDrillDead}
+use Rattle.muck_run.specs.Drill.{describing, round, rounds, summary, objects_in, drill_script, IsDrillFront}
+use Rattle.muck_run.specs.inner.Drills.{fresh, IsPlayedAs, IsDrilledAs, IsCutShort}
 use Rattle.spec_live.specs.Boards.{early_board}
 use Rattle.muck_run.specs.inner.Opens.{all_within, Opens}
 use Rattle.muck_run.specs.declared.playing.RunFault.{RunFault}
@@ -212,35 +212,8 @@ broke_at n h k a b WriteFault is p = record {
 pub broke_short : (n : ℕ) (acts : List Act) (h k : History) (a b : Option (List ℕ)) (fault : RunFault) → acts ≡ drill_script n → h ≡ fresh → Breaks (lines_story acts) (ending_of fault) h k a b → IsCutShort n k
 broke_short n acts h k a b fault is_acts is p = broke_at n h k a b fault is (subst (λ (x : List Act). Breaks (lines_story x) (ending_of fault) h k a b) is_acts p)
 
--- the world found the want of memory itself
-pub dead_short : (n : ℕ) (h : History) → (now h).dead ≡ true → IsCutShort n h → IsDrillDead n h
-dead_short n h dead s = record {
-  start = s.start;
-  front = s.front;
-  is = s.is;
-  entries = elim s.wanted [
-    | inl w ↦ let both = sym w.1 ∙ dead in cc
-    | inr w ↦ w.0
-  ];
 }
 
--- or it is told
-pub lost_short : (n : ℕ) (h k : History) → (now h).dead ≡ false → k ≡ entered h (by_porter Died) → IsCutShort n h → IsDrillDead n k
-lost_short n h k alive is s = record {
-  start = ap (λ (x : History). x.start) is ∙ s.start;
-  front = s.front;
-  is = s.is;
-  entries = elim s.wanted [
-    | inl w ↦ ap (λ (x : History). x.entries) is ∙ ap (λ es. es ++ by_porter Died ∷ []) w.0
-    | inr w ↦ let both = sym w.1 ∙ alive in cc
-  ];
 }
 
--- the tale of such a drill
-pub broke_drill : (n : ℕ) (h : History) (tale : List Entry) → IsDrillDead n h → tale ≡ h.entries → AllLawful h.start tale → BrokeDrill n tale
-broke_drill n h tale d is lawful = record {
-  lawful = subst (λ (w : World). AllLawful w tale) d.start lawful;
-  front = d.front;
-  is = d.is;
-  history = is ∙ d.entries;
 }

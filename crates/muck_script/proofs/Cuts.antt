@@ -1,5 +1,5 @@
 -- Lemmas on lines and on reading them.
-use Rattle.std.proofs.Common.{◌≡◌, ℕ, ◌+◌, ◌<◌, true, false, not, cond, List, [], ◌∷◌, ◌++◌, length, take, drop, refl, sym, ◌∙◌, ap, arith, suc, append_assoc, Option, Some, None, Result, Ok, Err}
+use Rattle.std.proofs.Common.{◌≡◌, ℕ, ◌+◌, ◌<◌, true, false, not, cond, List, [], ◌∷◌, ◌++◌, length, take, drop, refl, sym, ◌∙◌, ap, arith, suc, Option, Some, None, Result, Ok, Err}
 use Rattle.std.proofs.lemmas.List.{drop-drop}
 use Rattle.std.specs.List.{position_or_len, onto_first}
 use Rattle.muck_script.specs.Lines.{is_line_feed, lines_of}
@@ -36,20 +36,6 @@ line_cut (b ∷ bytes) line rest at e h p q = first_line b bytes ∙ rw (p, q, e
 abbrev pub with_all : List Act → Result (List Act) ℕ → Result (List Act) ℕ
 with_all front (Ok acts) = Ok (front ++ acts)
 with_all front (Err n) = Err n
-
-pub with_all-with_first : (front : List Act) (act : Act) (n : ℕ) (rest : Result (List Act) ℕ) → with_all (front ++ act ∷ []) rest ≡ with_all front (with_first (Some act) n rest)
-with_all-with_first front act n (Ok acts) = ap Ok (append_assoc front (act ∷ []) acts)
-with_all-with_first front act n (Err m) = refl
-
--- a line that is read
-pub goes_on : (front : List Act) (act : Act) (n : ℕ) (asked : Option Act) (line rest : List ℕ) (bytes : List ℕ) (all : Result (List Act) ℕ) →
-    lines_of bytes ≡ line ∷ lines_of rest → act_of line ≡ Some act →
-    with_all front (acts_from n (lines_of bytes)) ≡ all →
-    with_all (front ++ act ∷ []) (acts_from (n + 1) (lines_of rest)) ≡ all
-goes_on front act n asked line rest bytes all e a h =
-    with_all-with_first front act n (acts_from (n + 1) (lines_of rest))
-    ∙ ap (λ o. with_all front (with_first o n (acts_from (n + 1) (lines_of rest)))) (sym a)
-    ∙ ap (λ ls. with_all front (acts_from n ls)) (sym e) ∙ h
 
 -- a line that is outside
 pub stops : (front : List Act) (n : ℕ) (line rest bytes : List ℕ) (all : Result (List Act) ℕ) →

@@ -5,7 +5,7 @@ use Rattle.std.proofs.lemmas.Bool.{cond-true, cond-false, le-ltb, leb-true, and_
 use Rattle.std.proofs.lemmas.Bool.Decides.{nat_tests}
 use Rattle.std.proofs.lemmas.List.{take_all}
 use Rattle.std.specs.List.{position, position_or_len, list_all, slice_get}
-use Rattle.muck_model.specs.Bytes.{is_outside, fault_of, text_fault}
+use Rattle.muck_model.specs.Bytes.{is_outside, fault_of, text_fault, text_most}
 use Rattle.muck_links.specs.declared.cutter.Mode.TheVariants.{Plain, Command}
 use Rattle.muck_links.specs.Lines.{is_shown, bare, onto_first, pieces, only_shown, line_most, text as shown_text, lines}
 use Rattle.muck_links.specs.inner.Cutting.{Cut, fresh, fed}
@@ -31,7 +31,7 @@ pub plain_text : (text : List ℕ) → is_plain text ≡ true → text_fault tex
 unfolding line_most
 plain_text text e =
     let parts = and_parts (list_all is_shown text) _ e in
-    ap (λ o. fault_of o (length text)) (no_position text parts.0) ∙ cond-false (ltb 4096 (length text)) _ _ (le-ltb _ _ (omega (arith, leb-true (length text) 2048 parts.1)))
+    ap (λ o. fault_of o (length text)) (no_position text parts.0) ∙ cond-false (ltb text_most (length text)) _ _ (le-ltb _ _ (omega (arith, leb-true (length text) 2048 parts.1)))
 
 -- It comes as it is.
 

@@ -23,11 +23,6 @@ left_filter test misses (leaves o kept rest) = rw (misses o kept) (left_filter t
 
 -- What holds of all of them holds of the records; and the other way round, where it holds of what is kept.
 
-pub left_all : {base all records : List Stored} (P : Stored → Type 0) → LeavesOut base all records → All P all → All P records
-left_all P none h = h
-left_all P (takes o {all} {records} rest) h = All-cons P o records (All-head P o all h) (left_all P rest (All-tail P o all h))
-left_all P (leaves o {all} kept rest) h = left_all P rest (All-tail P o all h)
-
 pub left_whole : {base all records : List Stored} (P : Stored → Type 0) → ((o : Stored) → IsKept base o → P o) → LeavesOut base all records → All P records → All P all
 left_whole P stands none h = h
 left_whole P stands (takes o {all} {records} rest) h = All-cons P o all (All-head P o records h) (left_whole P stands rest (All-tail P o records h))

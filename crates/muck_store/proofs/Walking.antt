@@ -7,7 +7,7 @@ use Rattle.spec_live.specs.Chain.{has}
 use Rattle.spec_live.specs.Objects.{is_garbage}
 use Rattle.muck_codec.specs.declared.stored.Stored.{Stored}
 use Rattle.muck_store.specs.Forms.{next_at}
-use Rattle.muck_store.specs.Whole.{stands_in, chain_met, list_met, held_met, all_met, is_tree}
+use Rattle.muck_store.specs.Whole.{stands_in, chain_met, held_met, all_met, is_tree}
 
 -- One list.
 
@@ -68,12 +68,6 @@ unfolding rest_met
 rest_ends os exits p start at met e = chain_ends (start + (length os - length met)) os exits p at met e
 
 -- The two lists of one object.
-
-pub held_then : (os : List Stored) (p : ℕ) (met more : List ℕ) → list_met os false p met ≡ Some more → held_met os p met ≡ list_met os true p more
-held_then os p met more e = ap (option_and_then (list_met os true p)) e
-
-pub held_stops : (os : List Stored) (p : ℕ) (met : List ℕ) → list_met os false p met ≡ None → held_met os p met ≡ None
-held_stops os p met e = ap (option_and_then (list_met os true p)) e
 
 -- All lists.
 

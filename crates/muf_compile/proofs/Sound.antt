@@ -116,8 +116,3 @@ grow_written line Repeat g rs i h = repeat_written line g g.now g.around rs h
 grow_written line Until g rs i h = until_written line g g.now g.around rs h
 grow_written line (End n) g rs i h = absurd i
 grow_written line (Offer n o) g rs i h = absurd i
-
--- where nothing is open, the items are written in these acts
-pub all_written : (now : Block) (us : List Unfinished) (rs : List Reading) → Written now us rs → us ≡ [] → Spells false now rs
-all_written now us rs (at_top s) e = s
-all_written now us rs _ e = cc

@@ -2,7 +2,7 @@
 use Rattle.std.proofs.Common.{◌≡◌, ℕ, ◌+◌, ◌≤◌, Bool, true, false, cond, List, [], ◌∷◌, ◌++◌, length, Option, Some, None, refl, ap, arith, length-append, subst, ◌∙◌}
 use Rattle.std.specs.Prelude.{option_map, ◌==◌}
 use Rattle.std.proofs.lemmas.Bool.Decides.{Decides-eqb}
-use Rattle.muck_model.specs.Bytes.{text_fault}
+use Rattle.muck_model.specs.Bytes.{text_fault, text_most}
 use Rattle.muf_token.specs.inner.Bytes.{are_inside}
 use Rattle.muf_token.proofs.Texts.{inside_text, text_inside, inside_head, inside_tail, inside_cons}
 use Rattle.muf_compile.specs.Reading.{before_bracket}
@@ -45,7 +45,7 @@ inside_front [] ys h = refl
 inside_front (b ∷ xs) ys h = inside_cons b xs (inside_head b (xs ++ ys) h) (inside_front xs ys (inside_tail b (xs ++ ys) h))
 
 -- the front of a text is a text
-pub text_front : (word name : List ℕ) (b : ℕ) → word ≡ name ++ b ∷ [] → text_fault word ≡ None → length word ≤ 4096 → text_fault name ≡ None
+pub text_front : (word name : List ℕ) (b : ℕ) → word ≡ name ++ b ∷ [] → text_fault word ≡ None → length word ≤ text_most → text_fault name ≡ None
 text_front word name b e h l =
     let i : are_inside word ≡ true = inside_text word h in
     let j : are_inside (name ++ b ∷ []) ≡ true = subst (λ w. are_inside w ≡ true) e i in

@@ -1,7 +1,7 @@
 -- How the data of a frame follows its values.
-use Rattle.std.proofs.Common.{◌≡◌, ◌≤◌, ℕ, ◌+◌, ◌-◌, None, arith, List, [], ◌∷◌, ◌++◌, length, map, take, drop, zero, suc, refl, ap, sym, ◌∙◌}
+use Rattle.std.proofs.Common.{◌≡◌, ◌≤◌, ℕ, ◌+◌, ◌-◌, arith, List, [], ◌∷◌, ◌++◌, length, map, take, drop, zero, suc, refl, ap, sym, ◌∙◌}
 use Rattle.std.proofs.lemmas.List.{length-map, map-set, set_past, take-replicate}
-use Rattle.std.proofs.lemmas.Option.{slice_get-map, slice_get_past}
+use Rattle.std.proofs.lemmas.Option.{slice_get-map}
 use Rattle.std.specs.Prelude.{slice_get}
 use Rattle.std.specs.Prelude.{pos}
 use Rattle.muf_model.specs.declared.value.Value.{Value}
@@ -44,9 +44,6 @@ pub get_drop : {A : Type 0} → (n k : ℕ) (xs : List A) → slice_get (drop n 
 get_drop zero k xs = let e : 0 + k ≡ k = omega arith in rw e refl
 get_drop (suc n) k [] = refl
 get_drop (suc n) k (x ∷ xs) = let e : suc n + k ≡ suc (n + k) = omega arith in rw e (get_drop n k xs)
-
-pub get_past : {A : Type 0} → (n k : ℕ) (xs : List A) → length xs ≤ n + k → slice_get (drop n xs) k ≡ None
-get_past n k xs h = get_drop n k xs ∙ slice_get_past xs (n + k) h
 
 fitted_more : (n m : ℕ) (vs : List Datum) → n ≤ m → take n (vs ++ zeros m) ≡ take n vs ++ zeros (n - length (take n vs))
 fitted_more zero m vs h = refl

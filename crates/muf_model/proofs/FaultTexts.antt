@@ -6,7 +6,7 @@ use Rattle.std.specs.Int.Digits.{AllBelowBase, digits_of}
 use Rattle.std.proofs.lemmas.Bool.{le-ltb}
 use Rattle.std.proofs.lemmas.Fmt.{decimal-digits_of, decimal_digit, length-decimal-le}
 use Rattle.std.proofs.lemmas.Int.Digits.{all_below_base_digits_of}
-use Rattle.muck_model.specs.Bytes.{is_outside, text_fault}
+use Rattle.muck_model.specs.Bytes.{is_outside, text_fault, text_most}
 use Rattle.muf_model.specs.declared.fault.MufFault.TheVariants.{Denied}
 use Rattle.muf_model.specs.Faults.{text_of}
 
@@ -42,10 +42,10 @@ inside-decimal zero l = rw (decimal_digit 0 (omega arith)) refl
 inside-decimal (suc n) l =
     rw (decimal-digits_of (suc n) (omega arith) (omega (arith, l))) (inside-digits (digits_of 10 (suc n)) (all_below_base_digits_of 10 (suc n) (omega arith)))
 
-pub from_inside : (xs : List ℕ) → IsInside xs → length xs ≤ 4096 → text_fault xs ≡ None
+pub from_inside : (xs : List ℕ) → IsInside xs → length xs ≤ text_most → text_fault xs ≡ None
 from_inside xs h le =
     let past : length xs ≤ position_or_len is_outside xs = omega (arith, h) in
-    rw (le-ltb (position_or_len is_outside xs) (length xs) past, le-ltb 4096 (length xs) le) refl
+    rw (le-ltb (position_or_len is_outside xs) (length xs) past, le-ltb text_most (length xs) le) refl
 
 pub denied_is_text : (rule : ℕ) → rule < 2 ^ 8 → text_fault (text_of (Denied rule)) ≡ None
 denied_is_text rule l =

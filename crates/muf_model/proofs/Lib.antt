@@ -1,7 +1,6 @@
 mod Entries
 pub mod Decoded
 pub mod FaultTexts
-pub mod Settling
 pub mod Standing
 pub mod Nesting
 pub mod Sized

@@ -1,6 +1,6 @@
 -- A unit keeps a state nested, and is never stuck there.
-use Rattle.std.proofs.Common.{◌≡◌, inl, inr, ◌⊎◌, ℕ, zero, suc, ◌+◌, ◌-◌, List, [], ◌∷◌, ◌++◌, take, reverse, drop, Bool, true, false, cond, refl, sym, ap, ◌∙◌, subst}
-use Rattle.std.specs.Prelude.{length, nat_lt, pos, negsuc, Option, Some, None, slice_get, slice_set}
+use Rattle.std.proofs.Common.{◌≡◌, inl, inr, ◌⊎◌, ℕ, zero, suc, ◌+◌, ◌-◌, List, [], ◌∷◌, ◌++◌, take, reverse, drop, Bool, true, false, cond, refl, sym, ◌∙◌, subst}
+use Rattle.std.specs.Prelude.{length, nat_lt, pos, negsuc, Some, None, slice_get, slice_set}
 use Rattle.muf_model.specs.declared.code.Word.{Word}
 use Rattle.muf_model.specs.declared.code.Word.TheVariants.{Literal, Variable, Address, Primitive, Call, Bind, Store, Exit, Break, Continue, While, NextIndex, NextPair}
 use Rattle.muf_model.specs.declared.code.Closer.{Closer}
@@ -10,11 +10,11 @@ use Rattle.muf_model.specs.declared.fault.MufFault.TheVariants.{StackEmpty, Call
 use Rattle.muf_model.specs.declared.prims.Primitive.{Primitive as Name}
 use Rattle.muf_model.specs.Prims.{is_local}
 use Rattle.muf_model.specs.Faults.{is_final}
-use Rattle.muf_model.specs.Datum.{Datum, int, text, object, variable, address, lock, items, dict, mark}
+use Rattle.muf_model.specs.Datum.{Datum, int, variable, address, items, dict}
 use Rattle.muf_model.specs.Answer.{Answer, gives, stores, calls, refuses, owned_first, call_first, too_few, needing, fitting}
 use Rattle.muf_model.specs.Rows.{primitive}
-use Rattle.muf_model.specs.Tree.{Fork, if_word, try_word, Ring, begin_word, for_word, each_word, Block, stop, word, when, fork, ring, End, closes, hops, then_block, Definition}
-use Rattle.muf_model.specs.inner.Nesting.{Place, outside, inside, counting, keying, turn_of, behind, IsFree, MayStand, EndsTurn, NestedBlock, NestedWords, NestedTree}
+use Rattle.muf_model.specs.Tree.{Fork, if_word, try_word, begin_word, for_word, each_word, Block, stop, word, when, fork, ring, End, closes, hops, then_block, Definition}
+use Rattle.muf_model.specs.inner.Nesting.{Place, outside, inside, counting, keying, turn_of, behind, IsFree, EndsTurn, NestedBlock, NestedWords, NestedTree}
 use Rattle.muf_model.specs.inner.Nested.{ring_of, place_in, turn_in, NestedItems, NestedEnd, NestedMarks, Nested, StaysNested}
 use Rattle.muf_model.specs.Source.{Turns, plain, indices, pairs, Program, Mark, looping, trying, calling, entering, Source, locked_of, calls_of, with_variable, with_owned, owned_by, scope_of, open_of, called, entered, started, passed, passed_at}
 use Rattle.muf_model.specs.Unit as step
@@ -33,12 +33,6 @@ free_behind outside h = refl
 free_behind inside h = refl
 free_behind counting h = absurd h
 free_behind keying h = absurd h
-
-pub behind_free : (p : Place) → IsFree (behind p)
-behind_free outside = tt
-behind_free inside = tt
-behind_free counting = tt
-behind_free keying = tt
 
 -- items, and others behind them
 pub then_nested : (p : Place) (a b : Block) → NestedBlock p a → NestedBlock (behind p) b → NestedBlock p (then_block a b)

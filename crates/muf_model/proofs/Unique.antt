@@ -11,7 +11,7 @@ use Rattle.muf_model.specs.declared.code.CodeWord.{CodeWord}
 use Rattle.muf_model.specs.declared.code.Code.{Code}
 use Rattle.muf_model.specs.Tree.{Fork, if_word, try_word, Ring, begin_word, for_word, each_word, Block, stop, word, when, fork, ring, End, closes, hops, Definition, Tree}
 use Rattle.muf_model.specs.inner.Stands.{Stands, EndStands, Remains, IsAt, fork_instr, hop_instr, ring_instr, WordStands, WordsStand, TreeStands}
-use Rattle.muf_model.specs.inner.Decode.{block, item, rest, rest_at, before, ending, target_of, placed_at, Rest, remains_at, definition_at, tree_of}
+use Rattle.muf_model.specs.inner.Decode.{block, item, rest, rest_at, before, ending, placed_at, Rest, remains_at, definition_at, tree_of}
 
 module _ (code : List Placed) where
   -- a block stops somewhere
@@ -32,10 +32,6 @@ module _ (code : List Placed) where
 
   hop_at : (k : Fork) (mid to end p : ℕ) → p + 1 ≡ to → IsAt code p mid (hop_instr k end) → placed_at code (to - 1) ≡ record { line = mid; instr = hop_instr k end }
   hop_at k mid to end p e h = let q : to - 1 ≡ p = omega arith in rw (q, h) refl
-
-  hop_target : (k : Fork) (end : ℕ) → target_of (hop_instr k end) ≡ end
-  hop_target if_word end = refl
-  hop_target try_word end = refl
 
   fork_item : (k : Fork) (go : ℕ → ℕ → Block) (place limit line mid to end : ℕ) → placed_at code (to - 1) ≡ record { line = mid; instr = hop_instr k end } → item code go place limit line (fork_instr k to) ≡ fork k line (go (place + 1) (to - 1)) mid (go to end) (go end limit)
   fork_item if_word go place limit line mid to end e = rw e refl

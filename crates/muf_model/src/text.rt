@@ -1,6 +1,6 @@
 // A text that several values share.
 ghost use Rattle.std.specs.Prelude.{◌≡◌, ◌≤◌, None, length, IfOk};
-ghost use Rattle.muck_model.specs.Bytes.{text_fault};
+ghost use Rattle.muck_model.specs.Bytes.{text_fault, text_most};
 
 use muck_model::{Line, NoMemory};
 use std::alloc::Global;
@@ -34,7 +34,7 @@ impl Text {
     /// Its bytes.
     pub fn as_slice(&self) -> &[u8]
         ensures bytes { result.now ≡ self.now }
-        ensures most { length result.now ≤ 4096 }
+        ensures most { length result.now ≤ text_most }
         ensures text { text_fault result.now ≡ None }
     {
         self.line.as_slice()

@@ -1,24 +1,23 @@
 -- How the machine's tests of a stack come out.
-use Rattle.std.proofs.Common.{◌≡◌, ℕ, ◌+◌, ◌≤◌, ◌<◌, List, [], ◌∷◌, length, drop, Option, Some, None, Bool, true, false, refl, sym, ap, subst, ◌∙◌, arith, length-drop, map}
+use Rattle.std.proofs.Common.{◌≡◌, ℕ, ◌+◌, ◌≤◌, List, [], ◌∷◌, length, Option, Some, None, true, false, refl, sym, ap, ◌∙◌, arith, length-drop, map}
 use Rattle.std.specs.Prelude.{is_some}
-use Rattle.std.proofs.lemmas.Bool.{lt-ltb, le-ltb}
+use Rattle.std.proofs.lemmas.Bool.{le-ltb}
 use Rattle.std.specs.Option.{option_map}
 use Rattle.std.proofs.lemmas.List.{length-map}
 use Rattle.muf_model.specs.declared.value.Value.{Value}
 use Rattle.muf_model.specs.inner.View.{view}
-use Rattle.muf_model.specs.declared.fault.MufFault.TheVariants.{CallsFull, BadType, BadArgument}
+use Rattle.muf_model.specs.declared.fault.MufFault.TheVariants.{BadArgument}
 use Rattle.muf_model.specs.Datum.{Datum}
 use Rattle.muf_model.specs.declared.code.Code.{Code}
 use Rattle.muf_model.specs.Answer.{Answer, gives, stores, calls, refuses, variable_at}
-use Rattle.muf_model.specs.Source.{Turns}
-use Rattle.muf_model.specs.inner.Flat.{loop, Flat}
-use Rattle.muf_frame.specs.inner.Shown.{locked_by, opened_by}
+use Rattle.muf_model.specs.inner.Flat.{Flat}
+use Rattle.muf_frame.specs.inner.Shown.{locked_by}
 use Rattle.muf_frame.specs.inner.Answers.{Became}
 use Rattle.muf_frame.specs.inner.Moves.{scope_of, with_variable}
 use Rattle.muf_frame.proofs.Data.{lowest_data, left_data}
 use Rattle.muf_frame.proofs.Ladders.{used_plain}
 use Rattle.muf_run.specs.inner.Machine as machine
-use Rattle.muf_run.specs.inner.Machine.{Next, going}
+use Rattle.muf_run.specs.inner.Machine.{going}
 
 pub ruleset count_steps = (length-drop)
 
@@ -42,26 +41,6 @@ some_kept v None x rest s e = cc
 pub keep_some : (v : ℕ) (s : Flat) (x : Datum) (rest : List Datum) → s.stack ≡ x ∷ rest → locked_by s.marks + 1 ≤ length s.stack → is_some (variable_at v (scope_of 0 s)) ≡ true → machine.keeping v s ≡ going 0 (with_variable v x (record s { stack = rest }))
 keep_some v s x rest t h e =
     rw (le-ltb _ _ h) (ap (λ l. machine.kept v l s) t ∙ some_kept v (variable_at v (scope_of 0 s)) x rest s e)
-
--- FOREACH
-bad_keys : (o : Option Turns) (after : ℕ) (s : Flat) → is_some o ≡ false → machine.each_count o after s ≡ machine.fault BadType s
-bad_keys (Some t) after s e = cc
-bad_keys None after s e = refl
-
-pub each_bad : (after : ℕ) (s : Flat) → locked_by s.marks + 1 ≤ length s.stack → is_some (machine.keys_at s.stack) ≡ false → machine.open_each after s ≡ machine.fault BadType s
-each_bad after s h e = rw (le-ltb _ _ h) (bad_keys (machine.keys_at s.stack) after s e)
-
-full_keys : (o : Option Turns) (after : ℕ) (s : Flat) → is_some o ≡ true → 512 ≤ opened_by s.marks → machine.each_count o after s ≡ machine.fault CallsFull s
-full_keys (Some t) after s e h = rw (le-ltb _ _ h) refl
-full_keys None after s e h = cc
-
-pub each_full : (after : ℕ) (s : Flat) → locked_by s.marks + 1 ≤ length s.stack → is_some (machine.keys_at s.stack) ≡ true → 512 ≤ opened_by s.marks → machine.open_each after s ≡ machine.fault CallsFull s
-each_full after s h e f = rw (le-ltb _ _ h) (full_keys (machine.keys_at s.stack) after s e f)
-
-pub each_opens : (after : ℕ) (s : Flat) (x : Datum) (rest : List Datum) (t : Turns) → s.stack ≡ x ∷ rest → machine.keys_of x ≡ Some t → locked_by s.marks + 1 ≤ length s.stack → opened_by s.marks < 512 → machine.open_each after s ≡ going 0 (record s { stack = rest; marks = loop t s.place after ∷ s.marks })
-each_opens after s x rest t u e h f =
-    let k : machine.keys_at s.stack ≡ Some t = ap machine.keys_at u ∙ e in
-    rw (le-ltb _ _ h, k, lt-ltb _ _ f) (ap (λ l. going 0 (record s { stack = drop 1 l; marks = loop t s.place after ∷ s.marks })) u)
 
 pub some_mapped : {A B : Type 0} → (f : A → B) (o : Option A) → is_some (option_map f o) ≡ is_some o
 some_mapped f (Some x) = refl

@@ -133,13 +133,6 @@ nothing_taken m h never bare lent = record { timed = h; taken = λ d. subst (λ 
 
 -- ---- the first include
 
-pub ready_known : (lent : Dbref → Option (List Definition)) (d : Dbref) (m : Layers) → AreTaken lent m → is_some (stamp_at m d.0) ≡ true → IsReady lent d m m
-ready_known lent d m h known = record { timed = h.timed; all = by (stamp_at m d.0) known (h.taken d); others = λ k e. h.taken k; mean = λ q. refl }
-  where
-    by : (o : Option ℕ) → is_some o ≡ true → HasBy lent d o m → HasAll lent d m
-    by None e x = absurd (true≢false (sym e))
-    by (Some t) e x = x
-
 pub ready_first : (lent : Dbref → Option (List Definition)) (d : Dbref) (list : List Definition) (old new : Layers) → lent d ≡ Some list → AreTaken lent old → is_some (stamp_at old d.0) ≡ false
     → ((q : List ℕ) → lents new q ≡ lents old q ++ lents_of d.0 list q) → ((q : List ℕ) → own new q ≡ own old q) → IsDistinct bytes_eq (keys_of new.names.entries)
     → new.stamps.entries ≡ old.stamps.entries → new.clock ≡ old.clock → IsReady lent d old new

@@ -3,7 +3,7 @@ use Rattle.std.proofs.Common.{◌≡◌, ℕ, ◌≤◌, ◌+◌, Bool, true, fa
 use Rattle.std.proofs.lemmas.Bool.{and_parts, and_from}
 use Rattle.std.proofs.lemmas.Bool.Decides.{nat_tests}
 use Rattle.std.specs.List.{position_or_len}
-use Rattle.muck_model.specs.Bytes.{is_outside, text_fault, fault_of}
+use Rattle.muck_model.specs.Bytes.{is_outside, text_fault, fault_of, text_most}
 use Rattle.muf_token.specs.inner.Bytes.{are_inside}
 
 -- what stands behind the first byte
@@ -41,7 +41,7 @@ inside_text bytes h =
     let none = not_fault (ltb (position_or_len is_outside bytes) (length bytes)) (position_or_len is_outside bytes) (length bytes) h in
     inside_none bytes (grind (arith, nat_tests, none))
 
-pub text_inside : (bytes : List ℕ) → are_inside bytes ≡ true → length bytes ≤ 4096 → text_fault bytes ≡ None
+pub text_inside : (bytes : List ℕ) → are_inside bytes ≡ true → length bytes ≤ text_most → text_fault bytes ≡ None
 text_inside bytes h k = let all = passed_all bytes h in grind (arith, nat_tests, all)
 
 pub inside_append : (xs ys : List ℕ) → are_inside xs ≡ true → are_inside ys ≡ true → are_inside (xs ++ ys) ≡ true

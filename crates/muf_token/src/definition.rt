@@ -1,5 +1,6 @@
 // Definitions, as the pieces that they are made of.
 ghost use Rattle.std.specs.Prelude.{◌≡◌, IfOk, ◌≤◌, length, true};
+ghost use Rattle.muck_model.specs.Bytes.{text_most};
 ghost use Rattle.muf_token.specs.inner.Bytes.{are_inside};
 ghost use Rattle.muf_token.specs.Pieces.{pieces};
 
@@ -13,7 +14,7 @@ use std::alloc::Global;
 #[tactic(auto, unfolding(crate::specs::Pieces::pieces), using(crate::proofs::Fronts::pieces_rules))]
 pub(crate) fn pieces_of(alloc: Global, text: &[u8]) -> Result<Row<Piece>, NoMemory>
     requires inside { are_inside text.now ≡ true }
-    requires short { length text.now ≤ 4096 }
+    requires short { length text.now ≤ text_most }
     ensures { IfOk result (λ list. list ≡ pieces text.now) }
 {
     let mut list = Row::new(alloc)?;

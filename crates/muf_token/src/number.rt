@@ -1,6 +1,7 @@
 // What a word says by itself.
 ghost use Rattle.std.specs.Prelude.{◌≡◌, IfOk, OnErr, ◌∷◌, ◌++◌, ◌≤◌, ◌<◌, length, min, true};
 ghost use Rattle.std.specs.List.{list_all};
+ghost use Rattle.muck_model.specs.Bytes.{text_most};
 ghost use Rattle.muf_token.specs.inner.Bytes.{are_inside};
 ghost use Rattle.muck_model.specs.Decimal.{is_digit};
 ghost use Rattle.muf_token.specs.Numbers.{kind_of, amount_of, signed, digits_of, integer_of};
@@ -84,7 +85,7 @@ pub(crate) fn integer_of(word: &[u8]) -> Numeral
 #[tactic(auto, using(crate::proofs::Texts::inside_text))]
 fn name_of(alloc: Global, bytes: &[u8]) -> Result<Line, NoMemory>
     requires inside { are_inside bytes.now ≡ true }
-    requires short { length bytes.now ≤ 4096 }
+    requires short { length bytes.now ≤ text_most }
     ensures { IfOk result (λ line. line ≡ bytes.now) }
 {
     let bytes = bytes.to_vec(alloc)?;

@@ -2,6 +2,7 @@
 ghost use Rattle.std.specs.Prelude.{drop, ◌≡◌, ℕ, List, ◌+◌, ◌++◌, ◌∷◌, [], ◌≤◌, ◌<◌, Some, None, length, IfOk, IsTrue, ◌↔◌, MatchOption, if◌then◌else◌, ◌==◌, true};
 ghost use Rattle.muf_token.specs.inner.Bytes.{are_inside};
 ghost use Rattle.std.specs.List.{position, position_or_len};
+ghost use Rattle.muck_model.specs.Bytes.{text_most};
 ghost use Rattle.muf_token.specs.Pieces.{is_blank, escaped_byte, lowered, below, joined, next_line, front, piece_here};
 
 use crate::fault::refused;
@@ -17,7 +18,7 @@ pub(crate) struct Place<'a> {
     pub here: &'a [u8],
     pub below: &'a [Line],
     ghost inside: { are_inside here.now ≡ true },
-    ghost short: { length here.now ≤ 4096 },
+    ghost short: { length here.now ≤ text_most },
 }
 
 /// A piece that was found, with its line and the place behind it.
@@ -63,7 +64,7 @@ fn word_len(bytes: &[u8]) -> usize
 #[tactic(auto, using(crate::proofs::Texts::text_inside))]
 pub(crate) fn text_of(bytes: Vec<u8>) -> Line
     requires inside { are_inside bytes.items ≡ true }
-    requires short { length bytes.items ≤ 4096 }
+    requires short { length bytes.items ≤ text_most }
     ensures { result ≡ bytes.items }
 {
     Line::of_text_vec(bytes)
@@ -82,7 +83,7 @@ fn lower(alloc: Global, word: &[u8]) -> Result<Vec<u8>, AllocError>
 #[tactic(auto, using(crate::proofs::Words::lower_texts))]
 pub(crate) fn lower_text(alloc: Global, word: &[u8]) -> Result<Line, NoMemory>
     requires inside { are_inside word.now ≡ true }
-    requires short { length word.now ≤ 4096 }
+    requires short { length word.now ≤ text_most }
     ensures { IfOk result (λ line. line ≡ lowered word.now) }
 {
     let bytes = lower(alloc, word)?;
@@ -97,7 +98,7 @@ impl<'a> Place<'a> {
     #[tactic(auto, using(crate::proofs::Texts::append_none))]
     pub fn in_text(text: &'a [u8]) -> Place<'a>
         requires inside { are_inside text.now ≡ true }
-        requires short { length text.now ≤ 4096 }
+        requires short { length text.now ≤ text_most }
         ensures line { result.line ≡ 0 }
         ensures text { text_at result ≡ text.now }
     {

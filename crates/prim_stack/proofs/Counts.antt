@@ -117,9 +117,6 @@ counted_used (suc k) level answer s stack h =
 abbrev pub counting_needs : ℕ → Option Needs
 counting_needs fixed = counts (an_int ∷ times (fixed - 1) (any ∷ [])) (any ∷ []) []
 
-pub count_short : (fixed : ℕ) (answer : List Datum → ℕ → Answer) (s : Scope) (stack : List Datum) → 0 < fixed → length stack < s.locked + fixed → used 1 (counting_needs fixed) (Some (whole (by_count answer))) s stack ≡ refuses (too_few fixed stack)
-count_short fixed answer s stack p h = counted_used fixed 1 answer s stack p ∙ rw (lt-ltb (length stack) (s.locked + fixed) h) refl
-
 counted_at : (fixed n : ℕ) (answer : List Datum → ℕ → Answer) (s : Scope) (stack : List Datum) → 0 < fixed → s.locked + fixed ≤ length stack → int_at 0 stack ≡ Some (pos n) → used 1 (counting_needs fixed) (Some (whole (by_count answer))) s stack ≡ needing (n + fixed) s.locked stack (answer (drop 1 stack) n)
 counted_at fixed n answer s stack p h e =
     counted_used fixed 1 answer s stack p

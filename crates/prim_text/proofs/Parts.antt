@@ -8,7 +8,7 @@ use Rattle.std.proofs.lemmas.List.{length-map}
 use Rattle.muf_model.specs.declared.value.Value.{Value}
 use Rattle.muf_model.specs.Answer.{makes}
 use Rattle.muf_model.specs.inner.View.{view}
-use Rattle.muck_model.specs.Bytes.{text_fault}
+use Rattle.muck_model.specs.Bytes.{text_fault, text_most}
 use Rattle.muf_model.specs.Texts.{first_place, pieces, joined}
 use Rattle.muf_model.specs.TextRows.{sized, counted_texts}
 use Rattle.muf_model.proofs.FaultTexts.{IsInside}
@@ -17,17 +17,17 @@ use Rattle.muf_model.proofs.FaultTexts.{inside-append}
 use Rattle.prim_text.proofs.Texts.{text-drop, take_inside, to_inside}
 
 -- what is too long already is too long with more behind it
-sized_over : (front rest : List ℕ) → 4096 < length front → sized front ≡ sized (front ++ rest)
+sized_over : (front rest : List ℕ) → text_most < length front → sized front ≡ sized (front ++ rest)
 sized_over front rest over =
-    cond-true _ _ _ (lt-ltb 4096 (length front) over)
-    ∙ sym (cond-true _ _ _ (lt-ltb 4096 (length (front ++ rest)) (omega (arith, over, length-append front rest))))
+    cond-true _ _ _ (lt-ltb text_most (length front) over)
+    ∙ sym (cond-true _ _ _ (lt-ltb text_most (length (front ++ rest)) (omega (arith, over, length-append front rest))))
 
 -- one more piece, and the text that stands in place of the one that was sought
 pub one_more : (made other sought rest whole after : List ℕ) (at : ℕ) → 0 < length sought → Some at ≡ first_place sought rest → made ++ joined other (pieces sought rest) ≡ whole → after ≡ (made ++ take at rest) ++ other → after ++ joined other (pieces sought (drop (at + length sought) rest)) ≡ whole
 one_more made other sought rest whole after at some found so_far e =
     ap (λ r. r ++ joined other (pieces sought (drop (at + length sought) rest))) e ∙ sym (joined_further made other sought rest at some (sym found)) ∙ so_far
 
-pub too_long : (whole after more : List ℕ) → 4096 < length after → after ++ more ≡ whole → sized after ≡ sized whole
+pub too_long : (whole after more : List ℕ) → text_most < length after → after ++ more ≡ whole → sized after ≡ sized whole
 too_long whole after more over e = sized_over after more over ∙ ap sized e
 
 pub at_last : (made other sought rest whole after : List ℕ) → None ≡ first_place sought rest → made ++ joined other (pieces sought rest) ≡ whole → after ≡ made ++ rest → sized after ≡ sized whole

@@ -8,7 +8,7 @@ use Rattle.std.specs.Int.Signed.{mag}
 use Rattle.std.proofs.lemmas.Bool.{cases_lt, lt-ltb, le-ltb}
 use Rattle.std.proofs.lemmas.List.{length-take, length-drop, take_all, drop_all}
 use Rattle.std.proofs.lemmas.List.Sums.{prefix_len-le-length}
-use Rattle.muck_model.specs.Bytes.{is_outside, fault_of, text_fault}
+use Rattle.muck_model.specs.Bytes.{is_outside, fault_of, text_fault, text_most}
 use Rattle.muf_model.proofs.FaultTexts.{is_inside, IsInside, inside-append, inside-cons, inside-first, inside-decimal, from_inside}
 
 pub to_inside : (xs : List ℕ) → text_fault xs ≡ None → IsInside xs
@@ -18,12 +18,12 @@ to_inside xs h =
       | inr past ↦ omega (arith, past, prefix_len-le-length is_inside xs)
     ]
 
-short_text : (xs : List ℕ) → text_fault xs ≡ None → length xs ≤ 4096
+short_text : (xs : List ℕ) → text_fault xs ≡ None → length xs ≤ text_most
 short_text xs h =
     let past : length xs ≤ position_or_len is_outside xs = omega (arith, to_inside xs h) in
     let whole : fault_of None (length xs) ≡ None = rw (le-ltb (position_or_len is_outside xs) (length xs) past) at h in
-    elim (cases_lt 4096 (length xs)) [
-      | inl over ↦ absurd (let e : Some 4096 ≡ None = rw (lt-ltb 4096 (length xs) over) at whole in cc)
+    elim (cases_lt text_most (length xs)) [
+      | inl over ↦ absurd (let e : Some text_most ≡ None = rw (lt-ltb text_most (length xs) over) at whole in cc)
       | inr le ↦ le
     ]
 
@@ -84,5 +84,5 @@ inside_number (pos n) h = inside-decimal n (omega (arith, h))
 inside_number (negsuc n) h = inside-cons 45 (decimal (suc n)) refl (inside-decimal (suc n) (omega (arith, h)))
 
 -- bytes that may stand in a text, and not too many of them
-pub made_is_text : (bytes : List ℕ) → IsInside bytes → length bytes ≤ 4096 → text_fault bytes ≡ None
+pub made_is_text : (bytes : List ℕ) → IsInside bytes → length bytes ≤ text_most → text_fault bytes ≡ None
 made_is_text bytes h le = from_inside bytes h le

@@ -2,7 +2,7 @@
 ghost use Rattle.std.specs.Prelude.{◌≡◌, ◌≤◌, ◌<◌, ◌+◌, None, length, map, take, drop, ◌++◌, IfOk, IfSome};
 ghost use Rattle.std.specs.Char.{to_ascii_uppercase};
 ghost use Rattle.std.specs.Fmt.{signed_decimal};
-ghost use Rattle.muck_model.specs.Bytes.{text_fault};
+ghost use Rattle.muck_model.specs.Bytes.{text_fault, text_most};
 ghost use Rattle.muf_model.proofs.FaultTexts.{IsInside};
 ghost use Rattle.muf_model.specs.Texts.{pieces, one_byte};
 ghost use Rattle.muf_model.specs.TextRows as row;
@@ -40,7 +40,7 @@ fn copied(alloc: Global, bytes: &[u8]) -> Result<Vec<u8>, NoMemory>
 /// The primitives of one text.
 #[tactic(auto, using(crate::proofs::Texts::row_steps))]
 pub(crate) fn of_text(alloc: Global, prim: Prim, bytes: &[u8]) -> Result<Made, PrimFault>
-    requires short { length bytes.now ≤ 4096 }
+    requires short { length bytes.now ≤ text_most }
     requires text { text_fault bytes.now ≡ None }
     ensures { Makes (row.of_text prim bytes.now) result }
 {
@@ -58,7 +58,7 @@ pub(crate) fn of_text(alloc: Global, prim: Prim, bytes: &[u8]) -> Result<Made, P
 
 // A place from 1, or 0 for none.
 fn place(at: Option<usize>) -> Made
-    requires { IfSome at (λ k. k ≤ 4096) }
+    requires { IfSome at (λ k. k ≤ text_most) }
     ensures { row.place at ≡ made_of result }
 {
     match at {
@@ -86,7 +86,7 @@ fn around(alloc: Global, bytes: &[u8], count: usize, at: Option<usize>) -> Resul
 // The pieces between the texts that are sought, with their count, which comes to the top.
 fn exploded(alloc: Global, bytes: &[u8], sought: &[u8]) -> Result<Made, NoMemory>
     requires some { 0 < length sought.now }
-    requires short { length bytes.now ≤ 4096 }
+    requires short { length bytes.now ≤ text_most }
     requires text { text_fault bytes.now ≡ None }
     ensures { IfOk result (λ made. row.counted_texts (pieces sought.now bytes.now) ≡ made_of made) }
 {
@@ -99,7 +99,7 @@ fn exploded(alloc: Global, bytes: &[u8], sought: &[u8]) -> Result<Made, NoMemory
 // The primitives that seek a text, which isn't empty, in another one.
 fn of_sought(alloc: Global, prim: Prim, bytes: &[u8], sought: &[u8]) -> Result<Made, PrimFault>
     requires some { 0 < length sought.now }
-    requires short { length bytes.now ≤ 4096 }
+    requires short { length bytes.now ≤ text_most }
     requires text { text_fault bytes.now ≡ None }
     ensures { Makes (row.of_sought prim bytes.now sought.now) result }
 {
@@ -123,7 +123,7 @@ pub(crate) fn seeking(
     bytes: &[u8],
     sought: &[u8],
 ) -> Result<Made, PrimFault>
-    requires short { length bytes.now ≤ 4096 }
+    requires short { length bytes.now ≤ text_most }
     requires text { text_fault bytes.now ≡ None }
     ensures { Makes (sought_in prim bytes.now sought.now) result }
 {

@@ -11,7 +11,7 @@ use Rattle.spec_live.specs.Chain.{follower}
 use Rattle.spec_live.specs.Objects.{Entry, is_exit, object_in, list_in, kind_in, place_in, changed_at, on_object}
 use Rattle.spec_live.specs.Making.{blank_entry}
 use Rattle.spec_live.specs.Moving.{left_out, put_first, with_place, set_down}
-use Rattle.spec_live.specs.Recycling.{is_tied, untie, untied, gone_entry, is_exit_of, exit_gone, without_exits, exits_gone, vanished}
+use Rattle.spec_live.specs.Recycling.{gone_entry, is_exit_of, exit_gone, without_exits, exits_gone, vanished}
 use Rattle.spec_live.specs.Saving.{Links, saving_in, links_in, next_in, front, is_number, same_links, relinked, all_saving}
 use Rattle.spec_live.proofs.Lists.{get_changed_same, get_changed_other, read_more}
 use Rattle.spec_live.proofs.Savings.{object_relinked, list_relinked, saving_relinked, object_resaved, list_resaved}
@@ -100,10 +100,6 @@ saving_down es d to k =
     twice false b = refl
 
 -- A recycling.
-
-pub saving_untied : (d k : ℕ) (es : List Entry) → saving_in (untied d es) k ≡ cond (option_map_or (is_tied d) (object_in es k) false) Due (saving_in es k)
-unfolding untied
-saving_untied d k es = saving_mapped (untie d) (is_tied d) es k (λ e. refl)
 
 exit_due : (d : ℕ) (e : Entry) (b : Bool) → is_exit_of d e.object ≡ b → (exit_gone d e).saving ≡ cond b Due e.saving
 unfolding gone_entry

@@ -102,9 +102,6 @@ number_same a b e = cc (ap (λ z. z.0) e)
 pub not_nothing : (d : ℕ) → nothing ≡ dbref_of d → ⊥
 not_nothing d e = cc (ap (λ z. z.0) e)
 
-not_home : (d : ℕ) → home ≡ dbref_of d → ⊥
-not_home d e = cc (ap (λ z. z.0) e)
-
 other_by : (a b c : Dbref) (t : Bool) → same a b ≡ t → (c ≡ b → ⊥) → cond t c a ≡ b → ⊥
 other_by a b c true e ne h = ne h
 other_by a b c false e ne h = false≢true (sym e ∙ same_eq a b h)

@@ -16,7 +16,6 @@ pub mod Dues
 pub mod Marking
 pub mod Resaved
 pub mod Standing
-pub mod Followers
 pub mod EditorLaws
 pub mod Keeping
 pub mod PathLaws

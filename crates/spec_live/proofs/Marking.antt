@@ -7,7 +7,6 @@ use Rattle.std.specs.Option.{option_map, option_map_or}
 use Rattle.muck_model.specs.declared.dbref.Dbref.{Dbref}
 use Rattle.muck_model.specs.declared.dbref.Kind.{Kind}
 use Rattle.spec_live.specs.declared.object.Object.{Object}
-use Rattle.spec_live.specs.declared.mark.Mark.{Mark}
 use Rattle.spec_live.specs.declared.saving.Saving.{Saving}
 use Rattle.spec_live.specs.declared.saving.Saving.TheVariants.{Done, Pending, Due}
 use Rattle.spec_live.specs.Objects.{Entry, dbref_of, same, is_exit, object_in, list_of, list_in, kind_in, changed_at, on_object, with_object}
@@ -16,7 +15,7 @@ use Rattle.spec_live.specs.Moving.{left_out, put_first, with_place, set_down, mo
 use Rattle.spec_live.specs.Making.{blank_entry, grown, new_object, created}
 use Rattle.spec_live.specs.Setting.{with_lines, lines_set}
 use Rattle.spec_live.specs.Recycling.{without_ties, is_tied, untie, untied, way_home, sent_home, gone_entry, is_exit_of, exit_gone, without_exits, exits_gone, vanished, taken_away, recycled}
-use Rattle.spec_live.specs.Marks.{unmarked, marked_from, change_told}
+use Rattle.spec_live.specs.Marks.{unmarked}
 use Rattle.spec_live.proofs.Lists.{get_changed_same, get_changed_other, get_more, get_last, read_more}
 use Rattle.spec_live.proofs.Readers.{list_change}
 use Rattle.spec_live.proofs.Savings.{object_relinked, saving_relinked}
@@ -155,14 +154,6 @@ marked_named n o es = marked_changed n (with_object o) es (λ e. entry_due e (wi
 unmarked_lists : (v : Bool) (e : Entry) → list_of v (unmarked e) ≡ list_of v e
 unmarked_lists true e = refl
 unmarked_lists false e = refl
-
-pub marked_untold : (es : List Entry) → Marked es (change_told es)
-unfolding change_told
-marked_untold es = by_cases (marked_from 0 es)
-  where
-    by_cases : (o : Option (ℕ × Mark)) → Marked es (option_map_or (λ (p : ℕ × Mark). changed_at p.0 unmarked es) o es)
-    by_cases None = marked_itself es
-    by_cases (Some p) = marked_changed p.0 unmarked es (λ e. entry_same e (unmarked e) refl refl) unmarked_lists
 
 pub marked_told : (es : List Entry) → Marked es (map unmarked es)
 marked_told es = marked_mapped unmarked es (λ e. entry_same e (unmarked e) refl refl) unmarked_lists

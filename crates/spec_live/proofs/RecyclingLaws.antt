@@ -17,7 +17,7 @@ use Rattle.spec_live.specs.Consistent.{StandsIn, IsOrdered, IsConsistent}
 use Rattle.spec_live.proofs.Chains.{without_gone, without_member, member_without}
 use Rattle.spec_live.proofs.Lists.{length_map, length_changed, get_changed_same, same_place, apart_without}
 use Rattle.spec_live.proofs.KindLaws.{none_in_exit, only_exit, player_no_exit, linked_no_exit, home_no_exit}
-use Rattle.spec_live.proofs.Readers.{object_change, list_change, object_elsewhere, list_elsewhere, object_left, list_left, kind_is, place_is, kind_alike, place_alike}
+use Rattle.spec_live.proofs.Readers.{object_change, list_change, object_elsewhere, list_elsewhere, object_left, list_left, kind_is, place_is, kind_alike}
 use Rattle.spec_live.proofs.Savings.{length_relinked, object_relinked, list_relinked, mark_relinked}
 use Rattle.spec_live.proofs.Ties.{consistent_seen}
 use Rattle.spec_live.proofs.Checks.{Passed, checked_ok, index_only}
@@ -309,9 +309,6 @@ mark_taken es d k = mark_relinked es (vanished d (exits_gone d es)) k
 
 pub kind_taken : (es : List Entry) (d k : ℕ) → kind_in (taken_away d es) k ≡ kind_in (vanished d (exits_gone d es)) k
 kind_taken es d k = kind_alike (vanished d (exits_gone d es)) (taken_away d es) k (object_taken es d k)
-
-pub place_taken : (es : List Entry) (d k : ℕ) → place_in (taken_away d es) k ≡ place_in (vanished d (exits_gone d es)) k
-place_taken es d k = place_alike (vanished d (exits_gone d es)) (taken_away d es) k (object_taken es d k)
 
 -- All steps.
 

@@ -1,13 +1,13 @@
 -- What the readers of the objects give where the marks of objects change.
-use Rattle.std.proofs.Common.{◌≡◌, ℕ, ◌+◌, ◌<◌, zero, suc, List, [], ◌∷◌, Option, Some, None, refl, ◌∙◌, ap, length, arith, Bool, true, false, cond, not}
+use Rattle.std.proofs.Common.{◌≡◌, ℕ, ◌+◌, zero, suc, List, [], ◌∷◌, Option, Some, None, refl, ◌∙◌, ap, length, arith, Bool, true, false, cond, not}
 use Rattle.std.proofs.lemmas.Option.{slice_get-map}
 use Rattle.std.specs.List.{slice_get}
 use Rattle.std.specs.Option.{option_map, option_and_then, option_map_or}
 use Rattle.spec_live.specs.declared.saving.Saving.{Saving}
 use Rattle.spec_live.specs.declared.saving.Saving.TheVariants.{Due}
-use Rattle.spec_live.specs.Objects.{Entry, object_in, list_of, list_in, mark_in, kind_in, flags_in, place_in, due}
+use Rattle.spec_live.specs.Objects.{Entry, object_in, list_of, list_in, mark_in, kind_in, due}
 use Rattle.spec_live.specs.Saving.{saving_in, links_in, due_from, same_links, relinked, on_saving, all_saving}
-use Rattle.spec_live.proofs.Lists.{length_map, some_at}
+use Rattle.spec_live.proofs.Lists.{length_map}
 
 -- What is due where a test holds.
 
@@ -61,18 +61,6 @@ pub mark_relinked : (before es : List Entry) (k : ℕ) → mark_in (relinked bef
 unfolding mark_in
 mark_relinked before es k = read_relinked (λ o. option_and_then (λ (e : Entry). e.mark) o) before es k (λ e. refl)
 
-pub kind_relinked : (before es : List Entry) (k : ℕ) → kind_in (relinked before es) k ≡ kind_in es k
-unfolding kind_in
-kind_relinked before es k = rw (object_relinked before es k) refl
-
-pub place_relinked : (before es : List Entry) (k : ℕ) → place_in (relinked before es) k ≡ place_in es k
-unfolding place_in
-place_relinked before es k = rw (object_relinked before es k) refl
-
-pub flags_relinked : (before es : List Entry) (k : ℕ) → flags_in (relinked before es) k ≡ flags_in es k
-unfolding flags_in
-flags_relinked before es k = rw (object_relinked before es k) refl
-
 pub saving_relinked : (before es : List Entry) (k : ℕ) → saving_in (relinked before es) k ≡ cond (not (same_links (links_in before k) (links_in es k))) Due (saving_in es k)
 unfolding saving_in
 saving_relinked before es k = ap (λ o. option_map_or (λ (e : Entry). e.saving) o Due) (get_relinked before es k) ∙ by_cases (links_differ before es k) (slice_get es k)
@@ -117,15 +105,3 @@ mark_resaved f k es = read_resaved (λ o. option_and_then (λ (e : Entry). e.mar
 pub kind_resaved : (f : Saving → Saving) (k : ℕ) (es : List Entry) → kind_in (all_saving f es) k ≡ kind_in es k
 unfolding kind_in
 kind_resaved f k es = rw (object_resaved f k es) refl
-
-pub place_resaved : (f : Saving → Saving) (k : ℕ) (es : List Entry) → place_in (all_saving f es) k ≡ place_in es k
-unfolding place_in
-place_resaved f k es = rw (object_resaved f k es) refl
-
-pub flags_resaved : (f : Saving → Saving) (k : ℕ) (es : List Entry) → flags_in (all_saving f es) k ≡ flags_in es k
-unfolding flags_in
-flags_resaved f k es = rw (object_resaved f k es) refl
-
-pub saving_resaved : (f : Saving → Saving) (k : ℕ) (es : List Entry) → k < length es → saving_in (all_saving f es) k ≡ f (saving_in es k)
-unfolding saving_in
-saving_resaved f k es lt = let s : (x : Entry) × (slice_get es k ≡ Some x) = some_at es k lt in rw (get_resaved f k es, s.1) refl

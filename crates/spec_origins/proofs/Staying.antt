@@ -265,9 +265,6 @@ login_held d line w h =
     now_by w (on_live (at_login d line) w) (none_notes w.live.objects v.objects ((seating_at_login d line).law w.live).objects)
     (record { triggers = h.triggers; editors = editors_sit w.live.objects w.live.board.connections v.board.connections ((sits_login d line).law w.live).seats h.editors })
 
-abbrev Triggered : World → Type 0
-Triggered w = Each (FromThere w.live.objects) w.queue.processes
-
 less_held : (pid : ℤ) (w : World) → Now w → Now (on_queue (without pid) w)
 unfolding without
 less_held pid w h = record { triggers = each_without (λ (p : Process). Unit {0}) pid (FromThere w.live.objects) w.queue.processes h.triggers; editors = h.editors }

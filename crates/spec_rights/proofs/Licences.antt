@@ -385,9 +385,6 @@ pub stays_asked : (a : Actor) (free : Freedom) (given : Option Act) (act : Act) 
 stays_asked a free given act refuse go p q =
     keeps_judged a act refuse go (λ w d. record { law = λ start s h. ((p d).law w).law start s tt }) (λ w e. record { law = λ start s h. (q.law w).law start s e })
 
-pub stays_freely : (a : Actor) (free : Freedom) (given : Option Act) (f : Change) → Stays a free None f → Stays a free given f
-stays_freely a free given f p = keeps_more f (λ w v s. record { law = λ start r h. s.law start r tt }) p
-
 -- Keeps to the licence.
 
 pub ends_stays : (a : Actor) (free : Freedom) (given : Option Act) (f : Change) → Stays a free given f → Ends itself a free given f

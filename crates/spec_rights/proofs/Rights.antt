@@ -5,7 +5,6 @@ use Rattle.std.specs.Option.{option_map, option_map_or}
 use Rattle.muck_model.specs.declared.dbref.Dbref.{Dbref}
 use Rattle.muck_model.specs.declared.dbref.Flags.{Flags}
 use Rattle.muck_model.specs.declared.dbref.Kind.{Kind}
-use Rattle.muck_model.specs.declared.dbref.Kind.TheVariants.{Garbage}
 use Rattle.spec_live.specs.declared.object.Object.{Object}
 use Rattle.spec_live.specs.Flags.{has_flag, chown, wizard, quell}
 use Rattle.spec_live.specs.Objects.{Entry, dbref_of, nothing, same, is_player, is_program, object_at}
@@ -64,9 +63,6 @@ same_player d os ps s = same_read (λ r. is_player r.kind) false d os ps s
 
 pub same_program : (d : Dbref) (os ps : List Entry) → SameRights os ps → is_program_at os d ≡ is_program_at ps d
 same_program d os ps s = same_read (λ r. is_program r.kind) false d os ps s
-
-pub same_kind : (d : Dbref) (os ps : List Entry) → SameRights os ps → option_map_or (λ o. o.kind) (object_at d os) Garbage ≡ option_map_or (λ o. o.kind) (object_at d ps) Garbage
-same_kind d os ps s = same_read (λ r. r.kind) Garbage d os ps s
 
 pub same_home : (d : Dbref) (os ps : List Entry) → SameRights os ps → option_map_or (λ o. o.home) (object_at d os) nothing ≡ option_map_or (λ o. o.home) (object_at d ps) nothing
 same_home d os ps s = same_read (λ r. r.home) nothing d os ps s

@@ -1,6 +1,6 @@
 -- Each step keeps the rule of the lock.
 use Rattle.std.proofs.Common.{◌≡◌, ◌≢◌, ◌⊎◌, ℕ, zero, suc, ◌+◌, ◌%◌, ◌^◌, ◌<◌, ◌≤◌, List, [], ◌∷◌, ◌++◌, length, map, set, Some, None, append_assoc, refl, sym, ap, ◌∙◌, subst, inl, inr, ⊎_elim, lt_of_not-le, arith, length-append, mod-eq_of_lt}
-use Rattle.std.specs.Prelude.{slice_index, slice_set, Option, nat_lt, if◌then◌else◌}
+use Rattle.std.specs.Prelude.{slice_index, slice_set, Option}
 use Rattle.std.proofs.lemmas.List.{append-nil}
 use mathlib.Core.Option.{Option as Maybe, some, none, some-ne-none, some-injective}
 use mathlib.Core.Logic.{dite}
@@ -99,20 +99,12 @@ module _ {E : Type 0} where
   stands_more ticket serving log seen (Waits m) st = let a = st.1 in (st.0, omega arith, st.2)
   stands_more ticket serving log seen (Holds m) st = let a = st.1 in (st.0, omega arith, st.2, st.3)
 
--- the place of who found this ticket
-abbrev drawn_place : ℕ → Place
-drawn_place n = if nat_lt n (2 ^ 62) then Waits n else Told
-
 module _ {T E B : Type 0} (history : T → List E) (party : E → ℕ) (start : T → B) (allowed : E → Type 0) where
   abbrev any : Step (Option T)
   any = step 0 0 0 0 none
 
   abbrev Sit : Type 0
   Sit = Me (Option T) (View E B)
-
-  -- who knows that the seat at rest has no ticket
-  no_ticket : (p : Place) (n : ℕ) → p ≡ Idle → HasTicket p n → ⊥
-  no_ticket p n idle h = subst (λ (q : Place). HasTicket q n) idle h
 
   slot_kept : (begin : B) (log : List E) (views : List (View E B)) (slot : Maybe (Option T)) (id : ℕ) (v w : View E B)
       → get_elem? views id ≡ some v → ((n : ℕ) → v.place ≢ Holds n)

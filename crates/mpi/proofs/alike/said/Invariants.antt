@@ -1,6 +1,6 @@
 use Rattle.std.proofs.Common.{◌≡◌, ◌+◌, ◌≤◌, ◌++◌, length}
 use Rattle.std.specs.Prelude.{None, option_map}
-use Rattle.muck_model.specs.Bytes.{text_fault}
+use Rattle.muck_model.specs.Bytes.{text_fault, text_most}
 use Rattle.mpi.specs.Brackets.{pieces}
 use Rattle.mpi.specs.Made.{Inside}
 use Rattle.mpi.specs.inner.Alike.{said}
@@ -14,6 +14,6 @@ abbrev pub invariant-loop-first : goal.invariant-loop-first
 invariant-loop-first l = record {
   whole : said (pieces l.text) ≡ option_map (λ xs. l.out.items ++ xs) (said (pieces l.rest));
   inside : Inside l.out.items;
-  short : length l.out.items + length l.rest ≤ 4096;
+  short : length l.out.items + length l.rest ≤ text_most;
   rest : text_fault l.rest ≡ None;
 }

@@ -1,5 +1,5 @@
 use Rattle.std.proofs.Common.{rules, arith, refl, sym, subst, ap, ◌∙◌, ◌≡◌, ◌+◌, ◌-◌, ◌≤◌, [], ◌∷◌, ◌++◌, suc, None, Some, Ok, Err, true, false, length, take, drop, get_or, map, option_map}
-use Rattle.muck_model.specs.Bytes.{text_fault}
+use Rattle.muck_model.specs.Bytes.{text_fault, text_most}
 use Rattle.mpi.specs.Brackets.{pieces, seen_piece, IsPart}
 use Rattle.mpi.specs.Hosting.{Means}
 use Rattle.mpi.specs.Made.{Inside, is_long, is_text}
@@ -57,7 +57,7 @@ text-loop-first-preserved g t c =
             whole = c.loop-first.invariant.whole ∙ ap (λ xs. spelled (entered (scene_of g.H.Host.powers c.args.place.this) c.args.nesting) c.loop-first.out.items (pieces xs) (c.loop-first.mind, g.H.Host.seen c.loop-first.host)) first_is ∙ spelled_byte (entered (scene_of g.H.Host.powers c.args.place.this) c.args.nesting) c.loop-first.out.items c.in-Some.first.now c.in-Some.more.now c.piece_ahead-ahead.result.rest.now byte (c.loop-first.mind, g.H.Host.seen c.loop-first.host) (ap (λ p. (seen_piece p, c.piece_ahead-ahead.result.rest.now)) (sym w.in-Byte.is) ∙ c.piece_ahead-ahead.ensures.value) grown.1
                 ∙ (λ i. spelled (entered (scene_of g.H.Host.powers c.args.place.this) c.args.nesting) (sym out_is i) (pieces c.piece_ahead-ahead.result.rest.now) (sym w.mind-is i, g.H.Host.seen (sym w.host-is i)));
             inside = subst (λ xs. Inside xs) (sym out_is) (inside_more c.loop-first.out.items (byte ∷ []) c.loop-first.invariant.inside (inside_byte byte (subst (λ p. IsPart p) w.in-Byte.is c.piece_ahead-ahead.ensures.parts.1)));
-            short = subst (λ xs. length xs ≤ 4096) (sym out_is) (short_length (c.loop-first.out.items ++ byte ∷ []) grown.1);
+            short = subst (λ xs. length xs ≤ text_most) (sym out_is) (short_length (c.loop-first.out.items ++ byte ∷ []) grown.1);
             rest = c.piece_ahead-ahead.ensures.parts.0;
             same = subst (λ h. g.H.Host.same c.args.host.now h) (sym w.host-is) c.loop-first.invariant.same;
           }
@@ -70,7 +70,7 @@ text-loop-first-preserved g t c =
             whole = c.loop-first.invariant.whole ∙ ap (λ xs. spelled (entered (scene_of g.H.Host.powers c.args.place.this) c.args.nesting) c.loop-first.out.items (pieces xs) (c.loop-first.mind, g.H.Host.seen c.loop-first.host)) first_is ∙ spelled_call (entered (scene_of g.H.Host.powers c.args.place.this) c.args.nesting) c.loop-first.out.items c.in-Some.first.now c.in-Some.more.now c.piece_ahead-ahead.result.rest.now w.in-Call.body.now value (c.loop-first.mind, g.H.Host.seen c.loop-first.host) (w.call.new.mind, g.H.Host.seen w.call.new.host) (ap (λ p. (seen_piece p, c.piece_ahead-ahead.result.rest.now)) (sym w.in-Call.is) ∙ c.piece_ahead-ahead.ensures.value) w.in_ok-value-in-Call.ensures.thinks short
                 ∙ (λ i. spelled (entered (scene_of g.H.Host.powers c.args.place.this) c.args.nesting) (sym out_is i) (pieces c.piece_ahead-ahead.result.rest.now) (sym w.mind-is i, g.H.Host.seen (sym w.host-is i)));
             inside = subst (λ xs. Inside xs) (sym out_is) (inside_more c.loop-first.out.items value c.loop-first.invariant.inside (text_inside value (subst (λ xs. text_fault xs ≡ None) w.as_slice.ensures.bytes w.as_slice.ensures.text)));
-            short = subst (λ xs. length xs ≤ 4096) (sym out_is) (short_length (c.loop-first.out.items ++ value) short);
+            short = subst (λ xs. length xs ≤ text_most) (sym out_is) (short_length (c.loop-first.out.items ++ value) short);
             rest = c.piece_ahead-ahead.ensures.parts.0;
             same = subst (λ h. g.H.Host.same c.args.host.now h) (sym w.host-is) (g.met.H.Host.same_both c.args.host.now c.loop-first.host w.call.new.host c.loop-first.invariant.same w.call.ensures.same);
           }

@@ -1,6 +1,6 @@
 use Rattle.std.proofs.Common.{◌≡◌, ◌+◌, ◌-◌, ◌*◌, ◌≤◌, suc, [], length, map, drop}
 use Rattle.std.specs.Prelude.{None, Some, option_map, IfSome}
-use Rattle.muck_model.specs.Bytes.{text_fault}
+use Rattle.muck_model.specs.Bytes.{text_fault, text_most}
 use Rattle.mpi.specs.Brackets.{pieces}
 use Rattle.mpi.specs.Made.{Inside}
 use Rattle.mpi.specs.Values.{nth, items}
@@ -53,7 +53,7 @@ invariant-text-loop-first g l = record {
       meaning (scene_of g.H.Host.powers l.place.this) l.nesting l.text (l.initial.mind, g.H.Host.seen l.initial.host)
       ≡ spelled (entered (scene_of g.H.Host.powers l.place.this) l.nesting) l.out.items (pieces l.rest) (l.mind, g.H.Host.seen l.host);
   inside : Inside l.out.items;
-  short : length l.out.items ≤ 4096;
+  short : length l.out.items ≤ text_most;
   rest : text_fault l.rest ≡ None;
   same : g.H.Host.same l.initial.host l.host;
 }

@@ -1,6 +1,6 @@
 use Rattle.std.proofs.Common.{rules, arith, sym, subst, ap, ◌∙◌, ◌≡◌, ◌+◌, ◌<◌, ◌≤◌, [], ◌++◌, Ok, Err, None, length}
 use Rattle.std.proofs.lemmas.Bool.Decides.{nat_tests}
-use Rattle.muck_model.specs.Bytes.{text_fault}
+use Rattle.muck_model.specs.Bytes.{text_fault, text_most}
 use Rattle.mpi.specs.Values.{place_in, replaced, substituted}
 use Rattle.mpi.proofs.Growing.{grown_inside, grown_short, grown_text}
 use Rattle.mpi.proofs.Inside.{text_inside, text_short, part_is_text, rest_is_text}
@@ -10,7 +10,7 @@ use Rattle.mpi.proofs.lists.substituted.Goals as goal
 pub returns-then-is_empty : goal.returns-then-is_empty
 returns-then-is_empty c =
     let none : length c.args.old.now ≡ 0 = grind (arith, nat_tests) in
-    whole_made (substituted c.args.text.now c.args.old.now c.args.new.now) c.in_ok-of_text.field-0 (none_part c.args.text.now c.args.old.now c.args.new.now none ∙ sym c.in_ok-of_text.ensures) (subst (λ xs. length xs ≤ 4096) (sym c.in_ok-of_text.ensures) (text_short c.args.text.now c.requires.text))
+    whole_made (substituted c.args.text.now c.args.old.now c.args.new.now) c.in_ok-of_text.field-0 (none_part c.args.text.now c.args.old.now c.args.new.now none ∙ sym c.in_ok-of_text.ensures) (subst (λ xs. length xs ≤ text_most) (sym c.in_ok-of_text.ensures) (text_short c.args.text.now c.requires.text))
 
 pub around-requires : goal.around-requires
 around-requires c =

@@ -1,4 +1,5 @@
 use Rattle.std.proofs.Common.{◌≡◌, ◌<◌, ◌+◌, ◌++◌, length, ap, sym, ◌∙◌, arith, rules}
+use Rattle.muck_model.specs.Bytes.{text_most}
 use Rattle.muf_model.specs.Texts.{pieces, joined}
 use Rattle.prim_text.proofs.Texts.{text-drop}
 use Rattle.prim_text.proofs.Parts.{one_more, too_long, at_last, more_inside, last_inside}
@@ -6,7 +7,7 @@ use Rattle.prim_text.proofs.places.substituted.Goals as goal
 
 pub returns-then-len-gt-TEXT_MOST-clause-value : goal.returns-then-len-gt-TEXT_MOST-clause-value
 returns-then-len-gt-TEXT_MOST-clause-value c =
-    let over : 4096 < length c.append_both.new.made.items = search (rules, c.if-len-gt-TEXT_MOST.true, c.len.ensures) in
+    let over : text_most < length c.append_both.new.made.items = search (rules, c.if-len-gt-TEXT_MOST.true, c.len.ensures) in
     let after = c.in_ok-append_both.ensures ∙ ap (λ f. (c.loop-at.made.items ++ f) ++ c.args.other.now) c.cut_out.ensures.front in
     too_long _ _ _ over (one_more _ _ _ _ _ _ c.in-Some.at c.requires.some (sym c.in-Some.is ∙ c.first_place.ensures.value) c.loop-at.invariant.0 after)
 

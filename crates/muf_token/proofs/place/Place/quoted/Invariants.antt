@@ -1,4 +1,5 @@
 use Rattle.std.proofs.Common.{◌≡◌, ◌≤◌, ◌+◌, ◌++◌, true, false, length}
+use Rattle.muck_model.specs.Bytes.{text_most}
 use Rattle.muf_token.specs.inner.Bytes.{are_inside}
 use Rattle.muf_token.specs.Pieces.{quoted, below}
 use Rattle.muf_token.specs.inner.Places.{text_at}
@@ -11,7 +12,7 @@ invariant-loop-byte l = record {
   whole : after_bytes l.value.items (quoted l.escaped (l.here ++ below l.fn.self.below.now)) ≡ quoted false (text_at l.fn.self);
   here : are_inside l.here ≡ true;
   value : are_inside l.value.items ≡ true;
-  short : length l.value.items + length l.here ≤ 4096;
+  short : length l.value.items + length l.here ≤ text_most;
 }
 
 abbrev pub decreases-loop-byte : goal.decreases-loop-byte
