@@ -20,15 +20,15 @@ use Rattle.spec_events.specs.Steps.{is_free, happened, effect, is_died, is_lawfu
 use Rattle.spec_events.specs.Histories.{History, after, now, AllLawful}
 use Rattle.spec_events.specs.Logged.{ArePlaced, IsCountPlaced, IsPlaced}
 use Rattle.spec_events.specs.inner.Sound.{IsSound}
-use Rattle.spec_events.proofs.Living.{dead-happened}
+use Rattle.spec_events.proofs.Happening.{effect-is}
+use Rattle.spec_events.proofs.Living.{dead-effect}
 use Rattle.spec_events.proofs.Reached.{sound-effect, died_lawful}
 use Rattle.spec_events.proofs.Runs.{after-append, lawful-append}
 use Rattle.spec_events.proofs.Logging.{placed_entered, placed_noted, placed_linked}
 use Rattle.muck_machine.specs.declared.past.Past.{Past}
 use Rattle.muck_machine.specs.inner.Keeping.{AreTold, Keeps, history, told, remarked, counted_at_end, lost, Concludes}
 
-one_more : (start : World) (entries : List Entry) (e : Entry) → after start (entries ++ e ∷ []) ≡ happened (after start entries) e.party e.event
-unfolding effect
+one_more : (start : World) (entries : List Entry) (e : Entry) → after start (entries ++ e ∷ []) ≡ effect (after start entries) e
 one_more start entries e = after-append entries (e ∷ []) start
 
 not_died : (event : Event) → is_died event ≡ false → event ≢ Died
@@ -45,9 +45,9 @@ keeps_told p state next e k alive may other is =
       grows = refl;
       lawful = lawful-append p.tale.entries (e ∷ []) p.origin k.lawful (may, tt);
       placed = placed_entered (history p) e k.placed;
-      dies = ap (λ (w : World). w.dead) whole ∙ dead-happened e.event (after p.origin p.tale.entries) e.party other ∙ k.dies;
+      dies = ap (λ (w : World). w.dead) whole ∙ dead-effect (after p.origin p.tale.entries) e other ∙ k.dies;
       sound = λ h. subst IsSound (sym (after-append p.tale.entries (e ∷ []) p.origin)) (sound-effect (after p.origin p.tale.entries) e (not_died e.event other) may (k.sound alive));
-      lives = λ h. is ∙ ap (λ w. happened w e.party e.event) (k.lives alive) ∙ sym whole;
+      lives = λ h. is ∙ ap (λ w. happened w e.party e.event) (k.lives alive) ∙ sym (effect-is (after p.origin p.tale.entries) e) ∙ sym whole;
       told = k.told;
       numbered = k.numbered;
     }
@@ -62,6 +62,7 @@ keeps_linked p cs state k = record { grows = refl; lawful = k.lawful; placed = p
 
 -- memory was wanted, whatever stood before
 pub keeps_lost : (p : Past) (party : ℕ) (state next : World) → Keeps p state → Keeps (lost party p) next
+unfolding effect
 keeps_lost p party state next k = record {
   grows = refl;
   lawful = lawful-append p.tale.entries (record { party = party; event = Died } ∷ []) p.origin k.lawful (died_lawful (after p.origin p.tale.entries) party, tt);
