@@ -9,7 +9,7 @@ use Rattle.spec_events.specs.World.{World, runs_dump}
 use Rattle.spec_events.specs.Dumping.{resaved}
 use Rattle.spec_events.specs.Steps.{effect, is_lawful, is_died, makes_dumps, may_cut}
 use Rattle.spec_events.specs.Histories.{History, after, now, entered, noted, Longer}
-use Rattle.spec_events.proofs.Living.{dead-happened}
+use Rattle.spec_events.proofs.Living.{dead-effect}
 use Rattle.spec_events.proofs.Runs.{longer_noted, now-longer, now-noted}
 use Rattle.spec_dumps.specs.Fronts.{at_cut}
 use Rattle.spec_dumps.proofs.Cutting.{at_cut_end}
@@ -34,8 +34,7 @@ pub noted_lives : (h : History) (note : Note) → (now h).dead ≡ false → (no
 noted_lives h note alive = ap (λ (w : World). w.dead) (now-noted h note) ∙ alive
 
 lives : (h k : History) (party : ℕ) (event : Event) → Longer h k (by party event ∷ []) → is_died event ≡ false → (now h).dead ≡ false → (now k).dead ≡ false
-unfolding effect
-lives h k party event is other alive = ap (λ (w : World). w.dead) (now-longer h k (by party event ∷ []) is) ∙ dead-happened event (now h) party other ∙ alive
+lives h k party event is other alive = ap (λ (w : World). w.dead) (now-longer h k (by party event ∷ []) is) ∙ dead-effect (now h) (by party event) other ∙ alive
 
 pub cut_lives : (h k : History) (note : Note) (party n : ℕ) → k ≡ entered (noted h note) (by party (Cut n)) → (now h).dead ≡ false → (now k).dead ≡ false
 cut_lives h k note party n is alive = lives h k party (Cut n) (longer_noted h k note (by party (Cut n)) is) refl alive

@@ -6,9 +6,8 @@ use Rattle.muck_log.specs.Store.{LogState}
 use Rattle.muck_log.specs.declared.fault.LogFault.{LogFault}
 use Rattle.muck_log.specs.declared.fault.LogFault.TheVariants.{NoMemory as LogMemory, DiskFault as LogDisk, Damaged as LogDamaged, StoreFull as LogFull, Stale}
 use Rattle.spec_events.specs.World.{World}
-use Rattle.spec_events.specs.Steps.{effect}
 use Rattle.spec_events.specs.Histories.{History, after, now, entered, noted, Longer, by_porter}
-use Rattle.spec_events.proofs.Living.{dead-happened}
+use Rattle.spec_events.proofs.Living.{dead-effect}
 use Rattle.spec_events.proofs.Runs.{now-longer, longer_on, longer_noted}
 use Rattle.muck_script.specs.Story.{Part, dumping}
 use Rattle.muck_run.specs.Outcome.{halted}
@@ -106,9 +105,8 @@ module _ {D : Type 0} (seen : D → List ℕ) (moment : D → ℕ) (images : D �
 
 -- the porter's halt takes no life
 halt_lives : (w : World) (b : Bool) → w.dead ≡ false → (after w (if b then [] else by_porter Halt ∷ [])).dead ≡ false
-unfolding effect
 halt_lives w true alive = alive
-halt_lives w false alive = dead-happened Halt w 0 refl ∙ alive
+halt_lives w false alive = dead-effect w (by_porter Halt) refl ∙ alive
 
 pub halted_lives : (h k : History) → Longer h k (halted (now h)) → (now h).dead ≡ false → (now k).dead ≡ false
 halted_lives h k is alive = ap (λ (w : World). w.dead) (now-longer h k (halted (now h)) is) ∙ halt_lives (now h) (now h).stopping alive

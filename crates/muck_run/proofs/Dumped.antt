@@ -8,9 +8,9 @@ use Rattle.muck_model.specs.declared.memory.NoMemory.{NoMemory as Wanted}
 use Rattle.muck_log.specs.Store.{LogState}
 use Rattle.muck_log.specs.declared.fault.LogFault.{LogFault}
 use Rattle.spec_events.specs.World.{World}
-use Rattle.spec_events.specs.Steps.{effect, is_died}
+use Rattle.spec_events.specs.Steps.{is_died}
 use Rattle.spec_events.specs.Histories.{History, now, entered, noted, Longer, by_porter}
-use Rattle.spec_events.proofs.Living.{dead-happened}
+use Rattle.spec_events.proofs.Living.{dead-effect}
 use Rattle.spec_events.proofs.Runs.{longer_one, longer_noted, longer_on, now-longer}
 use Rattle.muck_script.specs.Story.{stored, failed, dumping, told}
 use Rattle.muck_dumping.specs.inner.Dumps.{Dies, HasDumped, first as died_first, begun as died_begun, cut as died_cut, ending as died_ending}
@@ -23,8 +23,7 @@ use Rattle.muck_run.proofs.Noted.{noted_one, noted_more, noted_then}
 use Rattle.muck_run.proofs.Parts.{appends_nothing, no_ending}
 
 lives : (h k : History) (event : Event) → Longer h k (by_porter event ∷ []) → is_died event ≡ false → (now h).dead ≡ false → (now k).dead ≡ false
-unfolding effect
-lives h k event is other alive = ap (λ (w : World). w.dead) (now-longer h k (by_porter event ∷ []) is) ∙ dead-happened event (now h) 0 other ∙ alive
+lives h k event is other alive = ap (λ (w : World). w.dead) (now-longer h k (by_porter event ∷ []) is) ∙ dead-effect (now h) (by_porter event) other ∙ alive
 
 module _ (h : History) (o : Option (List ℕ)) where
   -- memory was wanted before it began

@@ -13,7 +13,7 @@ use Rattle.muck_model.specs.declared.event.Event.TheVariants.{Opened, Input, Clo
 use Rattle.spec_events.specs.World.{World, queue_of, is_leaving}
 use Rattle.spec_events.specs.Steps.{effect, is_lawful, is_died}
 use Rattle.spec_events.specs.Histories.{History, after, now, entered, Longer, by_porter}
-use Rattle.spec_events.proofs.Living.{dead-happened}
+use Rattle.spec_events.proofs.Living.{dead-effect}
 use Rattle.spec_events.proofs.Runs.{longer_nothing, longer_one, longer_on, longer_as, now-longer}
 use Rattle.muck_script.specs.Lines.{lines_of}
 use Rattle.muck_script.specs.Story.{Dumped, stored, failed, Part, outcome, outcomes_of, plain, then_on, both, if_lawful, taken, told, text_of, shown, farewell}
@@ -43,9 +43,8 @@ plays_nothing f h k o e same alive = record {
 }
 
 pub lives_on : (h k : History) (event : Event) → k ≡ entered h (by_porter event) → is_died event ≡ false → (now h).dead ≡ false → (now k).dead ≡ false
-unfolding effect
 lives_on h k event is other alive =
-    ap (λ (w : World). w.dead) (now-longer h k _ (longer_one h k (by_porter event) is)) ∙ dead-happened event (now h) 0 other ∙ alive
+    ap (λ (w : World). w.dead) (now-longer h k _ (longer_one h k (by_porter event) is)) ∙ dead-effect (now h) (by_porter event) other ∙ alive
 
 -- one event happens
 pub plays_one : (f : Part) (h k : History) (a b : Option (List ℕ)) (event : Event) (text : List ℕ) → Says f (now h) (by_porter event ∷ []) → k ≡ entered h (by_porter event) →

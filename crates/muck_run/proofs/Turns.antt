@@ -9,7 +9,7 @@ use Rattle.spec_dumps.proofs.Quiet.{quiet_grew}
 use Rattle.spec_events.specs.World.{World}
 use Rattle.spec_events.specs.Steps.{effect}
 use Rattle.spec_events.specs.Histories.{History, now, after, Grew, by_porter}
-use Rattle.spec_events.proofs.Living.{dead-happened}
+use Rattle.spec_events.proofs.Living.{dead-effect}
 use Rattle.spec_events.proofs.Runs.{longer_grew, now-grew}
 use Rattle.muck_script.specs.inner.Settling.{DiedDuring}
 use Rattle.muck_script.specs.Story.{Turn, of_line, of_process, next_turn, turn_entries, turn, turns, plain, told, text_of}
@@ -41,11 +41,10 @@ turns_silent _ (a_claim pid es l) w = turns_silent es l (effect w (by_porter (Cl
 turns_silent _ (a_slice pid es l) w = turns_silent es l (effect w (by_porter (Slice pid)))
 
 turns_live : (es : List Entry) → AreTurns es → (w : World) → (after w es).dead ≡ w.dead
-unfolding effect
 turns_live _ no_turn w = refl
-turns_live _ (a_line d es l) w = turns_live es l (effect w (by_porter (Exec d))) ∙ dead-happened (Exec d) w 0 refl
-turns_live _ (a_claim pid es l) w = turns_live es l (effect w (by_porter (Claim pid))) ∙ dead-happened (Claim pid) w 0 refl
-turns_live _ (a_slice pid es l) w = turns_live es l (effect w (by_porter (Slice pid))) ∙ dead-happened (Slice pid) w 0 refl
+turns_live _ (a_line d es l) w = turns_live es l (effect w (by_porter (Exec d))) ∙ dead-effect w (by_porter (Exec d)) refl
+turns_live _ (a_claim pid es l) w = turns_live es l (effect w (by_porter (Claim pid))) ∙ dead-effect w (by_porter (Claim pid)) refl
+turns_live _ (a_slice pid es l) w = turns_live es l (effect w (by_porter (Slice pid))) ∙ dead-effect w (by_porter (Slice pid)) refl
 
 front_turns : (front rest : List Entry) → AreTurns (front ++ rest) → AreTurns front
 front_turns [] rest l = no_turn
