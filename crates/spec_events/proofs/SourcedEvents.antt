@@ -1,23 +1,22 @@
 -- Whatever happens, what is kept and what runs is of its source.
-use Rattle.std.proofs.Common.{◌≡◌, ℕ, ℤ, zero, suc, Bool, true, false, not, cond, List, [], ◌∷◌, refl, sym, ◌∙◌, ap, subst, Option, Some, None, inl, inr}
-use Rattle.std.specs.Prelude.{◌⊎◌, slice_get, Result, Ok, Err}
-use Rattle.std.specs.Option.{option_map, option_map_or, option_and_then}
+use Rattle.std.proofs.Common.{◌≡◌, ℕ, ℤ, zero, suc, not, List, [], ◌∷◌, refl, sym, ◌∙◌, ap, subst, Option, Some, None, inl, inr}
+use Rattle.std.specs.Prelude.{slice_get, Result, Ok, Err}
+use Rattle.std.specs.Option.{option_map_or, option_and_then}
 use Rattle.std.proofs.lemmas.Bool.{cond_both}
 use Rattle.muck_model.specs.declared.dbref.Dbref.{Dbref}
 use Rattle.muck_model.specs.declared.dbref.Denial.{Denial}
 use Rattle.muck_model.specs.declared.edit.EditState.{EditState}
 use Rattle.muck_model.specs.declared.event.Entry.{Entry}
 use Rattle.muck_model.specs.declared.event.Event.{Event}
-use Rattle.muck_model.specs.declared.event.Event.TheVariants.{Opened, Input, Closed, Exec, Claim, Slice, Lost, Take, Cut, Stored, DumpFailed}
+use Rattle.muck_model.specs.declared.event.Event.TheVariants.{Closed, Exec, Claim, Slice, Lost, Cut, Stored, DumpFailed}
 use Rattle.muck_model.specs.declared.tune.Tune.{Tune}
-use Rattle.spec_live.specs.declared.object.Object.{Object}
 use Rattle.spec_live.specs.declared.saving.Saving.{Saving}
-use Rattle.spec_live.specs.Saving.{pending, done, due_again, all_saving}
-use Rattle.spec_live.specs.Objects.{Entry as Kept, object_at, object_in, number_in, kind_in, is_garbage, index_of}
+use Rattle.spec_live.specs.Saving.{pending, done, due_again}
+use Rattle.spec_live.specs.Objects.{Entry as Kept, index_of}
 use Rattle.spec_live.specs.Connections.{Connection}
 use Rattle.spec_live.specs.Start.{first_objects}
-use Rattle.spec_live.specs.Boards.{first_tune, opened, line_added, bytes_taken, edited_one}
-use Rattle.spec_live.specs.Lives.{Live, Change, on_board, tell, leave}
+use Rattle.spec_live.specs.Boards.{first_tune, opened, line_added, bytes_taken}
+use Rattle.spec_live.specs.Lives.{Live, tell, leave}
 use Rattle.spec_rights.specs.declared.act.Actor.{Actor}
 use Rattle.spec_rights.specs.declared.act.Act.TheVariants.{Start}
 use Rattle.spec_rights.specs.Asking.{refused}
@@ -25,9 +24,8 @@ use Rattle.spec_rights.specs.Changing.{tuned}
 use Rattle.spec_rights.specs.Verdict.{verdict}
 use Rattle.spec_rights.proofs.Shown.{quiet_tell, quiet_refused}
 use Rattle.muf_model.specs.declared.fault.MufFault.{MufFault}
-use Rattle.muf_model.specs.declared.prims.Primitive.{Primitive as Name}
 use Rattle.muf_model.specs.Faults.{text_of}
-use Rattle.muf_model.specs.Datum.{Datum, text as words_of}
+use Rattle.muf_model.specs.Datum.{text as words_of}
 use Rattle.muf_model.specs.Tree.{Tree}
 use Rattle.muf_model.specs.Source.{Program, Source}
 use Rattle.muf_model.specs.Chains.{programs_of}
@@ -61,7 +59,7 @@ use Rattle.spec_events.specs.Sourced.{Each, OfSource, Standing, AreSourced, Sour
 use Rattle.spec_events.proofs.Sources.{SameSources, same_objects, source_as, IsLined, lined_told, saved_sources, notes_sources}
 use Rattle.spec_events.proofs.Sourcing.{each_more, each_filter, each_without, each_changed, form_left, settled_sourced}
 use Rattle.spec_events.proofs.Lapses.{objects_settled}
-use Rattle.spec_events.proofs.Quietly.{Quietly, quietly_launched, quietly_live, quietly_compiled, quietly_begun, quiet_told_each}
+use Rattle.spec_events.proofs.Quietly.{quietly_launched, quietly_compiled, quietly_begun, quiet_told_each}
 use Rattle.spec_events.proofs.Happening.{effect-keeps, effect-live}
 use Rattle.spec_events.proofs.SourcedUnits as units
 use Rattle.spec_events.proofs.Turns.{gone_away_untouched}

@@ -1,13 +1,12 @@
 -- What runs is of its source behind each unit, where it was before.
-use Rattle.std.proofs.Common.{◌≡◌, ℕ, ℤ, pos, negsuc, zero, suc, ◌+ℤ◌, Bool, true, false, cond, List, [], ◌∷◌, ◌++◌, drop, map, refl, sym, ◌∙◌, ap, subst, Option, Some, None, inl, inr}
-use Rattle.std.specs.Prelude.{◌⊎◌, find, nat_lt, Result, Ok, Err}
+use Rattle.std.proofs.Common.{◌≡◌, ℕ, ℤ, pos, Bool, true, false, cond, List, [], ◌∷◌, refl, sym, ◌∙◌, ap, subst, Option, Some, None, inl, inr}
+use Rattle.std.specs.Prelude.{find, nat_lt, Result, Ok, Err}
 use Rattle.std.specs.Option.{option_and_then, option_map, option_map_or}
 use Rattle.std.proofs.lemmas.Bool.{cond_both}
 use Rattle.muck_model.specs.declared.dbref.Dbref.{Dbref}
 use Rattle.muck_model.specs.declared.tune.Tune.{Tune}
-use Rattle.spec_live.specs.declared.object.Object.{Object}
-use Rattle.spec_live.specs.Objects.{Entry, nothing, object_at}
-use Rattle.spec_live.specs.Lives.{Live, tell_player}
+use Rattle.spec_live.specs.Objects.{Entry, nothing}
+use Rattle.spec_live.specs.Lives.{Live}
 use Rattle.spec_rights.specs.declared.act.Actor.{Actor}
 use Rattle.spec_rights.proofs.Shown.{quiet_tell_player}
 use Rattle.muf_model.specs.declared.fault.MufFault.{MufFault}
@@ -16,7 +15,7 @@ use Rattle.muf_model.specs.declared.prims.Primitive.{Primitive as Name}
 use Rattle.muf_model.specs.Datum.{Datum, int}
 use Rattle.muf_model.specs.Tree.{Block, Definition, Tree, word}
 use Rattle.muf_model.specs.Source.{Program, Source, locked_of, calls_of, handed, passed_at, last_word, entered}
-use Rattle.muf_model.specs.Unit.{calls_most, Outcome, goes, ended, faulted, asks, stuck, unit, fault}
+use Rattle.muf_model.specs.Unit.{calls_most, Outcome, goes, faulted, asks, unit, fault}
 use Rattle.muf_model.specs.Chains.{programs_of, Keeps as Keep}
 use Rattle.muf_model.proofs.Chains.{unit_keeps, fault_keeps}
 use Rattle.spec_prims.specs.Asking.{numbered}
@@ -28,7 +27,7 @@ use Rattle.muck_library.specs.declared.flaw.Flaw.{Flaw}
 use Rattle.muck_library.specs.Library.{Library, form_at, form_kept, form_or_made, formed}
 use Rattle.muck_library.specs.Programs.{source_in, built_tree}
 use Rattle.muck_queue.specs.declared.process.Process.{Process}
-use Rattle.muck_queue.specs.Queues.{Queue, has_pid, process, on_process, without, added, at_state, counted, is_full, woken, given_event, with_item}
+use Rattle.muck_queue.specs.Queues.{Queue, has_pid, process, on_process, without, added, at_state, counted, is_full, woken, given_event}
 use Rattle.muck_queue.specs.declared.mode.Wait.{Wait}
 use Rattle.muck_queue.specs.declared.mode.Wait.TheVariants.{Nothing, ForLine, ForEvent}
 use Rattle.spec_processes.specs.ProcessRows.{Effect, gives as effect_gives, waits, forks, enters, starts, refuses as effect_refuses, processed, is_process, later}
@@ -36,10 +35,10 @@ use Rattle.spec_processes.proofs.Leaves.{Leaves, leaves}
 use Rattle.spec_events.specs.declared.starting.Agent.{Agent}
 use Rattle.spec_events.specs.declared.starting.Call.{Call as Started}
 use Rattle.spec_events.specs.declared.starting.Manner.{Manner}
-use Rattle.spec_events.specs.World.{World, on_live, on_queue, with_library}
+use Rattle.spec_events.specs.World.{World, with_library}
 use Rattle.spec_events.specs.Following.{settled}
-use Rattle.spec_events.specs.Starting.{beginning, new_process, joined, word_started, form_started, built_started, begun}
-use Rattle.spec_events.specs.Slices.{acting, Deed, does, rests, fails, behind, lifted, row_done, called_word, word_entered, form_entered, form_called, program_called, child_of, with_number, child_joined, forked, queued_command, with_process, queued, place_in, effected, process_done, deed, program_error, stands_at, ended_one, broken, out, one_counted, Turn, went, after_deed, unit_done, limit_fault, within_limit, turn, world_of, agent_of, seat_of, seat, unit_of, Taken, run_of, last_world, slice_most, units_of, awake, sliced}
+use Rattle.spec_events.specs.Starting.{beginning, new_process, joined, word_started, form_started, begun}
+use Rattle.spec_events.specs.Slices.{acting, Deed, does, rests, fails, behind, lifted, row_done, called_word, word_entered, form_entered, program_called, child_of, with_number, child_joined, forked, queued_command, with_process, queued, place_in, effected, process_done, deed, program_error, stands_at, ended_one, broken, out, one_counted, went, after_deed, unit_done, limit_fault, within_limit, turn, world_of, agent_of, seat_of, Taken, run_of, last_world, slice_most, units_of, awake, sliced}
 use Rattle.spec_events.specs.Sourced.{Each, OfSource, Standing, AreSourced, Sourced, RunsSourced}
 use Rattle.spec_events.proofs.Sources.{SameSources, same_objects, source_as, IsLined, lined_same, lined_told, notes_sources}
 use Rattle.spec_events.proofs.Sourcing.{each_drop, each_append, each_without, each_changed, form_placed, settled_sourced}

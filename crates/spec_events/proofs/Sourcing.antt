@@ -2,12 +2,11 @@
 use Rattle.std.proofs.Common.{◌≡◌, ℕ, zero, suc, ℤ, pos, negsuc, ◌+◌, Bool, true, false, not, cond, List, [], ◌∷◌, ◌++◌, drop, map, refl, sym, ◌∙◌, ap, subst, Option, Some, None, inl, inr, arith}
 use Rattle.std.proofs.lemmas.Bool.{cases_eq}
 use Rattle.std.proofs.lemmas.Int.{ints}
-use Rattle.std.specs.Prelude.{◌⊎◌, ◌||◌, slice_get, find, is_some, Result, Ok, Err}
+use Rattle.std.specs.Prelude.{◌⊎◌, ◌||◌, slice_get, is_some}
 use Rattle.std.specs.List.{filter, list_any}
 use Rattle.std.specs.Option.{option_and_then, option_map, option_map_or}
 use Rattle.std.specs.Ordering.{int_eq}
 use Rattle.std.proofs.lemmas.Bool.{cond_both}
-use Rattle.std.proofs.lemmas.Option.{none-some}
 use Rattle.muck_model.specs.declared.dbref.Dbref.{Dbref}
 use Rattle.spec_live.specs.declared.mark.Mark.{Mark}
 use Rattle.spec_live.specs.declared.mark.Mark.TheVariants.{Lines, Gone}
@@ -22,8 +21,8 @@ use Rattle.muck_library.specs.Programs.{source_in}
 use Rattle.muck_queue.specs.declared.process.Process.{Process}
 use Rattle.muck_queue.specs.Queues.{has_pid, has_trigger, without_trigger, is_in, runs, changed_first, without_first, ended_running, trigger_cleared}
 use Rattle.spec_events.specs.World.{World}
-use Rattle.spec_events.specs.Following.{unbuilt, followed, swept, settled, is_marked, NoneIn}
-use Rattle.spec_events.specs.Sourced.{Each, OfSource, Standing, AreSourced, Sourced}
+use Rattle.spec_events.specs.Following.{followed, swept, settled, is_marked, NoneIn}
+use Rattle.spec_events.specs.Sourced.{Each, OfSource, Standing, AreSourced}
 use Rattle.spec_events.proofs.Ending.{settled_ends}
 use Rattle.spec_events.proofs.Sources.{IsLined}
 
