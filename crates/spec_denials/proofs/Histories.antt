@@ -10,11 +10,12 @@ use Rattle.spec_events.proofs.Happening.{effect-is}
 use Rattle.spec_denials.specs.Denials.{EventNamed, AllDenialsNamed}
 use Rattle.spec_denials.proofs.Starts.{line_starts}
 use Rattle.spec_denials.proofs.Walks.{line_locks}
+use Rattle.spec_denials.proofs.Refusals.{line_refused}
 use Rattle.spec_denials.proofs.Units.{units_named}
 
 event_named : (event : Event) (party : ℕ) (w : World) → EventNamed event w (happened w party event)
 event_named (Slice pid) party w = units_named w.live.board.tune pid (slice_most w.live.board.tune) (awake pid w)
-event_named (Exec d) party w = (line_starts d (connection d w) w, line_locks d w)
+event_named (Exec d) party w = (line_starts d (connection d w) w, line_locks d w, line_refused d w)
 event_named event party w = tt
 
 -- The law of histories, from any world.

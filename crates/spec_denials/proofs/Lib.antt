@@ -11,4 +11,5 @@ pub mod Units
 pub mod Starts
 pub mod Locked
 pub mod Walks
+pub mod Refusals
 pub mod Histories

@@ -27,6 +27,7 @@ use Rattle.spec_denials.specs.Acts.{acts_of}
 use Rattle.spec_denials.specs.Processes.{process_acts}
 use Rattle.spec_denials.specs.Starts.{LineStarts}
 use Rattle.spec_denials.specs.Walks.{LineLocked}
+use Rattle.spec_denials.specs.Refusals.{LineRefused}
 use Rattle.spec_denials.specs.Asked.{first_denied, FaultNames, NameListed}
 
 -- what a shared primitive asks for in this world, at this stack
@@ -67,10 +68,10 @@ pub record UnitNames (tune : Tune) (pid : ℤ) (t : Taken) : Type 0 where
   pub went : t.turn ≡ turn tune pid agent t.state t.before
   pub names : OutcomeNames pid agent t.actor (unit t.state) (out pid (one_counted pid t.before))
 
--- What an event asks for, from one world to the next: each unit of a slice what it asks for; and a line the program that it starts, and the lock on which it hangs.
+-- What an event asks for, from one world to the next: each unit of a slice what it asks for; and a line the program that it starts, the lock on which it hangs, and what its command asks for.
 abbrev pub EventNamed : Event → World → World → Type 0
 EventNamed (Slice pid) w v = Each (UnitNames w.live.board.tune pid) (units_of pid w)
-EventNamed (Exec d) w v = LineStarts w v × LineLocked d w v
+EventNamed (Exec d) w v = LineStarts w v × LineLocked d w v × LineRefused d w v
 EventNamed event w v = Unit {0}
 
 -- and so each of these entries

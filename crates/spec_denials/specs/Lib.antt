@@ -5,5 +5,6 @@ pub mod Notes
 pub mod Processes
 pub mod Starts
 pub mod Walks
+pub mod Refusals
 pub mod Denials
 pub mod inner

@@ -3,4 +3,5 @@ pub mod CommandRows
 pub mod PrimRows
 pub mod SendRows
 pub mod EventRows
+pub mod EditorRows
 pub mod QueueRows

@@ -29,11 +29,13 @@ ghost use Rattle.spec_denials.specs.Notes.{Request, answer_of, denies, AnswerNam
 ghost use Rattle.spec_denials.specs.Processes.{process_acts, EffectNames};
 ghost use Rattle.spec_denials.specs.Starts.{LineStarts};
 ghost use Rattle.spec_denials.specs.Walks.{LineLocked};
+ghost use Rattle.spec_denials.specs.Refusals.{LineRefused};
 ghost use Rattle.spec_denials.specs.inner.RightRows.{RightRows};
 ghost use Rattle.spec_denials.specs.inner.CommandRows.{CommandRows};
 ghost use Rattle.spec_denials.specs.inner.PrimRows.{PrimRows};
 ghost use Rattle.spec_denials.specs.inner.SendRows.{SendRows};
 ghost use Rattle.spec_denials.specs.inner.EventRows.{EventRows};
+ghost use Rattle.spec_denials.specs.inner.EditorRows.{EditorRows};
 ghost use Rattle.spec_denials.specs.inner.QueueRows.{QueueRows};
 ghost use Rattle.spec_denials.specs.Denials.{AllDenialsNamed};
 
@@ -70,21 +72,24 @@ pub fn words_deny_nothing()
 {}
 
 /// Says of a program that a line starts that its player may start it; and of a line that walks through an exit, or takes something, that
-/// nothing goes anywhere and nothing is started where its lock denies that. It does nothing.
-#[tactic(auto, using(crate::proofs::Starts::line_starts, crate::proofs::Walks::line_locks))]
+/// nothing goes anywhere and nothing is started where its lock denies that. And of a command of builders or keepers, that its player is
+/// only told so where what it asks for is denied. It does nothing.
+#[tactic(auto, using(crate::proofs::Starts::line_starts, crate::proofs::Walks::line_locks, crate::proofs::Refusals::line_refused))]
 pub fn lines_ask()
     ensures starts { (d : ℕ) (o : Option Connection) (w : World) → LineStarts w (done d o w) }
     ensures locks { (d : ℕ) (w : World) → LineLocked d w (done d (connection d w) w) }
+    ensures refuses { (d : ℕ) (w : World) → LineRefused d w (done d (connection d w) w) }
 {}
 
 /// The worked rows of what other crates define hold. It does nothing: its clauses are the rows.
-#[tactic(auto, using(crate::specs::inner::RightRows::right_rows, crate::specs::inner::CommandRows::command_rows, crate::specs::inner::PrimRows::prim_rows, crate::specs::inner::SendRows::send_rows, crate::specs::inner::EventRows::event_rows, crate::specs::inner::QueueRows::queue_rows))]
+#[tactic(auto, using(crate::specs::inner::RightRows::right_rows, crate::specs::inner::CommandRows::command_rows, crate::specs::inner::PrimRows::prim_rows, crate::specs::inner::SendRows::send_rows, crate::specs::inner::EventRows::event_rows, crate::specs::inner::EditorRows::editor_rows, crate::specs::inner::QueueRows::queue_rows))]
 pub fn rows_hold()
     ensures rights { RightRows }
     ensures commands { CommandRows }
     ensures prims { PrimRows }
     ensures sending { SendRows }
     ensures events { EventRows }
+    ensures editors { EditorRows }
     ensures queues { QueueRows }
 {}
 

@@ -142,7 +142,7 @@ still_told sends s moment event p = record {
 
 -- Processes of a step.
 
-each_first : (P : Process → Type 0) (test : Process → Bool) (f : Process → Process) → ((p : Process) → test p ≡ true → P p → P (f p)) → (ps : List Process) → Each P ps → Each P (changed_first test f ps)
+pub each_first : (P : Process → Type 0) (test : Process → Bool) (f : Process → Process) → ((p : Process) → test p ≡ true → P p → P (f p)) → (ps : List Process) → Each P ps → Each P (changed_first test f ps)
 each_first P test f k [] h = tt
 each_first P test f k (p ∷ ps) h = cond_both (test p) (f p ∷ ps) (p ∷ changed_first test f ps) (Each P) (λ e. (k p e h.0, h.1)) (λ e. (h.0, each_first P test f k ps h.1))
 

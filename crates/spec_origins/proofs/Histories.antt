@@ -5,16 +5,19 @@ use Rattle.muck_model.specs.declared.event.Event.{Event}
 use Rattle.muck_model.specs.declared.event.Event.TheVariants.{Closed, Exec, Claim, Slice, Lost}
 use Rattle.muck_model.specs.declared.tune.Tune.{Tune}
 use Rattle.spec_live.specs.Objects.{Entry as Kept, mark_in}
+use Rattle.muck_queue.specs.inner.Numbered.{IsNumbered}
 use Rattle.muck_queue.specs.Queues.{Queue, empty_queue, is_tied_to, claimed, released, ended_tied}
 use Rattle.spec_events.specs.World.{World, booted, connection}
 use Rattle.spec_events.specs.Steps.{effect, happened}
 use Rattle.spec_events.proofs.Endings.{IsTold}
 use Rattle.spec_events.proofs.Happening.{effect-is}
+use Rattle.spec_events.proofs.Numbers.{numbered_effect, rising_booted}
 use Rattle.spec_events.proofs.Sourcing.{each_filter}
 use Rattle.spec_events.proofs.Turns.{told_effect}
-use Rattle.spec_origins.specs.Origins.{Comes, From, no_process, EventOrigins, AreTied, AllOrigins}
+use Rattle.spec_origins.specs.Origins.{Comes, From, no_process, EventOrigins, AreTied, AreOwn, AllOrigins}
 use Rattle.spec_origins.proofs.Going.{from_itself}
 use Rattle.spec_origins.proofs.Lines.{line_comes}
+use Rattle.spec_origins.proofs.Runs.{effect_own}
 use Rattle.spec_origins.proofs.Tied.{tied_effect}
 use Rattle.spec_origins.proofs.Units.{slice_comes}
 
@@ -53,14 +56,17 @@ event_comes (Lost pid) w party told = still_released pid w.queue
 event_comes event w party told = still_itself w.queue
 
 -- whole histories
-all_origins : (w : World) (es : List Entry) → IsTold w.live → AreTied w → AllOrigins w es
-all_origins w [] told tied = tt
-all_origins w (entry ∷ entries) told tied =
+all_origins : (w : World) (es : List Entry) → IsTold w.live → AreTied w → IsNumbered w.queue → AreOwn w → AllOrigins w es
+all_origins w [] told tied n own = tt
+all_origins w (entry ∷ entries) told tied n own =
     let c = event_comes entry.event w entry.party told in
     let t = tied_effect entry w c tied in
-    (record { processes = subst (EventOrigins entry.event w) (sym (effect-is w entry)) c; tied = t }, all_origins (effect w entry) entries (told_effect w entry told) t)
+    let r = effect_own w entry n own in (
+      record { processes = subst (EventOrigins entry.event w) (sym (effect-is w entry)) c; tied = t; runs = r },
+      all_origins (effect w entry) entries (told_effect w entry told) t (numbered_effect w entry n) r,
+    )
 
 -- from any world that was booted with objects of which nothing is to be told
 pub all_origins_booted : (objects : List Kept) (tune : Tune) (moment start : ℕ) → ((n : ℕ) → mark_in objects n ≡ None) → (es : List Entry) → AllOrigins (booted objects tune moment start) es
 unfolding booted empty_queue
-all_origins_booted objects tune moment start none es = all_origins (booted objects tune moment start) es none tt
+all_origins_booted objects tune moment start none es = all_origins (booted objects tune moment start) es none tt (rising_booted objects tune moment start) tt

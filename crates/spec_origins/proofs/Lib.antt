@@ -8,6 +8,7 @@ mod Rows
 mod Units
 mod Lines
 mod Tied
+mod Runs
 pub mod Histories
 mod Seating
 mod Seated

@@ -1,7 +1,7 @@
 -- Behind each entry what isn't there is nobody's trigger or program, and nobody edits it.
 use Rattle.std.proofs.Common.{◌≡◌, ◌⊎◌, ◌==◌, ℕ, ℤ, Bool, true, false, not, cond, List, [], ◌∷◌, refl, sym, ◌∙◌, ap, subst, Option, Some, None, inl, inr}
 use Rattle.std.specs.Prelude.{codes, nat_lt, is_some, length, Result, Ok, Err}
-use Rattle.std.specs.Option.{option_map_or}
+use Rattle.std.specs.Option.{option_map_or, option_and_then}
 use Rattle.std.specs.Ordering.{int_eq}
 use Rattle.std.specs.Str.{bytes_eq}
 use Rattle.std.proofs.lemmas.Bool.{cond_both, and_parts}
@@ -84,13 +84,15 @@ use Rattle.spec_events.proofs.Taken.{told_turn}
 use Rattle.spec_events.proofs.Begun.{live_begun}
 use Rattle.spec_events.proofs.Turns.{gone_away_untouched, told_effect}
 use Rattle.spec_events.proofs.Typed.{typed_open}
-use Rattle.spec_origins.specs.Origins.{Comes, StartedIn, LostIn, no_process}
+use Rattle.spec_origins.specs.Origins.{Comes, StartedIn, LostIn, no_process, lowest, RunsOwn, AllOrigins}
 use Rattle.spec_origins.specs.Seats.{Seated, AllSeated}
 use Rattle.spec_origins.specs.There.{IsThere, StaysThere}
 use Rattle.spec_origins.proofs.Going.{each_among, goes_woken, from_itself, holds_begun}
+use Rattle.spec_origins.proofs.Histories.{all_origins_booted}
 use Rattle.spec_origins.proofs.Keepers.{plays_typed, sits_login, sits_edited}
 use Rattle.spec_origins.proofs.Lines.{kept_left, objects_up, objects_after, queue_after}
 use Rattle.spec_origins.proofs.Named.{Stands, Names, Naming, names_or, names_played, so_there}
+use Rattle.spec_origins.proofs.Runs.{lowest_each}
 use Rattle.spec_origins.proofs.Seated.{DeedMild, done_mild, none_own, seat_turn, launched_sits, after_sits}
 use Rattle.spec_origins.proofs.Seating.{editor_in, kept_sits}
 use Rattle.spec_origins.proofs.Seats.{sits_tell, sits_leave}
@@ -462,19 +464,29 @@ module _ (Stood : List Kept → Type 0) (w : World) where
   programs_there : Sourced (BuiltOf Stood) w → Each (λ p. Standing Sound p.running) w.queue.processes
   programs_there h = each_more (λ p. Standing (OfSource (BuiltOf Stood) w.live.objects) p.running) (λ p. Standing Sound p.running) (λ p k. running_there p.running k) w.queue.processes h.processes
 
+-- with the lowest of them the one for which a process was started
+one_starts : (w : World) (p : Process) (o : Option Source) → option_and_then (λ s. lowest (programs_of s)) o ≡ Some p.program → Standing (λ q. IsThere w (numbered q.number)) o → IsThere w p.program
+one_starts w p None e h = absurd (none-some p.program e)
+one_starts w p (Some s) e h = lowest_each (IsThere w) (programs_of s) p.program h e
+
+starts_there : (w : World) (ps : List Process) → Each RunsOwn ps → Each (λ p. Standing (λ q. IsThere w (numbered q.number)) p.running) ps → Each (λ p. IsThere w p.program) ps
+starts_there w [] own h = tt
+starts_there w (p ∷ ps) own h = (one_starts w p p.running own.0 h.0, starts_there w ps own.1 h.1)
+
 -- Histories.
 
-stays_there : (Stood : List Kept → Type 0) (w : World) (entries : List Entry) → IsTold w.live → Now w → SourcedSince Stood w entries → AllSeated w entries → StaysThere w entries
-stays_there Stood w [] told h sourced seated = tt
-stays_there Stood w (entry ∷ entries) told h sourced seated =
+stays_there : (Stood : List Kept → Type 0) (w : World) (entries : List Entry) → IsTold w.live → Now w → SourcedSince Stood w entries → AllSeated w entries → AllOrigins w entries → StaysThere w entries
+stays_there Stood w [] told h sourced seated origins = tt
+stays_there Stood w (entry ∷ entries) told h sourced seated origins =
     let v : World = effect w entry in
-    let now : Now v = effect_held w entry told seated.0 h in (
-      record { triggers = now.triggers; programs = programs_there (Until Stood w entry) v sourced.1; editors = now.editors },
-      stays_there (Until Stood w entry) v entries (told_effect w entry told) now sourced.2 seated.1,
+    let now : Now v = effect_held w entry told seated.0 h in
+    let programs = programs_there (Until Stood w entry) v sourced.1 in (
+      record { starts = starts_there v v.queue.processes origins.0.runs programs; triggers = now.triggers; programs = programs; editors = now.editors },
+      stays_there (Until Stood w entry) v entries (told_effect w entry told) now sourced.2 seated.1 origins.1,
     )
 
 pub stays_there_booted : (objects : List Kept) (tune : Tune) (moment start : ℕ) → ((n : ℕ) → mark_in objects n ≡ None) → (entries : List Entry) → AllLawful (booted objects tune moment start) entries → StaysThere (booted objects tune moment start) entries
 unfolding booted empty_queue early_board
 stays_there_booted objects tune moment start none entries lawful =
     stays_there (λ es. ⊥) (booted objects tune moment start) entries none (record { triggers = tt; editors = λ d s e. absurd (none-some s e) })
-    (all_sourced_booted objects tune moment start entries) (all_seated_booted objects tune moment start none entries lawful)
+    (all_sourced_booted objects tune moment start entries) (all_seated_booted objects tune moment start none entries lawful) (all_origins_booted objects tune moment start none entries)

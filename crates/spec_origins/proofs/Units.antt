@@ -52,7 +52,7 @@ use Rattle.spec_origins.proofs.Going.{origin_both, goes_woken, among_more, from_
 use Rattle.spec_origins.proofs.Lapsing.{IsLapsing, told_lapse, marks_lapse, lapse_settled}
 use Rattle.spec_origins.proofs.Rows as rows
 
-found_among : (P : Process → Type 0) (test : Process → Bool) (ps : List Process) (p : Process) → Each P ps → find test ps ≡ Some p → P p
+pub found_among : (P : Process → Type 0) (test : Process → Bool) (ps : List Process) (p : Process) → Each P ps → find test ps ≡ Some p → P p
 found_among P test [] p h = λ e. absurd cc
 found_among P test (q ∷ ps) p h =
     (elim (test q) as (λ b. cond b (Some q) (find test ps) ≡ Some p → P p) [

@@ -1,6 +1,6 @@
 -- Whose each process is, and what it is tied to.
 use Rattle.std.specs.Prelude.{◌≡◌, ◌⊎◌, ℕ, ℤ, ◌<ℤ◌, ◌≤ℤ◌, Bool, true, false, List, [], ◌∷◌, ◌++◌, Option, Some, None, is_some}
-use Rattle.std.specs.Option.{option_map_or}
+use Rattle.std.specs.Option.{option_map_or, option_and_then}
 use Rattle.std.specs.Ordering.{int_eq}
 use Rattle.muck_model.specs.declared.dbref.Dbref.{Dbref}
 use Rattle.muck_model.specs.declared.event.Entry.{Entry}
@@ -11,7 +11,10 @@ use Rattle.spec_live.specs.Connections.{Connection}
 use Rattle.spec_rights.specs.declared.act.Act.TheVariants.{Start, Call}
 use Rattle.spec_rights.specs.Verdict.{verdict}
 use Rattle.spec_commands.specs.Finding.{actor_of}
+use Rattle.muf_model.specs.Chains.{programs_of}
 use Rattle.muf_model.specs.Datum.{Datum}
+use Rattle.muf_model.specs.Source.{Program}
+use Rattle.spec_prims.specs.Asking.{numbered}
 use Rattle.muck_queue.specs.declared.process.Process.{Process}
 use Rattle.muck_queue.specs.Queues.{Queue, is_awaiting, reader}
 use Rattle.spec_events.specs.World.{World, connection}
@@ -127,11 +130,27 @@ is_connected w d = is_some (connection d w)
 abbrev pub AreTied : World → Type 0
 AreTied w = Each (λ p. option_map_or (is_connected w) p.descr true ≡ true) w.queue.processes
 
+-- What runs.
+
+-- the lowest program on a call stack: the one with which its process began
+abbrev pub lowest : List Program → Option Dbref
+lowest [] = None
+lowest (p ∷ []) = Some (numbered p.number)
+lowest (p ∷ q ∷ ps) = lowest (q ∷ ps)
+
+-- a process stands at a state, and began with the program for which it was started
+abbrev pub RunsOwn : Process → Type 0
+RunsOwn p = option_and_then (λ s. lowest (programs_of s)) p.running ≡ Some p.program
+
+abbrev pub AreOwn : World → Type 0
+AreOwn w = Each RunsOwn w.queue.processes
+
 -- Histories.
 
 pub record Origins (event : Event) (w v : World) : Type 0 where
   pub processes : EventOrigins event w v
   pub tied : AreTied v
+  pub runs : AreOwn v
 
 -- it is so of each entry where it stands
 abbrev pub AllOrigins : World → List Entry → Type 0

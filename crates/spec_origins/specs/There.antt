@@ -14,8 +14,9 @@ use Rattle.spec_origins.specs.Seats.{editor_at}
 abbrev pub IsThere : World → Dbref → Type 0
 IsThere w d = is_some (object_at d w.live.objects) ≡ true
 
--- Each process was started by what is there, or by nothing any more. Each program on its call stack is there, and so is each program that is edited.
+-- Each process was started by what is there, or by nothing any more. The program for which it was started is there, and each on its call stack, and so is each program that is edited.
 pub record AllThere (w : World) : Type 0 where
+  pub starts : Each (λ p. IsThere w p.program) w.queue.processes
   pub triggers : Each (λ p. (p.trigger ≡ nothing) ⊎ IsThere w p.trigger) w.queue.processes
   pub programs : Each (λ p. Standing (λ q. IsThere w (numbered q.number)) p.running) w.queue.processes
   pub editors : (d : ℕ) (s : EditState) → editor_at d w ≡ Some s → IsThere w s.program
