@@ -4,3 +4,4 @@ pub mod Choosing
 pub mod Taken
 pub mod Seating
 pub mod Licences
+pub mod Seeing

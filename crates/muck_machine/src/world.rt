@@ -16,6 +16,7 @@ ghost use Rattle.muck_machine.specs.inner.Claims.{slice_event};
 ghost use Rattle.muck_machine.specs.inner.Keeping.{AreTold};
 
 mod dumping;
+mod seeing;
 mod sharing;
 
 use crate::past::Past;

@@ -7,3 +7,4 @@ pub mod Idling
 pub mod Slices
 pub mod Deeds
 pub mod Processes
+pub mod Seeing

@@ -15,6 +15,7 @@ mod limits;
 mod lines;
 mod login;
 mod processes;
+mod seeing;
 mod slices;
 mod starting;
 mod turns;

@@ -72,7 +72,7 @@ impl State {
 
     // Many units at once, and a shared primitive where one is asked for; answers how many they were, where it goes on. Who acts as
     // they begin acts still at that primitive: the programs of the process are the same.
-    fn run(
+    pub(super) fn run(
         &mut self,
         pid: i32,
         agent: Agent,
@@ -112,7 +112,7 @@ impl State {
     }
 
     // For whom a process acts as the world is, and its state, which is out of it from now on.
-    fn lend(&mut self, pid: i32) -> Option<(Agent, Running)>
+    pub(super) fn lend(&mut self, pid: i32) -> Option<(Agent, Running)>
         ensures seat { result ≡ seat pid self.old }
         ensures out { self.new ≡ out pid self.old }
     {
@@ -174,7 +174,7 @@ impl State {
 
     // A process ends by a fault, of which its player is told.
     #[tactic(auto, unfolding(spec_live::specs::Lives::tell_player))]
-    fn end_broken(
+    pub(super) fn end_broken(
         &mut self,
         pid: i32,
         player: Dbref,

@@ -1,0 +1,2 @@
+//! What is seen of the slices of processes, as definitions.
+#![tactic(auto)]
