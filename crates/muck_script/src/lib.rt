@@ -10,6 +10,8 @@ mod shown;
 mod turns;
 
 pub use act::Act;
+pub use lines::cut_line;
+pub use parsing::act_of;
 pub use script::{Script, ScriptFault, read};
 pub use shown::{farewell_text, lines_text};
 pub use turns::settle;
