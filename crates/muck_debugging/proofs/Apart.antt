@@ -1,5 +1,5 @@
 -- The lines of units begin with `!`, and those of a run with a digit.
-use Rattle.std.proofs.Common.{◌≡◌, ℕ, zero, suc, ◌+◌, ◌-◌, ◌/◌, ◌%◌, ◌<◌, ◌≤◌, Bool, true, false, not, cond, ltb, List, [], ◌∷◌, ◌++◌, length, map, take, drop, refl, sym, ◌∙◌, ap, subst, arith, append_assoc, append-nil, Option, Some, None}
+use Rattle.std.proofs.Common.{◌≡◌, ℕ, zero, suc, ◌+◌, ◌-◌, ◌/◌, ◌%◌, ◌<◌, ◌≤◌, Bool, true, false, not, cond, ltb, List, [], ◌∷◌, ◌++◌, length, take, drop, refl, sym, ◌∙◌, ap, arith, append_assoc, append-nil, Option, Some, None}
 use Rattle.std.specs.Prelude.{◌==◌, ◌&&◌, nat_lt, is_none, codes}
 use Rattle.std.specs.Fmt.{decimal, digits, digits_onto, digit_glyph}
 use Rattle.std.specs.List.{flat_map, filter, list_all, position, position_or_len, onto_first}
@@ -17,13 +17,13 @@ use Rattle.spec_events.specs.Steps.{effect}
 use Rattle.spec_events.specs.Histories.{after}
 use Rattle.muck_script.specs.declared.act.Act.{Act}
 use Rattle.muck_script.specs.Lines.{is_line_feed, lines_of}
-use Rattle.muck_script.specs.Story.{Dumped, stored, failed, outcomes_of, text_of, told, shown, farewell, both, dumping, dump_entries, next_outcome, line_story, lines_story, story, transcript, halting}
+use Rattle.muck_script.specs.Story.{Dumped, stored, failed, outcomes_of, text_of, told, shown, farewell, both, dumping, dump_entries, next_outcome, line_story, lines_story, transcript, halting}
 use Rattle.muf_debug.specs.declared.view.View.{View}
 use Rattle.muf_debug.specs.Printed.{printed}
 use Rattle.muf_debug.specs.Shown.{Tracer, is_shown, spot_of, handed_out, with_break, without_break, told as told_view, told_all}
 use Rattle.muck_debugging.specs.declared.act.DebugAct.{DebugAct}
 use Rattle.muck_debugging.specs.declared.act.DebugAct.TheVariants.{Plain, Break, Clear, Trace}
-use Rattle.muck_debugging.specs.Seen.{seen_of, views_in, shown_of, passed, Piece, pieces_of, ended, piece_text, text_of_all, units_of_all, plain_acts, then_pieces, debug_pieces, debug_text, shown_lines, is_marked, marked, unmarked}
+use Rattle.muck_debugging.specs.Seen.{seen_of, views_in, shown_of, passed, Piece, pieces_of, ended, piece_text, text_of_all, units_of_all, plain_acts, then_pieces, debug_pieces, is_marked, marked, unmarked}
 use Rattle.muck_debugging.specs.Laws.{are_texts, ShowsApart}
 
 -- Lines that end nowhere inside.

@@ -1,15 +1,13 @@
 -- What a tracer shows of views, and what is written of a history.
-use Rattle.std.proofs.Common.{◌≡◌, ℕ, ℤ, ◌+◌, Bool, true, false, cond, List, [], ◌∷◌, ◌++◌, length, take, drop, refl, sym, ◌∙◌, ap, arith, suc, append_assoc, append-nil}
+use Rattle.std.proofs.Common.{◌≡◌, ℕ, ◌+◌, Bool, true, false, cond, List, [], ◌∷◌, ◌++◌, length, refl, sym, ◌∙◌, ap, suc, append_assoc, append-nil}
 use Rattle.std.proofs.lemmas.Grind.{flat_map-append}
 use Rattle.std.specs.List.{flat_map}
 use Rattle.muck_model.specs.declared.event.Entry.{Entry}
-use Rattle.muck_model.specs.declared.event.Event.{Event}
 use Rattle.spec_events.specs.World.{World}
 use Rattle.spec_events.specs.Steps.{effect}
 use Rattle.spec_events.specs.Histories.{after}
 use Rattle.muck_script.specs.Story.{text_of, told as told_by_run}
 use Rattle.muf_debug.specs.declared.view.View.{View}
-use Rattle.muf_debug.specs.declared.places.Spot.{Spot}
 use Rattle.muf_debug.specs.Printed.{printed}
 use Rattle.muf_debug.specs.Shown.{Tracer, is_shown, spot_of, told, told_all, handed_out}
 use Rattle.muck_debugging.specs.Seen.{seen_of, views_in, shown_of, passed, Piece, pieces_of, ended, piece_text, text_of_all, units_of_all}

@@ -2,12 +2,12 @@
 use Rattle.std.proofs.Common.{◌≡◌, ℕ, ℤ, ◌+◌, ◌<◌, ◌≤◌, true, false, List, [], ◌∷◌, ◌++◌, refl, sym, ◌∙◌, ap, subst, arith, suc, zero, append_assoc, append-nil, Option, Some, None}
 use Rattle.std.specs.Prelude.{is_some}
 use Rattle.muck_model.specs.declared.event.Entry.{Entry}
-use Rattle.muck_model.specs.declared.event.Event.TheVariants.{Exec, Claim, Slice}
+use Rattle.muck_model.specs.declared.event.Event.TheVariants.{Claim}
 use Rattle.spec_events.specs.World.{World}
-use Rattle.spec_events.specs.Steps.{effect, next_ready, next_process}
+use Rattle.spec_events.specs.Steps.{effect, next_process}
 use Rattle.spec_events.specs.Histories.{History, now, after, entered, Grew, by_porter}
 use Rattle.spec_events.proofs.Runs.{grew_one, now-grew}
-use Rattle.muck_script.specs.Story.{Turn, of_line, of_process, next_turn, turn_entries, turn, turns}
+use Rattle.muck_script.specs.Story.{Turn, of_line, next_turn, turn_entries, turn, turns}
 use Rattle.muck_script.specs.inner.Settling.{entries_of, slice_of}
 use Rattle.spec_views.specs.Views.{views_of}
 use Rattle.muf_debug.specs.declared.view.View.{View}

@@ -2,19 +2,15 @@
 use Rattle.std.specs.Prelude.{ℕ, ◌+◌, nat_lt, true, false, if◌then◌else◌, List, [], ◌∷◌, length, Option, Some, None, Result, Ok, Err, codes}
 use Rattle.std.specs.Option.{option_map}
 use Rattle.std.specs.Str.{bytes_eq}
+use Rattle.muck_model.specs.Bytes.{lines_most}
 use Rattle.muck_model.specs.Decimal.{decimal_of}
 use Rattle.muck_model.specs.Numbers.{dbref_of}
 use Rattle.muck_model.specs.declared.dbref.Dbref.{Dbref}
 use Rattle.spec_commands.specs.Texts.{first_word, other_words}
-use Rattle.muck_script.specs.declared.act.Act.{Act}
 use Rattle.muck_script.specs.Lines.{lines_of}
 use Rattle.muck_script.specs.Script.{act_of, if_positive, script_most, read_part}
 use Rattle.muck_debugging.specs.declared.act.DebugAct.{DebugAct}
 use Rattle.muck_debugging.specs.declared.act.DebugAct.TheVariants.{Plain, Break, Clear, Trace}
-
--- the most lines of a program
-abbrev pub lines_most : ℕ
-lines_most = 4096
 
 -- the number of a line of a program, from 1
 abbrev pub line_number : List ℕ → Option ℕ

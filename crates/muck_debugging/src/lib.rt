@@ -13,6 +13,3 @@ pub use laws::shows_apart;
 pub use script::{DebugScript, read_debug};
 pub use shown::units_text;
 pub use turns::settle_seen;
-
-/// The most lines of a program.
-pub const LINES_MOST: u64 = 4096;

@@ -4,11 +4,14 @@ ghost use Rattle.muck_script.specs.Script.{act_of};
 ghost use Rattle.muck_debugging.specs.declared.act.DebugAct.TheVariants.{Break, Clear};
 ghost use Rattle.muck_debugging.specs.Grammar.{at_line, debug_act_of, line_number};
 
-use crate::{DebugAct, LINES_MOST};
-use muck_model::{Dbref, NoMemory, decimal};
+use crate::DebugAct;
+use muck_model::{Dbref, LINES_MOST, NoMemory, decimal};
 use muck_script::act_of;
 use spec_commands::cut_word;
 use std::alloc::Global;
+
+// The number of the last line that a program may have.
+const LAST_LINE: u64 = LINES_MOST as u64;
 
 /// What a line asks for, or none where it is outside the grammar.
 #[tactic(auto, unfolding(crate::specs::Grammar::debug_act_of))]
@@ -55,6 +58,6 @@ fn clear_of(text: &[u8]) -> Option<DebugAct>
 fn line_number(text: &[u8]) -> Option<u32>
     ensures { result ≡ line_number text.now }
 {
-    let n = decimal(text, LINES_MOST)?;
+    let n = decimal(text, LAST_LINE)?;
     if n > 0 { Some(n as u32) } else { None }
 }

@@ -1,5 +1,5 @@
 -- What is seen of the slice of a world.
-use Rattle.std.proofs.Common.{◌≡◌, Bool, true, false, List, [], Option, Some, None, Result, Ok, Err, IfOk, map, refl, sym, ◌∙◌, ap, subst}
+use Rattle.std.proofs.Common.{◌≡◌, false, List, Option, Some, None, Result, Ok, Err, IfOk, map, refl, sym, ◌∙◌, ap, subst}
 use Rattle.std.specs.Prelude.{ℤ, is_some}
 use Rattle.std.specs.Option.{option_map, option_and_then}
 use Rattle.muck_queue.specs.declared.process.Process.{Process}

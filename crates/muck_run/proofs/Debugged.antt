@@ -1,21 +1,19 @@
 -- What a run of `debug` comes to, from how it was played.
-use Rattle.std.proofs.Common.{◌≡◌, ◌⊎◌, inl, inr, ℕ, ◌+◌, ◌≤◌, Bool, true, List, [], ◌∷◌, ◌++◌, length, take, drop, refl, sym, ◌∙◌, ap, subst, arith, append_assoc, append-nil, length-append, Option, Some, None, Result, Ok, Err}
-use Rattle.std.specs.Prelude.{codes}
+use Rattle.std.proofs.Common.{◌≡◌, ◌⊎◌, inl, inr, ℕ, ◌+◌, ◌≤◌, Bool, true, List, [], ◌∷◌, ◌++◌, length, take, drop, refl, sym, ◌∙◌, ap, subst, arith, append_assoc, append-nil, length-append, Option, Some, None, Ok, Err}
 use Rattle.std.proofs.lemmas.Grind.{flat_map-append}
 use Rattle.std.proofs.lemmas.List.{take_all}
-use Rattle.muck_io.specs.Sink.{Appends}
 use Rattle.muck_io.specs.Faults.{Rose}
 use Rattle.muck_model.specs.declared.event.Entry.{Entry}
 use Rattle.muck_model.specs.declared.event.Event.TheVariants.{Died}
 use Rattle.muck_model.specs.declared.note.Note.{Note}
-use Rattle.muck_log.specs.Store.{Chosen, Damage, LogState, stored}
+use Rattle.muck_log.specs.Store.{Chosen, stored}
 use Rattle.spec_events.specs.World.{World}
 use Rattle.spec_events.specs.Histories.{History, now, after, Longer, by_porter}
 use Rattle.spec_events.proofs.Runs.{now-longer}
 use Rattle.muck_script.specs.Story.{Dumped, outcome, outcomes_of, text_of, lines_story, dumping, story}
 use Rattle.muf_debug.specs.Shown.{Tracer, new_tracer}
 use Rattle.muck_debugging.specs.declared.act.DebugAct.{DebugAct}
-use Rattle.muck_debugging.specs.Seen.{Piece, text_of_all, units_of_all, plain_acts, debug_pieces, debug_text}
+use Rattle.muck_debugging.specs.Seen.{Piece, text_of_all, units_of_all, plain_acts, debug_pieces}
 use Rattle.muck_debugging.specs.Laws.{are_texts}
 use Rattle.muck_debugging.proofs.Apart.{shows_apart}
 use Rattle.muck_run.specs.Outcome.{halted, IsUnbegun, EndsAs, EndsFull}
@@ -24,10 +22,11 @@ use Rattle.muck_run.specs.declared.playing.RunFault.{RunFault}
 use Rattle.muck_run.specs.declared.why.Why.{Why}
 use Rattle.muck_run.specs.declared.why.Why.TheVariants.{Fine, Usage, BadScript, NoMemory, ReadFault, WriteFault, DiskFault, Damaged, ListenFault, StoreFull, Spent}
 use Rattle.muck_run.specs.inner.Dumps.{DumpsLast}
-use Rattle.muck_run.specs.inner.Ends.{EndsPlay, MayEndDump, IsScriptWhy}
+use Rattle.muck_run.specs.inner.Ends.{EndsPlay, MayEndDump}
 use Rattle.muck_run.specs.inner.Plays.{Plays, Breaks, ending_of}
 use Rattle.muck_run.specs.inner.Seen.{PlaysLines, BreaksLines, IsDebugWhy}
 use Rattle.muck_run.proofs.Parts.{appends_as, outcomes-append, goes_second, pending_behind}
+use Rattle.muck_run.proofs.Called.{completes}
 use Rattle.muck_run.proofs.Onward.{length-debug}
 use Rattle.muck_run.proofs.Whole.{begun, begun_now, played_whole}
 
@@ -186,22 +185,7 @@ grammar_stands : (left : Option (List ℕ)) (line : ℕ) → IsInGrammar left �
 grammar_stands None line is outside = is
 grammar_stands (Some bytes) line is outside = let both = sym is.1 ∙ outside in cc
 
--- where nothing stood in its way, the work was done
-completes : (left : Option (List ℕ)) (r : Result Chosen Damage) (s : Chosen) (U B : Type 0) (why : Why) → EndsAs why U B → (why ≡ Usage → ⊥) → ((line : ℕ) → why ≡ BadScript line → IsFirstOutside left line) → (why ≡ ReadFault → ⊥) → (why ≡ WriteFault → ⊥) → (why ≡ DiskFault → ⊥)
-    → ((file : Bool) (at : ℕ) → why ≡ Damaged file at → r ≡ Err (record { second = file; at = at })) → r ≡ Ok s → IsInGrammar left
-    → (F : ℕ → ℕ → Type 0) → ((end more : ℕ) → why ≡ StoreFull end more → B → F end more) → (why ≡ Fine) ⊎ ((why ≡ NoMemory) ⊎ ((end more : ℕ) × (why ≡ StoreFull end more) × F end more))
-completes left r s U B Fine ends usage bad read write disk damaged ok grammar F full = inl refl
-completes left r s U B Usage ends usage bad read write disk damaged ok grammar F full = absurd (usage refl)
-completes left r s U B (BadScript line) ends usage bad read write disk damaged ok grammar F full = absurd (grammar_stands left line grammar (bad line refl))
-completes left r s U B NoMemory ends usage bad read write disk damaged ok grammar F full = inr (inl refl)
-completes left r s U B ReadFault ends usage bad read write disk damaged ok grammar F full = absurd (read refl)
-completes left r s U B WriteFault ends usage bad read write disk damaged ok grammar F full = absurd (write refl)
-completes left r s U B DiskFault ends usage bad read write disk damaged ok grammar F full = absurd (disk refl)
-completes left r s U B (Damaged file at) ends usage bad read write disk damaged ok grammar F full = let both = sym ok ∙ damaged file at refl in cc
-completes left r s U B ListenFault ends usage bad read write disk damaged ok grammar F full = absurd ends
-completes left r s U B (Spent turns) ends usage bad read write disk damaged ok grammar F full = absurd ends
-completes left r s U B (StoreFull end more) ends usage bad read write disk damaged ok grammar F full = inr (inr (end, more, refl, full end more refl ends))
-
+-- What a call for `debug` comes to: where nothing stood in its way follows from the causes of its answers.
 module _ {S K D : Type 0} (left : S → Option (List ℕ)) (faults : S → ℕ) (written : K → Option (List ℕ)) (breaks : K → ℕ) (tells : Bool) (attached : D → Option (List ℕ)) (seen : D → List ℕ) (moment : D → ℕ) (images : D → ℕ → List ℕ → Type 0) (fails : D → ℕ) (store : List ℕ)
     (why : Why) (s t : S) (k l : K) (first second first' second' : D) (tale : List Entry) (notes : List Note) where
   abbrev Debugged : Type 0
@@ -236,10 +220,10 @@ module _ {S K D : Type 0} (left : S → Option (List ℕ)) (faults : S → ℕ) 
     unread = unread;
     loads = loads;
     complete = λ chosen on ok grammar source sink a b.
-        completes (left s) _ chosen _ _ why ends usage bad_script (λ e. source (read_fault e)) (λ e. sink (write_fault e))
+        completes _ chosen _ _ why ends usage (λ line e. grammar_stands (left s) line grammar (bad_script line e)) (λ e. source (read_fault e)) (λ e. sink (write_fault e))
         (λ e. elim (disk_fault e) [
           | inl rose ↦ a rose
           | inr rose ↦ b rose
         ])
-        (λ file at e. damaged file at on e) ok grammar _ (ends_full on);
+        (λ file at e. damaged file at on e) ok _ (ends_full on);
   }

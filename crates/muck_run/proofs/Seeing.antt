@@ -1,26 +1,25 @@
 -- Parts of a run with a tracer.
-use Rattle.std.proofs.Common.{◌≡◌, ◌⊎◌, inl, inr, ℕ, zero, suc, ◌+◌, Bool, true, false, ◌&&◌, ◌||◌, cond, List, [], ◌∷◌, ◌++◌, length, take, drop, refl, sym, ◌∙◌, ap, subst, append_assoc, append-nil, take-append-drop, Option, Some, None, Result, Ok, Err}
+use Rattle.std.proofs.Common.{◌≡◌, inl, inr, ℕ, zero, suc, ◌+◌, Bool, true, false, ◌&&◌, ◌||◌, cond, List, [], ◌∷◌, ◌++◌, length, take, drop, refl, sym, ◌∙◌, ap, subst, append_assoc, append-nil, take-append-drop, Option, Some, None, Result, Ok, Err}
 use Rattle.std.specs.Prelude.{is_some, is_none, nat_lt}
-use Rattle.std.specs.List.{flat_map, list_all}
+use Rattle.std.specs.List.{flat_map}
 use Rattle.std.proofs.lemmas.List.Folds.{list_all-append}
-use Rattle.muck_io.specs.Sink.{Appends, AppendsFront}
+use Rattle.muck_io.specs.Sink.{Appends}
 use Rattle.muck_io.proofs.Appended.{appends_twice}
 use Rattle.muck_model.specs.Bytes.{text_fault}
 use Rattle.muck_model.specs.declared.event.Entry.{Entry}
-use Rattle.muck_model.specs.declared.event.Event.{Event}
 use Rattle.muck_model.specs.declared.event.Event.TheVariants.{Opened, Input, Closed, Moment, Take, Died}
 use Rattle.spec_dumps.specs.inner.Holding.{Quietly}
-use Rattle.spec_dumps.proofs.Quiet.{quiet_nothing, quiet_one, quiet_on}
+use Rattle.spec_dumps.proofs.Quiet.{quiet_nothing, quiet_one}
 use Rattle.spec_events.specs.World.{World, queue_of, is_leaving}
 use Rattle.spec_events.specs.Steps.{is_lawful}
 use Rattle.spec_events.specs.Histories.{History, now, after, entered, Longer, by_porter}
 use Rattle.spec_events.proofs.Runs.{longer_one, longer_on, longer_as, now-longer}
 use Rattle.muck_script.specs.declared.act.Act.{Act}
 use Rattle.muck_script.specs.declared.act.Act.TheVariants.{Nothing, Open, Send, Close, Wait, Dump}
-use Rattle.muck_script.specs.Story.{Dumped, stored, failed, Part, outcomes_of, plain, both, then_on, if_lawful, acted, later, turns, turns_most, taken, parted, served, next_outcome, dump_entries, dumping, asks_dump, asked_dump, line_story, text_of}
+use Rattle.muck_script.specs.Story.{Dumped, stored, failed, Part, outcomes_of, plain, both, acted, later, turns, taken, parted, served, next_outcome, dump_entries, dumping, asks_dump, asked_dump, line_story}
 use Rattle.spec_live.specs.Connections.{connections_most}
 use Rattle.muf_debug.specs.declared.view.View.{View}
-use Rattle.muf_debug.specs.Shown.{Tracer, new_tracer, told_all, handed_out, TellsSo, KeepsShown}
+use Rattle.muf_debug.specs.Shown.{Tracer, new_tracer, told_all, handed_out, TellsSo}
 use Rattle.muf_debug.specs.Watching.{SeesAll}
 use Rattle.muf_debug.proofs.Keeping.{keeps_shown}
 use Rattle.muck_debugging.specs.declared.act.DebugAct.{DebugAct}
@@ -31,7 +30,7 @@ use Rattle.muck_debugging.proofs.Watched.{views-append}
 use Rattle.muck_debugging.proofs.Pieces.{passed-append, refused_passed, kept_shown, handed_passed, pieces-append, text-append, units-append, units-seen, text_units, text_unseen, units_unseen, passed_unseen, front_unseen}
 use Rattle.muck_run.specs.declared.playing.RunFault.{RunFault}
 use Rattle.muck_run.specs.declared.playing.RunFault.TheVariants.{NoMemory, WriteFault}
-use Rattle.muck_run.specs.inner.Plays.{Says, Plays, Breaks, PlaysOrBreaks, ending_of}
+use Rattle.muck_run.specs.inner.Plays.{Plays, Breaks, PlaysOrBreaks, ending_of}
 use Rattle.muck_run.specs.inner.Seen.{IsReady, HandsOut, CutsOff, Shows, PlaysSeen, BreaksSeen, PlaysOrBreaksSeen, plain_of, nothing, act_part, commanded}
 use Rattle.muck_run.proofs.Parts.{appends_nothing, appends_as, goes_second, pending_behind, no_ending}
 use Rattle.muck_run.proofs.Turns.{turned_silent}

@@ -1,11 +1,10 @@
 -- A part of a run with a tracer: the entries that it makes happen, what is written of them and of their units, and what it makes of the tracer.
-use Rattle.std.specs.Prelude.{◌≡◌, ℕ, true, false, List, [], ◌∷◌, ◌++◌, length, take, Option, Some, None, Result, Ok, Err}
+use Rattle.std.specs.Prelude.{◌≡◌, ℕ, true, false, List, [], ◌++◌, length, take, Option, Some, None, Result, Ok, Err}
 use Rattle.std.specs.Option.{option_map_or}
 use Rattle.std.specs.List.{flat_map}
 use Rattle.muck_io.specs.Sink.{Appends, AppendsFront}
 use Rattle.muck_model.specs.declared.event.Entry.{Entry}
 use Rattle.muck_model.specs.declared.event.Event.TheVariants.{Died}
-use Rattle.spec_events.specs.World.{World}
 use Rattle.spec_events.specs.Histories.{History, now, entered, Longer, by_porter}
 use Rattle.muck_script.specs.declared.act.Act.{Act}
 use Rattle.muck_script.specs.Story.{Dumped, Part, outcomes_of, plain, line_story, lines_story}

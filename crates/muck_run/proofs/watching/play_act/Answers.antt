@@ -1,4 +1,3 @@
-use Rattle.std.proofs.Common.{sym, ◌∙◌}
 use Rattle.spec_dumps.proofs.Idle.{idle_quiet}
 use Rattle.muck_dumping.proofs.Knowing.{knows_quiet}
 use Rattle.muck_run.proofs.Lining.{held_quiet}
