@@ -5,6 +5,7 @@ use Rattle.std.specs.Option.{option_map, option_and_then}
 use Rattle.muck_queue.specs.declared.process.Process.{Process}
 use Rattle.muck_queue.specs.Queues.{process, woken}
 use Rattle.muck_queue.proofs.Changed.{process_changed}
+use Rattle.muck_queue.proofs.Woken.{woken_number}
 use Rattle.muf_debug.specs.declared.view.View.{View}
 use Rattle.muf_debug.specs.Watching.{SeesAll}
 use Rattle.spec_events.specs.World.{World}
@@ -18,6 +19,7 @@ use Rattle.muck_machine.specs.inner.Keeping.{history, Keeps}
 
 -- a world that lives is the state that is kept
 pub is_now : (p : Past) (state : World) (h : History) → Keeps p state → history p ≡ h → (now h).dead ≡ false → state ≡ now h
+unfolding now
 is_now p state h k is alive = k.lives (sym k.dies ∙ ap (λ (x : History). (now x).dead) is ∙ alive) ∙ ap now is
 
 nobody : (o : Option Process) → is_some o ≡ false → o ≡ None
@@ -28,7 +30,7 @@ nobody (Some p) e = absurd cc
 pub nothing_seen : {S : Type 0} (tells : S → View → S → Type 0) (pid : ℤ) (w : World) (a : S) → is_there pid w ≡ false → SeesAll tells (views_of pid w) a a
 nothing_seen tells pid w a e =
     let empty : seat pid (awake pid w) ≡ None =
-    ap (option_and_then seat_of) (process_changed pid (woken w.moment) (λ p. refl) w.queue ∙ ap (option_map (woken w.moment)) (nobody (process pid w.queue) e)) in
+    ap (option_and_then seat_of) (process_changed pid (woken w.moment) (woken_number w.moment) w.queue ∙ ap (option_map (woken w.moment)) (nobody (process pid w.queue) e)) in
     subst (λ (ts : List Taken). SeesAll tells (map (view_of pid) ts) a a) (sym (none_there w.live.board.tune pid (slice_most w.live.board.tune) (awake pid w) empty)) refl
 
 pub whatever : {X E P : Type 0} (r : Result X E) → P → IfOk r (λ x. P)
