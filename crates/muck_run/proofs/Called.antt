@@ -109,7 +109,7 @@ module _ {K D : Type 0} (tells : Bool) (seen : D → List ℕ) (moment : D → �
 -- A run that was played has begun, on the log that the files held.
 module _ {S K D : Type 0} (left : S → Option (List ℕ)) (faults : S → ℕ) (written : K → Option (List ℕ)) (breaks : K → ℕ) (tells : Bool) (attached : D → Option (List ℕ)) (seen : D → List ℕ) (moment : D → ℕ) (images : D → ℕ → List ℕ → Type 0) (fails : D → ℕ) (store : List ℕ)
     (log : LogState) (why : Why) (acts : List Act) (s t : S) (k l : K) (first second first' second' first'' second'' : D) (tale : List Entry) (notes : List Note) where
-  pub has_begun : (tells ≡ true → IsMountedAs seen moment images file_most log first' second') → IsFine log.chosen.held.world
+  unfoldable pub has_begun : (tells ≡ true → IsMountedAs seen moment images file_most log first' second') → IsFine log.chosen.held.world
       → (tells ≡ true → attached first' ≡ Some (store ++ codes ".a")) → (tells ≡ true → attached second' ≡ Some (store ++ codes ".b"))
       → attached first'' ≡ attached first' → attached second'' ≡ attached second'
       → (tells ≡ true → IsUntouched seen moment images first first') → (tells ≡ true → IsUntouched seen moment images second second') → fails first ≤ fails first' → fails second ≤ fails second' → HasRead left faults s t acts

@@ -2,11 +2,15 @@
 use Rattle.std.proofs.Common.{◌≡◌, ◌⊎◌, inl, inr, ℕ, ◌+◌, ◌≤◌, Bool, true, List, [], ◌∷◌, ◌++◌, length, take, drop, refl, sym, ◌∙◌, ap, subst, arith, append_assoc, append-nil, length-append, Option, Some, None, Ok, Err}
 use Rattle.std.proofs.lemmas.Grind.{flat_map-append}
 use Rattle.std.proofs.lemmas.List.{take_all}
+use Rattle.std.specs.Prelude.{codes}
 use Rattle.muck_io.specs.Faults.{Rose}
 use Rattle.muck_model.specs.declared.event.Entry.{Entry}
 use Rattle.muck_model.specs.declared.event.Event.TheVariants.{Died}
 use Rattle.muck_model.specs.declared.note.Note.{Note}
-use Rattle.muck_log.specs.Store.{Chosen, stored}
+use Rattle.muck_log.specs.Store.{Chosen, LogState, stored}
+use Rattle.muck_log.specs.World.{IsFine}
+use Rattle.muck_log.specs.inner.Mount.{IsMountedAs}
+use Rattle.spec_dumps.specs.Fronts.{file_most}
 use Rattle.spec_events.specs.World.{World}
 use Rattle.spec_events.specs.Histories.{History, now, after, Longer, by_porter}
 use Rattle.spec_events.proofs.Runs.{now-longer}
@@ -16,17 +20,17 @@ use Rattle.muck_debugging.specs.declared.act.DebugAct.{DebugAct}
 use Rattle.muck_debugging.specs.Seen.{Piece, text_of_all, units_of_all, plain_acts, debug_pieces}
 use Rattle.muck_debugging.specs.Laws.{are_texts}
 use Rattle.muck_debugging.proofs.Apart.{shows_apart}
-use Rattle.muck_run.specs.Outcome.{halted, IsUnbegun, EndsAs, EndsFull}
-use Rattle.muck_run.specs.Debugged.{IsFirstOutside, IsInGrammar, WroteWhole, WroteFront, HasWritten, HasDebugged, DebugDone}
+use Rattle.muck_run.specs.Outcome.{halted, IsUnbegun, IsUntouched, EndsAs, EndsFull}
+use Rattle.muck_run.specs.Debugged.{IsFirstOutside, IsInGrammar, WroteWhole, WroteFront, HasRead, HasWritten, HasDebugged, DebugDone}
 use Rattle.muck_run.specs.declared.playing.RunFault.{RunFault}
 use Rattle.muck_run.specs.declared.why.Why.{Why}
 use Rattle.muck_run.specs.declared.why.Why.TheVariants.{Fine, Usage, BadScript, NoMemory, ReadFault, WriteFault, DiskFault, Damaged, ListenFault, StoreFull, Spent}
 use Rattle.muck_run.specs.inner.Dumps.{DumpsLast}
-use Rattle.muck_run.specs.inner.Ends.{EndsPlay, MayEndDump}
+use Rattle.muck_run.specs.inner.Ends.{EndsPlay, MayEndDump, HasPlayed, booted_from}
 use Rattle.muck_run.specs.inner.Plays.{Plays, Breaks, ending_of}
 use Rattle.muck_run.specs.inner.Seen.{PlaysLines, BreaksLines, IsDebugWhy}
 use Rattle.muck_run.proofs.Parts.{appends_as, outcomes-append, goes_second, pending_behind}
-use Rattle.muck_run.proofs.Called.{completes}
+use Rattle.muck_run.proofs.Called.{completes, has_begun}
 use Rattle.muck_run.proofs.Onward.{length-debug}
 use Rattle.muck_run.proofs.Whole.{begun, begun_now, played_whole}
 
@@ -184,6 +188,26 @@ unread_ends left why U B is u = absurd is
 grammar_stands : (left : Option (List ℕ)) (line : ℕ) → IsInGrammar left → IsFirstOutside left line → ⊥
 grammar_stands None line is outside = is
 grammar_stands (Some bytes) line is outside = let both = sym is.1 ∙ outside in cc
+
+-- A run of `debug` that was played has begun, on the log that the files held: all is so as after one of `run` that reads and writes nothing.
+module _ {S K D : Type 0} (left : S → Option (List ℕ)) (faults : S → ℕ) (written : K → Option (List ℕ)) (breaks : K → ℕ) (tells : Bool) (attached : D → Option (List ℕ)) (seen : D → List ℕ) (moment : D → ℕ) (images : D → ℕ → List ℕ → Type 0) (fails : D → ℕ) (store : List ℕ)
+    (log : LogState) (why : Why) (acts : List DebugAct) (s t : S) (k l : K) (first second first' second' first'' second'' : D) (tale : List Entry) (notes : List Note) where
+  pub has_debugged : (tells ≡ true → IsMountedAs seen moment images file_most log first' second') → IsFine log.chosen.held.world
+      → (tells ≡ true → attached first' ≡ Some (store ++ codes ".a")) → (tells ≡ true → attached second' ≡ Some (store ++ codes ".b"))
+      → attached first'' ≡ attached first' → attached second'' ≡ attached second'
+      → (tells ≡ true → IsUntouched seen moment images first first') → (tells ≡ true → IsUntouched seen moment images second second') → fails first ≤ fails first' → fails second ≤ fails second' → HasRead left faults s t acts
+      → HasPlayed (λ _. None) breaks tells seen moment images fails log why (plain_acts acts) k l first' second' first'' second'' tale notes
+      → HasWritten (booted_from log.chosen.held.world) why acts (written k) (written l) tale
+      → HasDebugged left faults written breaks tells attached seen moment images fails store why s t k l first second first'' second'' tale notes
+  unfolding has_begun
+  has_debugged mounted fine name_a name_b still_a still_b a b later_a later_b read p wrote = record {
+    run = has_begun (λ _. None) faults (λ _. None) breaks tells attached seen moment images fails store log why (plain_acts acts) s t k l first second first' second' first'' second'' tale notes mounted fine name_a name_b
+        still_a still_b a b later_a later_b (record { script = tt; read = tt; fine = read.fine }) p;
+    acts = acts;
+    read = read;
+    plain = refl;
+    wrote = wrote;
+  }
 
 -- What a call for `debug` comes to: where nothing stood in its way follows from the causes of its answers.
 module _ {S K D : Type 0} (left : S → Option (List ℕ)) (faults : S → ℕ) (written : K → Option (List ℕ)) (breaks : K → ℕ) (tells : Bool) (attached : D → Option (List ℕ)) (seen : D → List ℕ) (moment : D → ℕ) (images : D → ℕ → List ℕ → Type 0) (fails : D → ℕ) (store : List ℕ)

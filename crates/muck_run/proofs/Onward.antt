@@ -10,11 +10,12 @@ use Rattle.spec_events.specs.World.{World}
 use Rattle.spec_events.specs.Histories.{History, now, after, entered, by_porter}
 use Rattle.spec_events.proofs.Runs.{longer_nothing, longer_one, longer_on, longer_as, now-longer}
 use Rattle.muck_script.specs.declared.act.Act.{Act}
-use Rattle.muck_script.specs.Story.{Dumped, outcomes_of, both, line_story, lines_story, halting, told}
+use Rattle.muck_script.specs.Story.{Dumped, outcomes_of, Part, both, line_story, lines_story, halting, told}
+use Rattle.muf_debug.specs.declared.places.Spot.{Spot}
 use Rattle.muf_debug.specs.Shown.{Tracer, can_break, with_break, without_break}
 use Rattle.muck_debugging.specs.declared.act.DebugAct.{DebugAct}
 use Rattle.muck_debugging.specs.declared.act.DebugAct.TheVariants.{Plain, Break, Clear, Trace}
-use Rattle.muck_debugging.specs.Seen.{views_in, passed, Piece, pieces_of, text_of_all, units_of_all, plain_acts, then_pieces, debug_pieces}
+use Rattle.muck_debugging.specs.Seen.{views_in, passed, Piece, pieces_of, text_of_all, units_of_all, plain_acts, Pieces, then_pieces, debug_pieces}
 use Rattle.muck_debugging.specs.Laws.{are_texts}
 use Rattle.muck_debugging.proofs.Pieces.{pieces-append, length-pieces, text-append, units-append, text_unseen, units_unseen, passed_unseen}
 use Rattle.muck_run.specs.inner.Plays.{Says}
@@ -102,7 +103,7 @@ lines_break : (act : DebugAct) (acts : List DebugAct) (ending : List Entry) (t u
 lines_break act acts ending t u h k m a b c e p q =
     let next : now k ≡ after (now h) p.entries = now-longer h k _ p.history in
     let first = pieces_of (commanded act t) (now h) p.entries in
-    let count : length (p.entries ++ q.front) ≡ length first + length q.front = omega (length-append p.entries q.front, length-pieces p.entries (now h) (commanded act t)) in
+    let count : length (p.entries ++ q.front) ≡ length first + length q.front = omega (arith, length-append p.entries q.front, length-pieces p.entries (now h) (commanded act t)) in
     record {
       front = p.entries ++ q.front;
       pending = q.pending;
@@ -237,7 +238,7 @@ ready_break t u false e f r = r
 pub ready_commanded : (act : DebugAct) (t : Tracer) → IsReady t → IsReady (commanded act t)
 ready_commanded (Plain act) t r = r
 ready_commanded (Break program line) t r =
-    let spot = record { program = program; line = line } in
+    let spot : Spot = record { program = program; line = line } in
     ready_break t (record t { breaks = t.breaks ++ spot ∷ [] }) (can_break spot t) refl refl r
 ready_commanded (Clear program line) t r = record { empty = r.empty; whole = r.whole }
 ready_commanded (Trace on) t r = record { empty = r.empty; whole = r.whole }
@@ -266,19 +267,28 @@ lines_halt acts at t u h k l a b over e is w = w.finish l b (subst (λ (xs : Lis
 
 -- So many pieces as entries.
 
+-- so many pieces as entries, where so many follow
+length_then : (f : Part) (more : Pieces) (others : Part) (os : List Dumped) (w : World) (t : Tracer) →
+    length (more (drop (length (outcomes_of (f os w))) os) (after w (f os w)) (passed (views_in w (f os w)) t)) ≡ length (others (drop (length (outcomes_of (f os w))) os) (after w (f os w)))
+    → length (then_pieces more os w t (f os w)) ≡ length (both f others os w)
+length_then f more others os w t e =
+    let es = f os w in
+    let left : List Dumped = drop (length (outcomes_of es)) os in
+    length-append (pieces_of t w es) (more left (after w es) (passed (views_in w es) t))
+    ∙ ap (λ n. n + length (more left (after w es) (passed (views_in w es) t))) (length-pieces es w t)
+    ∙ ap (λ n. length es + n) e
+    ∙ sym (length-append es (others left (after w es)))
+
+either_length : (b : Bool) (ps : List Piece) (es : List Entry) → length ps ≡ length es → length (cond b (let none : List Piece = [] in none) ps) ≡ length (cond b (let none : List Entry = [] in none) es)
+either_length true ps es e = refl
+either_length false ps es e = e
+
 pub length-debug : (acts : List DebugAct) (os : List Dumped) (w : World) (t : Tracer) → length (debug_pieces acts os w t) ≡ length (lines_story (plain_acts acts) os w)
 length-debug [] os w t = length-pieces (halting w) w t
-length-debug (Plain act ∷ acts) os w t = by w.stopping where
-  es : List Entry
-  es = line_story act os w
-
-  by : (b : Bool) → length (cond b (let none : List Piece = [] in none) (then_pieces (debug_pieces acts) os w t (line_story act os w))) ≡ length (cond b (let none : List Entry = [] in none) (both (line_story act) (lines_story (plain_acts acts)) os w))
-  by true = refl
-  by false =
-      length-append (pieces_of t w (line_story act os w)) _
-      ∙ ap (λ n. n + length (debug_pieces acts (drop (length (outcomes_of (line_story act os w))) os) (after w (line_story act os w)) (passed (views_in w (line_story act os w)) t))) (length-pieces (line_story act os w) w t)
-      ∙ ap (λ n. length (line_story act os w) + n) (length-debug acts _ _ _)
-      ∙ sym (length-append (line_story act os w) _)
+length-debug (Plain act ∷ acts) os w t =
+    let es : List Entry = line_story act os w in
+    let more = length-debug acts (drop (length (outcomes_of es)) os) (after w es) (passed (views_in w es) t) in
+    either_length w.stopping _ _ (length_then (line_story act) (debug_pieces acts) (lines_story (plain_acts acts)) os w t more)
 length-debug (Break program line ∷ acts) os w t = length-debug acts os w (with_break (record { program = program; line = line }) t)
 length-debug (Clear program line ∷ acts) os w t = length-debug acts os w (without_break (record { program = program; line = line }) t)
 length-debug (Trace on ∷ acts) os w t = length-debug acts os w (record t { on = on })

@@ -1,6 +1,6 @@
 -- Parts of a run with a tracer.
 use Rattle.std.proofs.Common.{◌≡◌, inl, inr, ℕ, zero, suc, ◌+◌, Bool, true, false, ◌&&◌, ◌||◌, cond, List, [], ◌∷◌, ◌++◌, length, take, drop, refl, sym, ◌∙◌, ap, subst, append_assoc, append-nil, take-append-drop, Option, Some, None, Result, Ok, Err}
-use Rattle.std.specs.Prelude.{is_some, is_none, nat_lt}
+use Rattle.std.specs.Prelude.{OnOk, is_some, is_none, nat_lt}
 use Rattle.std.specs.List.{flat_map}
 use Rattle.std.proofs.lemmas.List.Folds.{list_all-append}
 use Rattle.muck_io.specs.Sink.{Appends}
@@ -30,9 +30,11 @@ use Rattle.muck_debugging.proofs.Watched.{views-append}
 use Rattle.muck_debugging.proofs.Pieces.{passed-append, refused_passed, kept_shown, handed_passed, pieces-append, text-append, units-append, units-seen, text_units, text_unseen, units_unseen, passed_unseen, front_unseen}
 use Rattle.muck_run.specs.declared.playing.RunFault.{RunFault}
 use Rattle.muck_run.specs.declared.playing.RunFault.TheVariants.{NoMemory, WriteFault}
+use Rattle.muck_run.specs.inner.Opens.{Opens}
 use Rattle.muck_run.specs.inner.Plays.{Plays, Breaks, PlaysOrBreaks, ending_of}
 use Rattle.muck_run.specs.inner.Seen.{IsReady, HandsOut, CutsOff, Shows, PlaysSeen, BreaksSeen, PlaysOrBreaksSeen, plain_of, nothing, act_part, commanded}
 use Rattle.muck_run.proofs.Parts.{appends_nothing, appends_as, goes_second, pending_behind, no_ending}
+use Rattle.muck_run.proofs.Opening.{opens_plays}
 use Rattle.muck_run.proofs.Turns.{turned_silent}
 use Rattle.muck_run.proofs.Lining.{first_turns, then_asked}
 
@@ -337,6 +339,11 @@ breaks_nothing_seen t h k o is = record {
 -- what happened, apart from what was written of it
 pub plays_of : (f : Part) (t u : Tracer) (h k : History) (a b : Option (List ℕ)) → PlaysSeen f t u h k a b → Plays f h k None None
 plays_of f t u h k a b p = record { entries = p.entries; said = p.said; history = p.history; text = tt; alive = p.alive }
+
+-- where nothing happens, no connection is opened
+pub opens_nothing : {T : Type 0} (most : ℕ) (t u : Tracer) (h k : History) (o : Option (List ℕ)) (r : Result T RunFault) → PlaysOrBreaksSeen nothing t u h k o o r → Opens most h → OnOk r (Opens most k)
+opens_nothing most t u h k o (Ok x) p w = opens_plays most nothing h k None None (λ os w. refl) (plays_of nothing t u h k o o p) w
+opens_nothing most t u h k o (Err fault) p w = tt
 
 -- What a line of the script does, by its three parts.
 

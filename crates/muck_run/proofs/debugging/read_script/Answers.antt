@@ -4,9 +4,9 @@ use Rattle.muck_run.specs.Debugged.{IsFirstOutside}
 use Rattle.muck_run.proofs.Scripts.{script_in, first_outside, read_out, read_part_most, bad_line}
 use Rattle.muck_run.proofs.debugging.read_script.Goals as goal
 
-pub returns-in-Ok-read-clause-read : goal.returns-in-Ok-read-clause-read
-returns-in-Ok-read-clause-read g c =
-    let ok = ap debug_script_of (sym c.as_slice.ensures.value) ∙ c.in-Ok-read.ensures in
+pub returns-in-Ok-read_debug-clause-read : goal.returns-in-Ok-read_debug-clause-read
+returns-in-Ok-read_debug-clause-read g c =
+    let ok = ap debug_script_of (sym c.as_slice.ensures.value) ∙ c.in-Ok-read_debug.ensures in
     record {
       script = script_in _ _ _ _ _ read_part_most c.in-Ok.ensures.ok ok;
       read = read_out _ _ _ _ _ read_part_most c.in-Ok.ensures.ok ok;

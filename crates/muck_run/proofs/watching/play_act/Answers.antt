@@ -1,8 +1,9 @@
+use Rattle.std.proofs.Common.{None}
 use Rattle.spec_dumps.proofs.Idle.{idle_quiet}
 use Rattle.muck_dumping.proofs.Knowing.{knows_quiet}
 use Rattle.muck_run.proofs.Lining.{held_quiet}
 use Rattle.muck_run.proofs.Noted.{noted_quiet}
-use Rattle.muck_run.proofs.Seeing.{act_seen, command_seen}
+use Rattle.muck_run.proofs.Seeing.{act_seen, command_seen, opens_nothing}
 use Rattle.muck_run.proofs.watching.play_act.Goals as goal
 
 pub returns-in-Some-clause-plays : goal.returns-in-Some-clause-plays
@@ -22,3 +23,6 @@ returns-in-None-clause-kept g c = λ mounted tells r. held_quiet _ _ _ _ _ _ _ m
 
 pub returns-in-None-clause-notes : goal.returns-in-None-clause-notes
 returns-in-None-clause-notes g c = noted_quiet _ _ c.command.ensures.quiet
+
+pub returns-in-None-clause-opened : goal.returns-in-None-clause-opened
+returns-in-None-clause-opened g c = opens_nothing c.args.most _ _ _ _ None c.command.result (c.command.ensures.plays None) c.requires.opened
