@@ -1,4 +1,4 @@
-use Rattle.std.proofs.Common.{◌≡◌, sym, ◌∙◌, ap}
+use Rattle.std.proofs.Common.{sym, ◌∙◌, ap}
 use Rattle.muck_debugging.specs.declared.act.DebugAct.{DebugAct}
 use Rattle.muck_run.specs.inner.Seen.{commanded}
 use Rattle.muck_run.proofs.Seeing.{plays_nothing_seen, breaks_nothing_seen}
