@@ -124,7 +124,7 @@ def help_and_version(folder):
     muckd = tree(folder)
     status, out, why = off(muckd, "--help", folder=folder)
     same("--help", (status, why), (0, ""))
-    holds("--help", out, "usage: muckd run STORE\n", "muckd serve STORE PORT WORKERS\n", "muckd mirror STORE\n", "muckd drill N\n", "--version", "potrzebie")
+    holds("--help", out, "usage: muckd run STORE\n", "muckd serve STORE PORT WORKERS\n", "muckd mirror STORE\n", "muckd debug STORE\n", "muckd drill N\n", "--version", "potrzebie")
     with open(BINARY, "rb") as file:
         digest = hashlib.sha256(file.read()).hexdigest()
     same("--version", off(muckd, "--version", folder=folder), (0, f"muckd, built with a-kit 1\nsources 0123\nprogram {digest} ({folder}/dist/muckd)\n", ""))
@@ -324,7 +324,7 @@ def a_manual_page(folder):
     page = os.path.join(TOP, "contrib/man/muckd.1")
     with open(page, encoding="ascii") as file:
         text = file.read()
-    holds("its commands", text, '.BI run " STORE"', '.BI serve " STORE PORT WORKERS"', '.BI mirror " STORE"', '.BI drill " N"', "\\-\\-version")
+    holds("its commands", text, '.BI run " STORE"', '.BI serve " STORE PORT WORKERS"', '.BI mirror " STORE"', '.BI debug " STORE"', '.BI drill " N"', "\\-\\-version")
     same("its statuses", [int(number) for number in re.findall(r"^\.B (\d+)", text, re.M)], list(SENTENCES))
     for name in re.findall(r"docs/[A-Z]+\.md", text):
         assert os.path.exists(os.path.join(TOP, name)), name
@@ -341,7 +341,7 @@ def completion(folder):
         put(folder, name, "")
     os.mkdir(os.path.join(folder, "towns"))
     asked = 'source "$0"; COMP_WORDS=("$@"); COMP_CWORD=$(($# - 1)); _muckd; printf "%s\\n" "${COMPREPLY[@]}"'
-    for words, want in ((("muckd", ""), ["--help", "--version", "drill", "mirror", "run", "serve"]), (("muckd", "s"), ["serve"]), (("muckd", "run", ""), ["town", "towns", "two words"]), (("muckd", "mirror", "two"), ["two words"]), (("muckd", "serve", "tow"), ["town", "towns"]),
+    for words, want in ((("muckd", ""), ["--help", "--version", "debug", "drill", "mirror", "run", "serve"]), (("muckd", "s"), ["serve"]), (("muckd", "run", ""), ["town", "towns", "two words"]), (("muckd", "mirror", "two"), ["two words"]), (("muckd", "debug", "two"), ["two words"]), (("muckd", "serve", "tow"), ["town", "towns"]),
                         (("muckd", "serve", "town", "4"), [""]), (("muckd", "serve", "town", "4201", ""), list("12345678")), (("muckd", "drill", ""), [""])):
         done = subprocess.run(["bash", "-c", asked, os.path.join(TOP, "contrib/completion/muckd"), *words], cwd=folder, capture_output=True, timeout=PATIENCE, text=True)
         same(words, (done.stderr, sorted(done.stdout.splitlines())), ("", want))

@@ -109,7 +109,7 @@ module _ {K D : Type 0} (tells : Bool) (seen : D → List ℕ) (moment : D → �
 -- A run that was played has begun, on the log that the files held.
 module _ {S K D : Type 0} (left : S → Option (List ℕ)) (faults : S → ℕ) (written : K → Option (List ℕ)) (breaks : K → ℕ) (tells : Bool) (attached : D → Option (List ℕ)) (seen : D → List ℕ) (moment : D → ℕ) (images : D → ℕ → List ℕ → Type 0) (fails : D → ℕ) (store : List ℕ)
     (log : LogState) (why : Why) (acts : List Act) (s t : S) (k l : K) (first second first' second' first'' second'' : D) (tale : List Entry) (notes : List Note) where
-  pub has_begun : (tells ≡ true → IsMountedAs seen moment images file_most log first' second') → IsFine log.chosen.held.world
+  unfoldable pub has_begun : (tells ≡ true → IsMountedAs seen moment images file_most log first' second') → IsFine log.chosen.held.world
       → (tells ≡ true → attached first' ≡ Some (store ++ codes ".a")) → (tells ≡ true → attached second' ≡ Some (store ++ codes ".b"))
       → attached first'' ≡ attached first' → attached second'' ≡ attached second'
       → (tells ≡ true → IsUntouched seen moment images first first') → (tells ≡ true → IsUntouched seen moment images second second') → fails first ≤ fails first' → fails second ≤ fails second' → HasRead left faults s t acts
@@ -169,20 +169,20 @@ grammar_stands : (left : Option (List ℕ)) (line : ℕ) → IsInGrammar left �
 grammar_stands None line is outside = is
 grammar_stands (Some bytes) line is outside = let both = sym is.1 ∙ outside in cc
 
-completes : (left : Option (List ℕ)) (r : Result Chosen Damage) (s : Chosen) (U B : Type 0) (why : Why) → EndsAs why U B → (why ≡ Usage → ⊥) → ((line : ℕ) → why ≡ BadScript line → IsFirstOutside left line) → (why ≡ ReadFault → ⊥) → (why ≡ WriteFault → ⊥) → (why ≡ DiskFault → ⊥)
-    → ((file : Bool) (at : ℕ) → why ≡ Damaged file at → r ≡ Err (record { second = file; at = at })) → r ≡ Ok s → IsInGrammar left
+pub completes : (r : Result Chosen Damage) (s : Chosen) (U B : Type 0) (why : Why) → EndsAs why U B → (why ≡ Usage → ⊥) → ((line : ℕ) → why ≡ BadScript line → ⊥) → (why ≡ ReadFault → ⊥) → (why ≡ WriteFault → ⊥) → (why ≡ DiskFault → ⊥)
+    → ((file : Bool) (at : ℕ) → why ≡ Damaged file at → r ≡ Err (record { second = file; at = at })) → r ≡ Ok s
     → (F : ℕ → ℕ → Type 0) → ((end more : ℕ) → why ≡ StoreFull end more → B → F end more) → (why ≡ Fine) ⊎ ((why ≡ NoMemory) ⊎ ((end more : ℕ) × (why ≡ StoreFull end more) × F end more))
-completes left r s U B Fine ends usage bad read write disk damaged ok grammar F full = inl refl
-completes left r s U B Usage ends usage bad read write disk damaged ok grammar F full = absurd (usage refl)
-completes left r s U B (BadScript line) ends usage bad read write disk damaged ok grammar F full = absurd (grammar_stands left line grammar (bad line refl))
-completes left r s U B NoMemory ends usage bad read write disk damaged ok grammar F full = inr (inl refl)
-completes left r s U B ReadFault ends usage bad read write disk damaged ok grammar F full = absurd (read refl)
-completes left r s U B WriteFault ends usage bad read write disk damaged ok grammar F full = absurd (write refl)
-completes left r s U B DiskFault ends usage bad read write disk damaged ok grammar F full = absurd (disk refl)
-completes left r s U B (Damaged file at) ends usage bad read write disk damaged ok grammar F full = let both = sym ok ∙ damaged file at refl in cc
-completes left r s U B ListenFault ends usage bad read write disk damaged ok grammar F full = absurd ends
-completes left r s U B (Spent turns) ends usage bad read write disk damaged ok grammar F full = absurd ends
-completes left r s U B (StoreFull end more) ends usage bad read write disk damaged ok grammar F full = inr (inr (end, more, refl, full end more refl ends))
+completes r s U B Fine ends usage bad read write disk damaged ok F full = inl refl
+completes r s U B Usage ends usage bad read write disk damaged ok F full = absurd (usage refl)
+completes r s U B (BadScript line) ends usage bad read write disk damaged ok F full = absurd (bad line refl)
+completes r s U B NoMemory ends usage bad read write disk damaged ok F full = inr (inl refl)
+completes r s U B ReadFault ends usage bad read write disk damaged ok F full = absurd (read refl)
+completes r s U B WriteFault ends usage bad read write disk damaged ok F full = absurd (write refl)
+completes r s U B DiskFault ends usage bad read write disk damaged ok F full = absurd (disk refl)
+completes r s U B (Damaged file at) ends usage bad read write disk damaged ok F full = let both = sym ok ∙ damaged file at refl in cc
+completes r s U B ListenFault ends usage bad read write disk damaged ok F full = absurd ends
+completes r s U B (Spent turns) ends usage bad read write disk damaged ok F full = absurd ends
+completes r s U B (StoreFull end more) ends usage bad read write disk damaged ok F full = inr (inr (end, more, refl, full end more refl ends))
 
 -- What a call for `run` comes to: where nothing stood in its way follows from the causes of its answers.
 module _ {S K D : Type 0} (left : S → Option (List ℕ)) (faults : S → ℕ) (written : K → Option (List ℕ)) (breaks : K → ℕ) (tells : Bool) (attached : D → Option (List ℕ)) (seen : D → List ℕ) (moment : D → ℕ) (images : D → ℕ → List ℕ → Type 0) (fails : D → ℕ) (store : List ℕ)
@@ -218,10 +218,10 @@ module _ {S K D : Type 0} (left : S → Option (List ℕ)) (faults : S → ℕ) 
     unread = unread;
     loads = loads;
     complete = λ chosen on ok grammar source sink a b.
-        completes (left s) _ chosen _ _ why ends usage bad_script (λ e. source (read_fault e)) (λ e. sink (write_fault e))
+        completes _ chosen _ _ why ends usage (λ line e. grammar_stands (left s) line grammar (bad_script line e)) (λ e. source (read_fault e)) (λ e. sink (write_fault e))
         (λ e. elim (disk_fault e) [
           | inl rose ↦ a rose
           | inr rose ↦ b rose
         ])
-        (λ file at e. damaged file at on e) ok grammar _ (ends_full on);
+        (λ file at e. damaged file at on e) ok _ (ends_full on);
   }

@@ -16,3 +16,7 @@ pub mod Noted
 pub mod Untouched
 pub mod Called
 pub mod Drilled
+pub mod Seeing
+pub mod Onward
+pub mod Scripts
+pub mod Debugged

@@ -147,12 +147,12 @@ pub text_parted : (d : ℕ) (w : World) (text : List ℕ) → is_leaving d w ≡
 unfolding told
 text_parted d w text leaving is = is ∙ sym (cond-true _ _ _ leaving)
 
-outcomes-append : (es fs : List Entry) (later : List Dumped) → outcomes_of (es ++ fs) ++ later ≡ outcomes_of es ++ (outcomes_of fs ++ later)
+pub outcomes-append : (es fs : List Entry) (later : List Dumped) → outcomes_of (es ++ fs) ++ later ≡ outcomes_of es ++ (outcomes_of fs ++ later)
 outcomes-append es fs later =
     ap (λ os. os ++ later) (flat_map-append (λ (e : Entry). outcome e.event) es fs) ∙ append_assoc (outcomes_of es) (outcomes_of fs) later
 
 -- behind what the first part says the second goes on, with the outcomes that are left
-goes_second : (f g : Part) (w v : World) (es fs : List Entry) (later : List Dumped) → v ≡ after w es → Says f w es → both f g (outcomes_of (es ++ fs) ++ later) w ≡ es ++ g (outcomes_of fs ++ later) v
+pub goes_second : (f g : Part) (w v : World) (es fs : List Entry) (later : List Dumped) → v ≡ after w es → Says f w es → both f g (outcomes_of (es ++ fs) ++ later) w ≡ es ++ g (outcomes_of fs ++ later) v
 goes_second f g w v es fs later e p =
     let left : List Dumped = outcomes_of fs ++ later in
     ap (λ os. both f g os w) (outcomes-append es fs later)
@@ -175,7 +175,7 @@ plays_both f g h k m a b c p q =
     }
 
 -- a dump that began behind the last entries began behind all of them
-pending_behind : (es front : List Entry) (os : List Dumped) → IsPending front os → IsPending (es ++ front) os
+pub pending_behind : (es front : List Entry) (os : List Dumped) → IsPending front os → IsPending (es ++ front) os
 pending_behind es front [] p = tt
 pending_behind es front (stored k ∷ []) p = (es ++ p.0, ap (λ (xs : List Entry). es ++ xs) p.1 ∙ sym (append_assoc es p.0 (by_porter (Cut k) ∷ [])))
 pending_behind es front (stored k ∷ (o ∷ os)) p = absurd p

@@ -98,7 +98,7 @@ drop_one : (acts : List Act) (at : ℕ) (act : Act) → at < length acts → act
 drop_one acts at act less is = drop-cons acts at act less ∙ ap (λ x. x ∷ drop (suc at) acts) (sym is) ∙ rw (add-one at) refl
 
 -- once the world is stopping, nothing more happens
-stopped : (acts : List Act) (os : List Dumped) (w : World) → w.stopping ≡ true → lines_story acts os w ≡ []
+pub stopped : (acts : List Act) (os : List Dumped) (w : World) → w.stopping ≡ true → lines_story acts os w ≡ []
 stopped [] os w e = cond-true _ _ _ e
 stopped (act ∷ acts) os w e = cond-true _ _ _ e
 

@@ -40,6 +40,10 @@ turns_silent _ (a_line d es l) w = turns_silent es l (effect w (by_porter (Exec 
 turns_silent _ (a_claim pid es l) w = turns_silent es l (effect w (by_porter (Claim pid)))
 turns_silent _ (a_slice pid es l) w = turns_silent es l (effect w (by_porter (Slice pid)))
 
+-- nothing is written of turns
+pub turned_silent : (n : ℕ) (w : World) → text_of w (turns n w) ≡ []
+turned_silent n w = turns_silent (turns n w) (turns_are n w) w
+
 turns_live : (es : List Entry) → AreTurns es → (w : World) → (after w es).dead ≡ w.dead
 turns_live _ no_turn w = refl
 turns_live _ (a_line d es l) w = turns_live es l (effect w (by_porter (Exec d))) ∙ dead-effect w (by_porter (Exec d)) refl

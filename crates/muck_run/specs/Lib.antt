@@ -1,4 +1,5 @@
 pub mod Outcome
 pub mod Drill
 pub mod Done
+pub mod Debugged
 pub mod inner

@@ -3,3 +3,4 @@ pub mod Dumps
 pub mod Ends
 pub mod Drills
 pub mod Opens
+pub mod Seen

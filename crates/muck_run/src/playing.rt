@@ -132,8 +132,13 @@ fn close<K: Sink>(alloc: Global, world: &mut World, d: u32, out: &mut K) -> Resu
     }
 }
 
-// What a line of the script asks for; only where it closes a connection that is leaving anything is written of it.
-fn act<K: Sink>(alloc: Global, world: &mut World, act: &Act, out: &mut K) -> Result<(), RunFault>
+/// What a line of the script asks for; only where it closes a connection that is leaving anything is written of it.
+pub fn act<K: Sink>(
+    alloc: Global,
+    world: &mut World,
+    act: &Act,
+    out: &mut K,
+) -> Result<(), RunFault>
     requires { (now world.old).dead ≡ false }
     ensures plays { PlaysOrBreaks (plain (acted act.now)) world.old world.new (K.written out.old) (K.written out.new) result }
     ensures quiet { Quietly world.old world.new }
@@ -198,8 +203,8 @@ fn nobody_above(world: &World, most: u32)
     let _ = world.is_dead();
 }
 
-// Serves each connection in rising order; none is above `most`.
-fn serve_all<K: Sink>(
+/// Serves each connection in rising order; none is above `most`.
+pub fn serve_all<K: Sink>(
     alloc: Global,
     world: &mut World,
     most: u32,
@@ -247,8 +252,8 @@ fn act_and_turn<K: Sink>(
     }
 }
 
-// The greatest number of a connection that the lines so far have asked for, with this line.
-fn greatest(most: u32, line: &Act) -> u32
+/// The greatest number of a connection that the lines so far have asked for, with this line.
+pub fn greatest(most: u32, line: &Act) -> u32
     ensures later { most ≤ result }
     ensures within { asks_within result line.now ≡ true }
 {
@@ -276,8 +281,8 @@ fn is_due(world: &World, line: &Act) -> bool
     asks(line) || world.dump_asked()
 }
 
-// Makes a dump, where the line asks for one or a connection does.
-fn make_asked<D: Disk>(
+/// Makes a dump, where the line asks for one or a connection does.
+pub fn make_asked<D: Disk>(
     alloc: Global,
     world: &mut World,
     store: &mut Store,

@@ -87,8 +87,8 @@ pub fn run<S: Source, K: Sink, D: Disk>(
     }
 }
 
-// The world of a run that is to begin, and room for a whole queue.
-fn begin<D: Disk>(
+/// The world of a run that is to begin, and room for a whole queue.
+pub fn begin<D: Disk>(
     alloc: Global,
     log: &Log,
     first: &D,
@@ -104,8 +104,8 @@ fn begin<D: Disk>(
     Ok((world, buf))
 }
 
-// The world stops, where it doesn't yet.
-fn stop(world: &mut World)
+/// The world stops, where it doesn't yet.
+pub fn stop(world: &mut World)
     requires { (now world.old).dead ≡ false }
     ensures halts { Longer world.old world.new (halted (now world.old)) }
     ensures quiet { Quietly world.old world.new }
@@ -115,8 +115,8 @@ fn stop(world: &mut World)
     }
 }
 
-// The last dump of a run; why the call ends where the run was played whole.
-fn last_dump<D: Disk>(
+/// The last dump of a run; why the call ends where the run was played whole.
+pub fn last_dump<D: Disk>(
     alloc: Global,
     world: &mut World,
     store: &mut Store,

@@ -1,6 +1,7 @@
 //! A text-world server: `muckd run STORE` reads a script, runs it on the world of the store, and writes its transcript.
 //! `muckd serve STORE PORT WORKERS` serves that world to all who come, until it is stopped.
 //! `muckd mirror STORE` reads a script of a mirror that follows that store, and writes its replies.
+//! `muckd debug STORE` does what `run` does, and shows units of programs before they run.
 //! `muckd drill N` runs a fixed script on the starting world, and writes how many objects, lines and bytes came of it.
 #![tactic(auto)]
 

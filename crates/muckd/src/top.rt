@@ -2,10 +2,11 @@
 ghost use Rattle.std.specs.Prelude.{◌≡◌, ◌↔◌, ℕ, true, false, map, string_bytes, [], List, Some, None};
 ghost use Rattle.std.specs.Option.{option_map};
 ghost use Rattle.muck_mirroring.specs.Mirroring.{MirrorDone};
+ghost use Rattle.muck_run.specs.Debugged.{DebugDone};
 ghost use Rattle.muck_run.specs.Done.{RunDone, DrillDone};
 ghost use Rattle.muck_run.specs.Outcome.{status_of};
 ghost use Rattle.muckd.specs.Serving.{is_served, ServeDone};
-ghost use Rattle.muckd.specs.Words.{run, drill, serve, mirror, command_of, seen_command, is_scripted};
+ghost use Rattle.muckd.specs.Words.{run, drill, serve, mirror, debug, command_of, seen_command, is_scripted};
 
 use crate::command::{Command, command_of};
 use crate::serving::serve_store;
@@ -14,7 +15,7 @@ use muck_io::{Clock, Gate, Rest, Sink, Source};
 use muck_links::Links;
 use muck_mirroring::mirror;
 use muck_model::Tale;
-use muck_run::{Why, drill, run};
+use muck_run::{Why, debug, drill, run};
 use std::alloc::Global;
 use std::sync::Wait;
 use std::thread::Threads;
@@ -30,7 +31,8 @@ pub struct Done {
 /// Does all that a script does, and waits for nobody. The words `run STORE` open the files `STORE.a` and `STORE.b` as the two disks, mount
 /// the store that they hold, read the script whole from the source, run it on that world, write its transcript to the sink and dump the
 /// world in the end. The words `drill N` play a fixed script on the starting world and write a summary of it. The words `mirror STORE` mount
-/// that store, read the script of a mirror, have a mirror follow the store by it, and write its replies; nothing is written to a file. No other
+/// that store, read the script of a mirror, have a mirror follow the store by it, and write its replies; nothing is written to a file. The words `debug STORE` do what
+/// those of `run` do, by a script that may have four lines more, and write besides the lines of the units that it shows. No other
 /// words are a command here, those of `serve` neither. STORE has 1 to 200 bytes and doesn't begin with `-`; N is 1 to 1000, in decimal without sign
 /// or leading zeros.
 ///
@@ -51,10 +53,11 @@ pub fn by_script<S: Source, K: Sink, D: Disk>(
     ensures usage { (result.why ≡ Why.Usage) ↔ (is_scripted (command_of (map string_bytes words.now)) ≡ false) }
     ensures untouched { result.why ≡ Why.Usage → (script.new ≡ script.old) × (out.new ≡ out.old) × (first.new ≡ first.old) × (second.new ≡ second.old) × (result.tale.entries ≡ []) }
 
-    // What each command comes to, by the answer, with the cause of each answer: `run` one history or nothing, a drill its summary, a mirror the replies to its lines.
+    // What each command comes to, by the answer, with the cause of each answer: `run` one history or nothing, a drill its summary, a mirror the replies to its lines, `debug` what `run` does, with the lines of the units that are shown.
     ensures run { (store : List ℕ) → command_of (map string_bytes words.now) ≡ Some (run store) → RunDone S.left S.faults K.written K.faults D.tells D.attached D.seen D.moment D.images D.faults store result.why script.old script.new out.old out.new first.old second.old first.new second.new result.tale.entries result.tale.notes }
     ensures drill { (n : ℕ) → command_of (map string_bytes words.now) ≡ Some (drill n) → DrillDone K.written K.faults n result.why script.old script.new out.old out.new first.old second.old first.new second.new result.tale.entries }
     ensures mirror { (store : List ℕ) → command_of (map string_bytes words.now) ≡ Some (mirror store) → MirrorDone S.left S.faults K.written K.faults D.tells D.attached D.seen D.moment D.images D.faults store result.why script.old script.new out.old out.new first.old second.old first.new second.new × (result.tale.entries ≡ []) }
+    ensures debug { (store : List ℕ) → command_of (map string_bytes words.now) ≡ Some (debug store) → DebugDone S.left S.faults K.written K.faults D.tells D.attached D.seen D.moment D.images D.faults store result.why script.old script.new out.old out.new first.old second.old first.new second.new result.tale.entries result.tale.notes }
 {
     let (why, tale) = obey(alloc, command_of(words), script, out, first, second);
     Done {
@@ -64,7 +67,7 @@ pub fn by_script<S: Source, K: Sink, D: Disk>(
     }
 }
 
-/// Does all that the program does. The words of a script, of a drill and of a mirror do what [`by_script`] says, and touch neither links nor clock.
+/// Does all that the program does. The words of a script, of a drill, of a mirror and of `debug` do what [`by_script`] says, and touch neither links nor clock.
 /// The words `serve STORE PORT WORKERS` open and mount the store, listen on the port, and serve the world to all who come, by a porter, so many
 /// workers and a dumper beside each other, until it is stopped; then the world is dumped. PORT is 1 to 65535 and WORKERS 1 to 8, in decimal
 /// without sign or leading zeros.
@@ -100,10 +103,11 @@ pub fn muckd<
     ensures apart { is_served (command_of (map string_bytes words.now)) ≡ false → (links.new ≡ links.old) × (clock.new ≡ clock.old) }
     ensures aside { is_served (command_of (map string_bytes words.now)) ≡ true → (script.new ≡ script.old) × (out.new ≡ out.old) }
 
-    // What each command comes to, by the answer, with the cause of each answer: `run` one history or nothing, a drill its summary, a mirror the replies to its lines, a server the history of all its parties.
+    // What each command comes to, by the answer, with the cause of each answer: `run` one history or nothing, a drill its summary, a mirror the replies to its lines, `debug` what `run` does, with the lines of the units that are shown, a server the history of all its parties.
     ensures run { (store : List ℕ) → command_of (map string_bytes words.now) ≡ Some (run store) → RunDone S.left S.faults K.written K.faults D.tells D.attached D.seen D.moment D.images D.faults store result.why script.old script.new out.old out.new first.old second.old first.new second.new result.tale.entries result.tale.notes }
     ensures drill { (n : ℕ) → command_of (map string_bytes words.now) ≡ Some (drill n) → DrillDone K.written K.faults n result.why script.old script.new out.old out.new first.old second.old first.new second.new result.tale.entries }
     ensures mirror { (store : List ℕ) → command_of (map string_bytes words.now) ≡ Some (mirror store) → MirrorDone S.left S.faults K.written K.faults D.tells D.attached D.seen D.moment D.images D.faults store result.why script.old script.new out.old out.new first.old second.old first.new second.new × (result.tale.entries ≡ []) }
+    ensures debug { (store : List ℕ) → command_of (map string_bytes words.now) ≡ Some (debug store) → DebugDone S.left S.faults K.written K.faults D.tells D.attached D.seen D.moment D.images D.faults store result.why script.old script.new out.old out.new first.old second.old first.new second.new result.tale.entries result.tale.notes }
     ensures serve { (store : List ℕ) (port workers : ℕ) → command_of (map string_bytes words.now) ≡ Some (serve store port workers) → ServeDone (L.tells links.old) L.told L.listening C.answers D.tells D.attached D.seen D.moment D.images D.faults store port workers result.why links.old links.new clock.old clock.new first.old second.old first.new second.new result.tale.entries result.tale.notes result.tale.counted }
 {
     match command_of(words) {
@@ -123,9 +127,8 @@ pub fn muckd<
                 tale,
             }
         }
-        Some(Command::Run(_) | Command::Drill(_) | Command::Mirror(_)) | None => {
-            by_script(alloc, words, script, out, first, second)
-        }
+        Some(Command::Run(_) | Command::Drill(_) | Command::Mirror(_) | Command::Debug(_)) | None =>
+            { by_script(alloc, words, script, out, first, second) }
     }
 }
 
@@ -143,6 +146,7 @@ fn obey<S: Source, K: Sink, D: Disk>(
     ensures run { (store : List ℕ) → option_map seen_command command.entry ≡ Some (run store) → RunDone S.left S.faults K.written K.faults D.tells D.attached D.seen D.moment D.images D.faults store result.0 script.old script.new out.old out.new first.old second.old first.new second.new result.1.entries result.1.notes }
     ensures drill { (n : ℕ) → option_map seen_command command.entry ≡ Some (drill n) → DrillDone K.written K.faults n result.0 script.old script.new out.old out.new first.old second.old first.new second.new result.1.entries }
     ensures mirror { (store : List ℕ) → option_map seen_command command.entry ≡ Some (mirror store) → MirrorDone S.left S.faults K.written K.faults D.tells D.attached D.seen D.moment D.images D.faults store result.0 script.old script.new out.old out.new first.old second.old first.new second.new × (result.1.entries ≡ []) }
+    ensures debug { (store : List ℕ) → option_map seen_command command.entry ≡ Some (debug store) → DebugDone S.left S.faults K.written K.faults D.tells D.attached D.seen D.moment D.images D.faults store result.0 script.old script.new out.old out.new first.old second.old first.new second.new result.1.entries result.1.notes }
 {
     match command {
         Some(Command::Run(name)) => run(alloc, name, script, out, first, second),
@@ -151,6 +155,7 @@ fn obey<S: Source, K: Sink, D: Disk>(
             mirror(alloc, name, script, out, first, second),
             Tale::none(),
         ),
+        Some(Command::Debug(name)) => debug(alloc, name, script, out, first, second),
         Some(
             Command::Serve {
                 store: _,

@@ -9,3 +9,6 @@ returns-clause-drill g c = λ n is. c.obey-why.ensures.drill n (c.command_of.ens
 
 pub returns-clause-mirror : goal.returns-clause-mirror
 returns-clause-mirror g c = λ store is. c.obey-why.ensures.mirror store (c.command_of.ensures.command ∙ is)
+
+pub returns-clause-debug : goal.returns-clause-debug
+returns-clause-debug g c = λ store is. c.obey-why.ensures.debug store (c.command_of.ensures.command ∙ is)

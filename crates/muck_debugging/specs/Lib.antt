@@ -1,0 +1,4 @@
+pub mod Grammar
+pub mod Seen
+pub mod Laws
+pub mod inner

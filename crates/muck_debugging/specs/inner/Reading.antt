@@ -1,0 +1,17 @@
+-- What reading a script of `debug` answers.
+use Rattle.std.specs.Prelude.{◌≡◌, ℕ, List, Result, Ok, Err}
+use Rattle.muck_script.specs.declared.script.ScriptFault.{ScriptFault}
+use Rattle.muck_script.specs.declared.script.ScriptFault.TheVariants.{BadScript, NoMemory}
+use Rattle.muck_debugging.specs.declared.act.DebugAct.{DebugAct}
+use Rattle.muck_debugging.specs.declared.script.DebugScript.{DebugScript}
+use Rattle.muck_debugging.specs.Grammar.{debug_script_of}
+
+-- these are the acts, or this is the number of the first line outside; want of memory says nothing
+abbrev pub IsReading : Result (List DebugAct) ℕ → Result DebugScript ScriptFault → Type 0
+IsReading all (Ok script) = all ≡ Ok script
+IsReading all (Err (BadScript line)) = all ≡ Err line
+IsReading all (Err NoMemory) = Unit {0}
+
+-- the bytes are this script, or this is their first line outside
+abbrev pub IsScriptOf : List ℕ → Result DebugScript ScriptFault → Type 0
+IsScriptOf bytes result = IsReading (debug_script_of bytes) result
