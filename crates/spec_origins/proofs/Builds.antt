@@ -16,7 +16,7 @@ use Rattle.spec_rights.proofs.Telling.{never_both}
 use Rattle.spec_prims.specs.Asking.{numbered}
 use Rattle.spec_commands.specs.declared.edit.EditStep.{EditStep}
 use Rattle.spec_commands.specs.declared.edit.EditStep.TheVariants.{Stay, Compile, Left}
-use Rattle.spec_commands.specs.Editing.{editor_exited, is_open, edited}
+use Rattle.spec_commands.specs.Editing.{editor_exited, edited}
 use Rattle.spec_commands.specs.Finding.{actor_of}
 use Rattle.spec_commands.specs.Talk.{waits}
 use Rattle.muf_model.specs.Tree.{Tree}
