@@ -9,6 +9,7 @@ pub mod Shared
 pub mod Processes
 pub mod Units
 pub mod Starts
+pub mod Commands
 pub mod Locked
 pub mod Walks
 pub mod Refusals

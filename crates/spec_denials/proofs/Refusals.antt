@@ -1,10 +1,9 @@
 -- A line of a builder or a keeper that is denied what it asks for only tells its player so.
-use Rattle.std.proofs.Common.{◌≡◌, ℕ, ℤ, Bool, true, false, cond, List, [], ◌∷◌, Option, Some, None, refl, sym, ap, subst, ◌∙◌}
+use Rattle.std.proofs.Common.{◌≡◌, ℕ, Bool, true, false, cond, List, [], ◌∷◌, Option, Some, None, refl, sym, ap, subst, ◌∙◌}
 use Rattle.std.specs.Prelude.{◌&&◌, ◌||◌, ◌==◌, codes, option_map, is_none, is_some}
 use Rattle.std.specs.Option.{option_and_then, option_map_or}
 use Rattle.muck_model.specs.declared.dbref.Dbref.{Dbref}
 use Rattle.muck_model.specs.declared.dbref.Denial.{Denial}
-use Rattle.muck_model.specs.declared.edit.EditState.{EditState}
 use Rattle.muck_match.specs.declared.exits.ExitHit.{ExitHit}
 use Rattle.muck_match.specs.declared.naming.Found.{Found}
 use Rattle.muck_match.specs.declared.naming.Found.TheVariants.{One, None as Nobody, Many}
@@ -12,7 +11,6 @@ use Rattle.muck_match.specs.Exits.{exit_for}
 use Rattle.muck_match.specs.Naming.{found, player_named}
 use Rattle.muck_prop.specs.declared.path.PropFault.{PropFault}
 use Rattle.muck_prop.specs.Paths.{path_fault, segments_of}
-use Rattle.spec_live.specs.Connections.{Connection}
 use Rattle.spec_live.specs.Lives.{Live, Change as LiveChange, unchanged, tell, reading, either, where_so, place_at}
 use Rattle.spec_live.specs.Objects.{dbref_of, nothing}
 use Rattle.spec_live.specs.Seen.{scenery_of}
@@ -40,7 +38,6 @@ use Rattle.spec_commands.specs.Programming.{over, over_denied, program_made, pro
 use Rattle.spec_commands.specs.Reading.{looked_up, is_empty, is_whole, has_full, left_in, right_in, incomplete, judged, sought, meant, are_fit, argued, with_fit, with_parts, with_arguments, by_command, by_table}
 use Rattle.spec_commands.specs.Replies.{huh, cant_be_done, bad_name}
 use Rattle.spec_commands.specs.Settings.{setting_asked, setting_act, word_set, property_set, has_colon, path_part, value_part, assigned}
-use Rattle.spec_commands.specs.Talk.{waits}
 use Rattle.spec_commands.specs.Texts.{first_word, other_words, trimmed}
 use Rattle.spec_admin.specs.declared.word.AdminWord.{AdminWord}
 use Rattle.spec_admin.specs.declared.word.AdminWord.TheVariants.{Processes, Kill, Tune as TuneWord, Boot, Wall, NewPlayer, NewPassword, Dump, Shutdown}
@@ -48,11 +45,12 @@ use Rattle.spec_admin.specs.Lines.{tune_done, player_booted, shouted, admin_word
 use Rattle.spec_admin.specs.Players.{is_password, player_put, player_made, password_changed}
 use Rattle.spec_admin.specs.Processes.{ending, process_meant, end_told, kill_told, killed, may_end}
 use Rattle.muck_queue.specs.declared.process.Process.{Process}
-use Rattle.muck_queue.specs.Queues.{Queue, reader, without}
-use Rattle.spec_events.specs.World.{World, connection, on_live}
+use Rattle.muck_queue.specs.Queues.{Queue, without}
+use Rattle.spec_events.specs.World.{World, connection}
 use Rattle.spec_events.specs.Following.{settled}
-use Rattle.spec_events.specs.Lines.{by_keeper, typed, ended_behind, left_by, followed_up, in_world, command, line_for, line_done, done}
-use Rattle.spec_denials.specs.Refusals.{meant_of, fit_of, parts_of, arguments_of, where_act, build_act, admin_act, by_admin, by_build, by_play, line_verdict, Refuses, CommandRefuses, LineRefuses, SeatRefuses, LineRefused}
+use Rattle.spec_events.specs.Lines.{by_keeper, typed, ended_behind, left_by, followed_up, in_world, done}
+use Rattle.spec_denials.specs.Refusals.{meant_of, fit_of, parts_of, arguments_of, where_act, build_act, admin_act, by_admin, by_build, by_play, line_verdict, Refuses, CommandRefuses, LineRefused}
+use Rattle.spec_denials.proofs.Commands.{line_so}
 
 -- What a part means is what its command is given.
 
@@ -327,7 +325,7 @@ module _ (q : Queue) (d : ℕ) (a : Actor) (line : List ℕ) (w : Live) (denial 
 
 -- A line in a world.
 
-world_refuses : (d : ℕ) (player : Dbref) (line : List ℕ) (w : World) → CommandRefuses player line d w (in_world d player line w)
+world_refuses : (d : ℕ) (player : Dbref) (line : List ℕ) (w : World) → CommandRefuses d player line w (in_world d player line w)
 unfolding in_world typed or_else left_by
 world_refuses d player line w = at (line_verdict w.queue a line w.live) refl
   where
@@ -341,46 +339,5 @@ world_refuses d player line w = at (line_verdict w.queue a line w.live) refl
         ap (λ (r : Live × Outcome). followed_up d player r.1 (settled (record w { live = r.0; queue = left_by d a line w.live w.queue }))) h.0
         ∙ ap (λ (queue : Queue). settled (record w { live = refused d denial w.live; queue = queue })) h.1
 
--- A line that waits.
-
-abbrev At : Option ℤ → Option Dbref → Option EditState → List (List ℕ) → ℕ → World → World → Type 0
-At None player editor lines d w v = LineRefuses player editor lines d w v
-At (Some pid) player editor lines d w v = Unit {0}
-
-line_refuses : (d : ℕ) (player : Option Dbref) (editor : Option EditState) (line : List ℕ) (lines : List (List ℕ)) (w : World) →
-    LineRefuses player editor (line ∷ lines) d w (command player editor d line (on_live (waits d lines) w))
-line_refuses d None editor line lines w = tt
-line_refuses d (Some player) (Some s) line lines w = tt
-line_refuses d (Some player) None line lines w = world_refuses d player line (on_live (waits d lines) w)
-
-for_refuses : (d : ℕ) (pid : Option ℤ) (player : Option Dbref) (editor : Option EditState) (line : List ℕ) (lines : List (List ℕ)) (w : World) →
-    At pid player editor (line ∷ lines) d w (line_for pid player editor d line (on_live (waits d lines) w))
-for_refuses d None player editor line lines w = line_refuses d player editor line lines w
-for_refuses d (Some pid) player editor line lines w = tt
-
-none_refuses : (pid : Option ℤ) (player : Option Dbref) (editor : Option EditState) (d : ℕ) (w v : World) → At pid player editor [] d w v
-none_refuses (Some pid) player editor d w v = tt
-none_refuses None None editor d w v = tt
-none_refuses None (Some player) None d w v = tt
-none_refuses None (Some player) (Some s) d w v = tt
-
-done_refuses : (d : ℕ) (player : Option Dbref) (editor : Option EditState) (lines : List (List ℕ)) (w : World) → At (reader d w.queue) player editor lines d w (line_done d player editor lines w)
-done_refuses d player editor [] w = none_refuses (reader d w.queue) player editor d w w
-done_refuses d player editor (line ∷ lines) w = for_refuses d (reader d w.queue) player editor line lines w
-
-seat_refuses : (pid : Option ℤ) (c : Connection) (d : ℕ) (w v : World) → At pid c.player c.editor c.waiting d w v → SeatRefuses pid (Some c) d w v
-seat_refuses None c d w v h = h
-seat_refuses (Some pid) c d w v h = tt
-
-nobody_refuses : (pid : Option ℤ) (d : ℕ) (w v : World) → SeatRefuses pid None d w v
-nobody_refuses None d w v = tt
-nobody_refuses (Some pid) d w v = tt
-
--- the first line that waits on a connection
 pub line_refused : (d : ℕ) (w : World) → LineRefused d w (done d (connection d w) w)
-unfolding done
-line_refused d w = at (connection d w)
-  where
-    at : (o : Option Connection) → SeatRefuses (reader d w.queue) o d w (done d o w)
-    at None = nobody_refuses (reader d w.queue) d w w
-    at (Some c) = seat_refuses (reader d w.queue) c d w (line_done d c.player c.editor c.waiting w) (done_refuses d c.player c.editor c.waiting w)
+line_refused d w = line_so (CommandRefuses d) d (world_refuses d) w

@@ -4,6 +4,7 @@ pub mod Asked
 pub mod Notes
 pub mod Processes
 pub mod Starts
+pub mod Commands
 pub mod Walks
 pub mod Refusals
 pub mod Denials

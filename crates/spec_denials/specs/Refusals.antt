@@ -1,13 +1,11 @@
 -- For what the commands of builders and keepers ask leave, and what comes of a line where that is denied.
-use Rattle.std.specs.Prelude.{◌≡◌, ℕ, ℤ, ◌&&◌, ◌||◌, Bool, if◌then◌else◌, is_some, is_none, List, [], ◌∷◌, option_map, Option, Some, None}
+use Rattle.std.specs.Prelude.{◌≡◌, ℕ, ◌&&◌, ◌||◌, Bool, if◌then◌else◌, is_some, is_none, List, option_map, Option, Some, None}
 use Rattle.std.specs.Option.{option_and_then}
 use Rattle.muck_model.specs.declared.dbref.Dbref.{Dbref}
 use Rattle.muck_model.specs.declared.dbref.Denial.{Denial}
-use Rattle.muck_model.specs.declared.edit.EditState.{EditState}
 use Rattle.muck_match.specs.Exits.{exit_for}
 use Rattle.muck_match.specs.Naming.{found, player_named}
 use Rattle.muck_prop.specs.Paths.{path_fault, segments_of}
-use Rattle.spec_live.specs.Connections.{Connection}
 use Rattle.spec_live.specs.Lives.{Live, place_at}
 use Rattle.spec_live.specs.Objects.{Entry, dbref_of, nothing}
 use Rattle.spec_live.specs.Seen.{scenery_of}
@@ -28,16 +26,16 @@ use Rattle.spec_commands.specs.Commands.{play_words, build_words, build_shape, b
 use Rattle.spec_commands.specs.Finding.{actor_of}
 use Rattle.spec_commands.specs.Reading.{looked_up, is_empty, is_whole, has_full, left_in, right_in, are_fit, argued}
 use Rattle.spec_commands.specs.Settings.{setting_asked, setting_act, has_colon, path_part}
-use Rattle.spec_commands.specs.Talk.{waits}
 use Rattle.spec_commands.specs.Texts.{first_word, other_words, trimmed}
 use Rattle.spec_admin.specs.declared.word.AdminWord.{AdminWord}
 use Rattle.spec_admin.specs.declared.word.AdminWord.TheVariants.{Processes, Kill, Tune, NewPlayer, NewPassword}
 use Rattle.spec_admin.specs.Lines.{admin_words, admin_shape}
 use Rattle.spec_admin.specs.Players.{is_password}
 use Rattle.spec_admin.specs.Processes.{ending, process_meant}
-use Rattle.muck_queue.specs.Queues.{Queue, reader}
-use Rattle.spec_events.specs.World.{World, connection, on_live}
+use Rattle.muck_queue.specs.Queues.{Queue}
+use Rattle.spec_events.specs.World.{World, on_live}
 use Rattle.spec_events.specs.Following.{settled}
+use Rattle.spec_denials.specs.Commands.{OfLine}
 
 -- What a line means.
 
@@ -131,18 +129,8 @@ abbrev pub Refuses : Option Denial → ℕ → World → World → Type 0
 Refuses (Some denial) d w v = v ≡ settled (on_live (refused d denial) w)
 Refuses None d w v = Unit {0}
 
-abbrev pub CommandRefuses : Dbref → List ℕ → ℕ → World → World → Type 0
-CommandRefuses player line d w v = Refuses (line_verdict w.queue (actor_of w.live.objects player) line w.live) d w v
+abbrev pub CommandRefuses : ℕ → Dbref → List ℕ → World → World → Type 0
+CommandRefuses d player line w v = Refuses (line_verdict w.queue (actor_of w.live.objects player) line w.live) d w v
 
--- so of a line of a player that is a command, once it waits no more
-abbrev pub LineRefuses : Option Dbref → Option EditState → List (List ℕ) → ℕ → World → World → Type 0
-LineRefuses (Some player) None (line ∷ lines) d w v = CommandRefuses player line d (on_live (waits d lines) w) v
-LineRefuses player editor lines d w v = Unit {0}
-
-abbrev pub SeatRefuses : Option ℤ → Option Connection → ℕ → World → World → Type 0
-SeatRefuses None (Some c) d w v = LineRefuses c.player c.editor c.waiting d w v
-SeatRefuses pid c d w v = Unit {0}
-
--- so of the first line that waits on a connection, unless a process reads it
 abbrev pub LineRefused : ℕ → World → World → Type 0
-LineRefused d w v = SeatRefuses (reader d w.queue) (connection d w) d w v
+LineRefused d w v = OfLine (CommandRefuses d) d w v

@@ -1,14 +1,12 @@
 -- The locks on which lines hang: a line that walks through an exit, or takes something.
-use Rattle.std.specs.Prelude.{◌≡◌, ℕ, ℤ, if◌then◌else◌, List, ◌∷◌, map, option_map, Option, Some, None}
+use Rattle.std.specs.Prelude.{◌≡◌, ℕ, if◌then◌else◌, List, map, option_map, Option, Some, None}
 use Rattle.std.specs.Option.{option_or, option_and_then}
 use Rattle.muck_model.specs.declared.dbref.Dbref.{Dbref}
 use Rattle.muck_model.specs.declared.dbref.Denial.{Denial}
-use Rattle.muck_model.specs.declared.edit.EditState.{EditState}
 use Rattle.muck_match.specs.declared.naming.Found.{Found}
 use Rattle.muck_match.specs.declared.naming.Found.TheVariants.{One}
 use Rattle.muck_match.specs.Exits.{exit_for}
 use Rattle.muck_match.specs.Naming.{found}
-use Rattle.spec_live.specs.Connections.{Connection}
 use Rattle.spec_live.specs.Objects.{Entry}
 use Rattle.spec_live.specs.Seen.{scenery_of}
 use Rattle.spec_rights.specs.declared.act.Actor.{Actor}
@@ -21,8 +19,8 @@ use Rattle.spec_commands.specs.Commands.{play_words, begins_with_sign}
 use Rattle.spec_commands.specs.Finding.{actor_of}
 use Rattle.spec_commands.specs.Reading.{looked_up}
 use Rattle.spec_commands.specs.Texts.{first_word, other_words, trimmed}
-use Rattle.muck_queue.specs.Queues.{reader}
-use Rattle.spec_events.specs.World.{World, connection}
+use Rattle.spec_events.specs.World.{World}
+use Rattle.spec_denials.specs.Commands.{OfLine}
 
 -- to walk through the exit that takes a text
 abbrev pub walk_by : Actor → List ℕ → List Entry → Option Act
@@ -57,15 +55,8 @@ abbrev pub Stays : Option Denial → World → World → Type 0
 Stays (Some denial) w v = (places v.live.objects ≡ places w.live.objects) × (v.queue.last ≡ w.queue.last)
 Stays None w v = Unit {0}
 
--- so of a line of a player that is a command
-abbrev pub LineStays : Option Dbref → Option EditState → List (List ℕ) → World → World → Type 0
-LineStays (Some player) None (line ∷ lines) w v = Stays (lock_verdict (actor_of w.live.objects player) line w.live.objects) w v
-LineStays player editor lines w v = Unit {0}
+abbrev pub CommandStays : Dbref → List ℕ → World → World → Type 0
+CommandStays player line w v = Stays (lock_verdict (actor_of w.live.objects player) line w.live.objects) w v
 
-abbrev pub SeatStays : Option ℤ → Option Connection → World → World → Type 0
-SeatStays None (Some c) w v = LineStays c.player c.editor c.waiting w v
-SeatStays pid c w v = Unit {0}
-
--- so of the first line that waits on a connection, unless a process reads it
 abbrev pub LineLocked : ℕ → World → World → Type 0
-LineLocked d w v = SeatStays (reader d w.queue) (connection d w) w v
+LineLocked d w v = OfLine CommandStays d w v

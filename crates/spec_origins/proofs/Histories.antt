@@ -14,7 +14,9 @@ use Rattle.spec_events.proofs.Happening.{effect-is}
 use Rattle.spec_events.proofs.Numbers.{numbered_effect, rising_booted}
 use Rattle.spec_events.proofs.Sourcing.{each_filter}
 use Rattle.spec_events.proofs.Turns.{told_effect}
+use Rattle.spec_origins.specs.Builds.{EventBuilds}
 use Rattle.spec_origins.specs.Origins.{Comes, From, no_process, EventOrigins, AreTied, AreOwn, AllOrigins}
+use Rattle.spec_origins.proofs.Builds.{event_builds}
 use Rattle.spec_origins.proofs.Going.{from_itself}
 use Rattle.spec_origins.proofs.Lines.{line_comes}
 use Rattle.spec_origins.proofs.Runs.{effect_own}
@@ -62,7 +64,7 @@ all_origins w (entry ∷ entries) told tied n own =
     let c = event_comes entry.event w entry.party told in
     let t = tied_effect entry w c tied in
     let r = effect_own w entry n own in (
-      record { processes = subst (EventOrigins entry.event w) (sym (effect-is w entry)) c; tied = t; runs = r },
+      record { processes = subst (EventOrigins entry.event w) (sym (effect-is w entry)) c; tied = t; runs = r; builds = subst (EventBuilds entry.event w) (sym (effect-is w entry)) (event_builds entry.event w entry.party) },
       all_origins (effect w entry) entries (told_effect w entry told) t (numbered_effect w entry n) r,
     )
 

@@ -17,5 +17,6 @@ mod Outcomes
 pub mod Stopping
 pub mod Clearing
 mod Named
+mod Builds
 mod There
 pub mod Staying

@@ -1,7 +1,7 @@
 -- Each process stands at a state, at the bottom of whose call stack is the program for which it was started.
 use Rattle.std.proofs.Common.{◌≡◌, ◌⊎◌, ℕ, ℤ, zero, suc, pos, ◌+ℤ◌, ◌<ℤ◌, ◌≤ℤ◌, Bool, true, false, not, cond, List, [], ◌∷◌, find, drop, refl, sym, ◌∙◌, ap, subst, arith, Option, Some, None, inl, inr}
 use Rattle.std.specs.Prelude.{nat_lt, Result, Ok, Err}
-use Rattle.std.specs.Option.{option_map, option_map_or, option_and_then}
+use Rattle.std.specs.Option.{option_map, option_and_then}
 use Rattle.std.proofs.lemmas.Bool.{cond_both}
 use Rattle.std.proofs.lemmas.Bool.Decides.{Decides-int_eq}
 use Rattle.std.proofs.lemmas.Int.{ints}
@@ -14,7 +14,7 @@ use Rattle.muck_model.specs.declared.event.Event.TheVariants.{Closed, Exec, Clai
 use Rattle.muck_model.specs.declared.tune.Tune.{Tune}
 use Rattle.spec_live.specs.Connections.{Connection}
 use Rattle.spec_live.specs.Lives.{tell}
-use Rattle.spec_live.specs.Objects.{nothing, mark_in}
+use Rattle.spec_live.specs.Objects.{nothing}
 use Rattle.spec_rights.specs.declared.act.Actor.{Actor}
 use Rattle.spec_rights.specs.declared.act.Act.TheVariants.{Start}
 use Rattle.spec_rights.specs.Verdict.{verdict}
@@ -41,7 +41,7 @@ use Rattle.muck_queue.specs.inner.Numbered.{Rises, IsNumbered}
 use Rattle.muck_queue.proofs.Woken.{woken_number}
 use Rattle.spec_processes.specs.ProcessRows.{Effect, gives as effect_gives, waits, forks, enters, starts, refuses as effect_refuses, processed, is_process, later}
 use Rattle.spec_commands.specs.declared.outcome.Outcome.{Outcome as LineOutcome}
-use Rattle.spec_commands.specs.declared.outcome.Outcome.TheVariants.{Done, NotMine, Start as StartOutcome, Edit, Leave, Dump, Stop, Retune}
+use Rattle.spec_commands.specs.declared.outcome.Outcome.TheVariants.{Start as StartOutcome}
 use Rattle.spec_commands.specs.Editing.{editor_exited, is_open, edited}
 use Rattle.spec_commands.specs.Finding.{actor_of}
 use Rattle.spec_commands.specs.Talk.{waits as line_waits}
@@ -51,8 +51,8 @@ use Rattle.spec_events.specs.declared.starting.Manner.{Manner}
 use Rattle.spec_events.specs.World.{World, on_live, on_queue, with_library}
 use Rattle.spec_events.specs.Following.{settled}
 use Rattle.spec_events.specs.Starting.{beginning, new_process, by_command, by_hook, joined, word_started, form_started, begun, start_told, start_judged, launched}
-use Rattle.spec_events.specs.Lines.{with_editor, next_editor, edited_line, in_editor, typed, left_by, followed_up, in_world, command, program_aborted, is_abort, given_line, line_for, line_done, done}
-use Rattle.spec_events.specs.Slices.{acting, Deed, does, rests, fails, behind, lifted, row_done, called_word, word_entered, form_entered, program_called, child_of, with_number, child_joined, forked, queued_command, with_process, queued, place_in, effected, process_done, deed, stands_at, out, one_counted, went, after_deed, unit_done, limit_fault, within_limit, turn, world_of, seat, Taken, run_of, last_world, slice_most, awake, sliced}
+use Rattle.spec_events.specs.Lines.{with_editor, next_editor, edited_line, in_editor, typed, left_by, followed_up, in_world, program_aborted, is_abort, given_line, line_for, line_done, done}
+use Rattle.spec_events.specs.Slices.{acting, Deed, does, rests, fails, behind, lifted, row_done, called_word, word_entered, form_entered, program_called, child_of, with_number, child_joined, forked, queued_command, with_process, queued, place_in, effected, process_done, deed, stands_at, out, one_counted, went, after_deed, unit_done, limit_fault, within_limit, turn, world_of, seat, last_world, slice_most, awake, sliced}
 use Rattle.spec_events.specs.Sourced.{Each}
 use Rattle.spec_events.specs.Steps.{effect, happened}
 use Rattle.spec_events.proofs.Begun.{joined_keeps}

@@ -1,3 +1,4 @@
+pub mod Builds
 pub mod Origins
 pub mod Seats
 pub mod Stops

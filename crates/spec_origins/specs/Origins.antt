@@ -22,6 +22,7 @@ use Rattle.spec_events.specs.Slices.{Taken, queued_command, after_unit, units_of
 use Rattle.spec_events.specs.Endings.{Lapsed}
 use Rattle.spec_events.specs.Sourced.{Each}
 use Rattle.spec_events.specs.Steps.{effect}
+use Rattle.spec_origins.specs.Builds.{EventBuilds}
 
 abbrev pub Among : {X : Type 0} → X → List X → Type 0
 Among x [] = ⊥
@@ -151,6 +152,7 @@ pub record Origins (event : Event) (w v : World) : Type 0 where
   pub processes : EventOrigins event w v
   pub tied : AreTied v
   pub runs : AreOwn v
+  pub builds : EventBuilds event w v
 
 -- it is so of each entry where it stands
 abbrev pub AllOrigins : World → List Entry → Type 0

@@ -13,7 +13,8 @@ ghost use Rattle.spec_origins.specs.Seats.{AllSeated};
 ghost use Rattle.spec_origins.specs.Stops.{AllStops};
 ghost use Rattle.spec_origins.specs.There.{StaysThere};
 
-/// Says of every history of a world that is booted with objects of which nothing is to be told, whose each process is, and what it is tied to. It does nothing.
+/// Says of every history of a world that is booted with objects of which nothing is to be told, whose each process is, what it is tied
+/// to, what it runs, and what an editor builds. It does nothing.
 pub fn keeps_origins()
     ensures { (objects : List Kept) (tune : Tune) (moment start : ℕ) → ((n : ℕ) → mark_in objects n ≡ None) → (entries : List Entry) → AllOrigins (booted objects tune moment start) entries }
 {}

@@ -7,16 +7,18 @@ use Rattle.spec_live.specs.Flags.{dark}
 use Rattle.spec_live.specs.Lives.{Live, followed, reading, either, where_so, unchanged, tell, tell_player, tell_but, tell_others}
 use Rattle.spec_live.specs.Objects.{dbref_of, object_at, number_in, kind_in, object_in, list_in}
 use Rattle.spec_live.specs.Output.{sent_lines, queue_most, lines_bytes, line_sent, lines_sent, sent}
-use Rattle.spec_live.specs.Seen.{listed_in}
+use Rattle.spec_live.specs.Seen.{listed_in, flag_letters, long_form}
 use Rattle.spec_live.specs.Chain.{walk, follower}
 use Rattle.spec_live.specs.Start.{room_zero, player_one}
 use Rattle.spec_rights.specs.declared.act.Actor.{Actor}
-use Rattle.spec_rights.specs.Levels.{level_at, owner_at, flag_at, owns, controls_as, command_level}
+use Rattle.spec_rights.specs.Levels.{level_at, owner_at, flag_at, is_player_at, owns, controls_as, command_level, name_shown}
 use Rattle.mpi.specs.declared.host.Deed.{Deed}
 use Rattle.mpi.specs.declared.host.Deed.TheVariants.{Tell, Otell}
+use Rattle.std.specs.Fmt.{digits}
 use Rattle.spec_mpi.specs.Doing.{does_in}
-use Rattle.spec_commands.specs.Finding.{is_so, seen_in, owner_shown, examined}
-use Rattle.spec_commands.specs.Replies.{owner_line}
+use Rattle.spec_commands.specs.Finding.{is_so, listed, seen_in, owner_shown, examined}
+use Rattle.spec_commands.specs.Building.{holds_name, owned_named, find_shown}
+use Rattle.spec_commands.specs.Replies.{owner_line, found_count}
 use Rattle.spec_commands.specs.inner.Company.{held, company, queues}
 
 abbrev acting : ℕ → ℕ → Actor
@@ -38,6 +40,8 @@ unfoldable pub CommandRows : Type 0
 CommandRows =
     -- of what isn't one's own the owner alone is shown, and no lock
     (queues (examined 1 (acting 1 2) (dbref_of 0) (company (2 ∷ []))).board.connections ≡ (owner_line (codes "One") ∷ []) ∷ [])
+    -- one finds one's own alone
+    × (queues (find_shown 1 (acting 1 2) (codes "O") (company (2 ∷ []))).board.connections ≡ (codes "Two(#2P)" ∷ found_count 1 ∷ []) ∷ [])
     -- what has D is seen by its owner
     × (seen_in (dbref_of 2) (dbref_of 0) dim ≡ dbref_of 1 ∷ [])
     × (seen_in (dbref_of 1) (dbref_of 0) dim ≡ dbref_of 3 ∷ dbref_of 2 ∷ [])
@@ -48,5 +52,5 @@ CommandRows =
     × (heard_of (Otell (codes "hi") (dbref_of 2)) ≡ [] ∷ [] ∷ [] ∷ [])
 
 pub command_rows : CommandRows
-unfolding CommandRows early_board told_one told_player told_others followed reading either where_so unchanged tell tell_player tell_but tell_others object_at number_in kind_in object_in list_in sent_lines queue_most lines_bytes line_sent lines_sent sent listed_in walk follower room_zero player_one level_at owner_at flag_at owns controls_as command_level is_so seen_in owner_shown examined owner_line
-command_rows = (refl, refl, refl, refl, refl, refl, refl)
+unfolding CommandRows early_board told_one told_player told_others followed reading either where_so unchanged tell tell_player tell_but tell_others object_at number_in kind_in object_in list_in sent_lines queue_most lines_bytes line_sent lines_sent sent listed_in walk follower room_zero player_one level_at owner_at flag_at owns controls_as command_level is_so listed seen_in owner_shown examined owner_line is_player_at name_shown flag_letters long_form holds_name owned_named find_shown found_count digits
+command_rows = (refl, refl, refl, refl, refl, refl, refl, refl)
