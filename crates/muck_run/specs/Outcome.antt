@@ -147,9 +147,10 @@ pub record IsStart (tells : Bool) (a b : List ℕ) (began : ℕ) (w : World) (mo
   pub holds : tells ≡ true → (s : Chosen) × (stored_in a b ≡ Ok s) × (s.held.world ≡ kept) × (s.held.number ≡ mounted)
 
 -- What happened in a run that began in the world w: each entry was lawful where it stands, and changed only what is open there; what was built and what ran was of
--- the source that its program had there; what a unit was denied, it was by the rule that denies an act that it asked for, and where it went on each of these was allowed; each
--- process was whose it should be, and others kept theirs, and so the lines that wait and the editors of connections; only the porter and who may had it stop; what wasn't there was
--- nobody's trigger or program, and nobody edited it; whoever has a player gave its password; and the tale and what was written are those of the script that was read.
+-- the source that its program had there; what a unit was denied, it was by the rule that denies an act that it asked for, and where it went on each of these was allowed; a
+-- builder's or a keeper's command that was denied told by which rule and did nothing else; each process was whose it should be and ran what it was started for, and others kept
+-- theirs, and so the lines that wait and the editors of connections; only the porter and who may had it stop; what wasn't there was nobody's trigger or program, and nobody
+-- edited it; whoever has a player gave its password; and the tale and what was written are those of the script that was read.
 pub record HasHappened {S K : Type 0} (left : S → Option (List ℕ)) (faults : S → ℕ) (written : K → Option (List ℕ)) (breaks : K → ℕ) (w : World) (why : Why) (s t : S) (k l : K) (tale : List Entry) : Type 0 where
   pub lawful : AllLawful w tale
   pub licensed : AllLicensed w tale

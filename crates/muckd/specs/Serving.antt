@@ -66,9 +66,9 @@ pub record IsUnserved {L C D : Type 0} (shows : Bool) (told : L → Told) (answe
 
 -- A server began, on the world that the two files held, at the second that the clock answered first. One history happened, to which all
 -- parties added: each entry was lawful where it stands, and changed only what is open there; what was built and what ran was of the source that its program had there; what a unit
--- was denied, it was by the rule that denies an act that it asked for, and where it went on each of these was allowed; each process was whose it should be, and others kept theirs, and so
--- the lines that wait and the editors of connections; nothing ran, was the trigger of a process or was edited that wasn't there any more; only the porter and who may had it stop; and whoever
--- has a player gave its password.
+-- was denied, it was by the rule that denies an act that it asked for, and where it went on each of these was allowed; a builder's or a keeper's command that was denied told by which
+-- rule and did nothing else; each process was whose it should be and ran what it was started for, and others kept theirs, and so the lines that wait and the editors of connections; nothing
+-- ran, was the trigger of a process or was edited that wasn't there any more; only the porter and who may had it stop; and whoever has a player gave its password.
 -- Each party did what it may, and that is over, but where all turns were had. The note of the links (`counted`) stands where it belongs. The links were asked to listen once, on this port, and what they carried is what
 -- that history says of each connection. Each moment is the greater of what the clock, which had the answers `coming` from then on, answers next, and of the second before
 -- it. Of the disks is kept what is kept of a run.
