@@ -1,0 +1,38 @@
+// The desk of the porter.
+
+use muck_machine::World;
+use muck_peer::Peer;
+use std::alloc::Global;
+use turn_lock::{Turn, TurnSeat};
+
+/// What is lent to the porter, and what it keeps from round to round.
+#[derive(Drop)]
+pub struct Desk<'a, W, L, C, G, R> {
+    pub(crate) rt: &'a W,
+    pub(crate) alloc: Global,
+    pub(crate) turn: &'a Turn<World>,
+    pub(crate) seat: &'a mut TurnSeat<World>,
+    pub(crate) links: &'a mut L,
+    pub(crate) clock: &'a mut C,
+    pub(crate) gate: &'a G,
+    pub(crate) rest: &'a R,
+    /// Room for what is read at once.
+    pub(crate) room: &'a mut [u8],
+    /// Whether the note of the links was made.
+    pub(crate) noted: bool,
+    /// Whether listening failed.
+    pub(crate) broke: bool,
+    /// Whether anything was carried in this round.
+    pub(crate) moved: bool,
+    /// The links that are open.
+    pub(crate) peers: &'a mut Vec<Peer>,
+    /// A link that came, whose connection isn't opened yet.
+    pub(crate) coming: &'a mut Option<Peer>,
+}
+
+/// Why the porter ended early.
+#[derive(Drop)]
+pub enum Fault {
+    NoMemory,
+    Spent,
+}
