@@ -245,9 +245,9 @@ module _ (d : Stand) (me' : Chair) (table' : TableId) (id' : ℕ) (noted' : Bool
   deed_last (Open n) may did x = tt
 
   -- The connection of the link that came is opened.
-  pub opened_goes : (p : Peer) (n : ℕ) (peers' : List Peer) → Ready d.noted d.me → d.coming ≡ Some p → n ≡ p.number → (event ≡ Opened n) × (noted' ≡ false) → peers' ≡ d.peers ++ p ∷ []
-      → Goes Far.free d (held_with d.tells d.told d.listening peers' None)
-  opened_goes p n peers' ready is named x more = turn_goes Far.free d.tells d.told d.listening peers' None refl refl (λ t. refl)
+  pub opened_goes : (p : Peer) (n : ℕ) (peers' : List Peer) (coming' : Option Peer) → Ready d.noted d.me → d.coming ≡ Some p → n ≡ p.number → (event ≡ Opened n) × (noted' ≡ false) → peers' ≡ d.peers ++ p ∷ [] → coming' ≡ None
+      → Goes Far.free d (held_with d.tells d.told d.listening peers' coming')
+  opened_goes p n peers' coming' ready is named x more none = subst (λ (o : Option Peer). Goes Far.free d (held_with d.tells d.told d.listening peers' o)) (sym none) (turn_goes Far.free d.tells d.told d.listening peers' None refl refl (λ t. refl)
       ((own.0 ∙ sits.0, tt), ready_at (at_free (Opened n) Stage.unbound x.0 ready.free refl refl))
       (λ t b bk. record {
         since = bk.since;
@@ -255,7 +255,7 @@ module _ (d : Stand) (me' : Chair) (table' : TableId) (id' : ℕ) (noted' : Bool
         books = subst (λ (l : List Peer). BooksAt b me'.0 (tally d.told d.listening) l None) (sym more)
             (carries_opened d.noted noted' d.told d.me.0 me'.0 w event taken.1 resting.known b d.listening d.peers p.number p (x.0 ∙ ap Opened named) x.1 (subst IsNew is sits.1)
             (subst (λ (o : Option Peer). BooksAt b d.me.0 (tally d.told d.listening) d.peers (number_in o)) is bk.books));
-      })
+      }))
 
   pub opened_late : (peers' : List Peer) (coming' : Option Peer) → Ready d.noted d.me → IsMoment event → peers' ≡ d.peers → coming' ≡ d.coming → Goes Far.free d (held_with d.tells d.told d.listening peers' coming')
   opened_late peers' coming' ready x ps o =

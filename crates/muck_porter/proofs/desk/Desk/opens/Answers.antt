@@ -47,8 +47,8 @@ returns-in-Done g c =
     let d = stand g.L.Links.tells g.L.Links.told g.L.Links.listening g.C.Clock.answers c.args.self.now in
     let s = c.does-did.ensures in
     let taken = turn_made c.args.self.now.noted c.begins.new.noted (g.L.Links.told c.args.self.now.links.now) c.args.self.now.seat.now.me c.begins.new.seat.me c.in-Ok-begins.held.state c.does-did.new.world s.0 c.requires.1.resting c.in-Ok-begins.ensures.ok (did_quiet (Open c.number.result) c.does-did.result c.begins.new.noted c.reserve.new.self.items (now c.in-Ok-begins.held.state) s.0 s.2) s.1 c.give.new.seat.me c.give.ensures.own.2 c.give.ensures.idle c.give.ensures.seen c.give.ensures.same c.give.ensures.mine in
-    opened_goes d c.give.new.seat.me c.give.new.seat.table_id c.give.new.seat.id c.begins.new.noted (g.C.Clock.answers c.does-did.new.clock) (now c.in-Ok-begins.held.state) s.0 c.requires.0 c.requires.1.resting (c.give.ensures.own.0 ∙ c.begins.ensures.own.0, c.give.ensures.own.1 ∙ c.begins.ensures.own.1) taken s.3 c.in-Some.peer c.number.result _ c.requires.1 (sym c.take.ensures.value ∙ c.in-Some.is) c.number.ensures (subst (λ (x : Did). DidAs (Open c.number.result) x c.begins.new.noted c.reserve.new.self.items (now c.in-Ok-begins.held.state) s.0) c.in-Done.is s.2)
-    (c.push_reserved.ensures.items ∙ ap (λ (l : List Peer). l ++ c.in-Some.peer ∷ []) c.reserve.ensures.items)
+    opened_goes d c.give.new.seat.me c.give.new.seat.table_id c.give.new.seat.id c.begins.new.noted (g.C.Clock.answers c.does-did.new.clock) (now c.in-Ok-begins.held.state) s.0 c.requires.0 c.requires.1.resting (c.give.ensures.own.0 ∙ c.begins.ensures.own.0, c.give.ensures.own.1 ∙ c.begins.ensures.own.1) taken s.3 c.in-Some.peer c.number.result _ _ c.requires.1 (sym c.take.ensures.value ∙ c.in-Some.is) c.number.ensures (subst (λ (x : Did). DidAs (Open c.number.result) x c.begins.new.noted c.reserve.new.self.items (now c.in-Ok-begins.held.state) s.0) c.in-Done.is s.2)
+    (c.push_reserved.ensures.items ∙ ap (λ (l : List Peer). l ++ c.in-Some.peer ∷ []) c.reserve.ensures.items) c.take.ensures.after
 
 pub returns-in-Timed : goal.returns-in-Timed
 returns-in-Timed g c =
