@@ -1,5 +1,5 @@
 -- What the porter leaves, of how far its desk has come.
-use Rattle.std.proofs.Common.{true≢false, ◌≡◌, ◌⊎◌, Bool, true, false, [], refl, sym, ◌∙◌, subst, inl, inr, arith, Option}
+use Rattle.std.proofs.Common.{true≢false, ◌≡◌, ◌⊎◌, Bool, true, refl, sym, ◌∙◌, subst, inl, inr, arith, Option}
 use Rattle.muck_io.specs.Faults.{Rose}
 use Rattle.spec_serve.specs.Promises.{Tally}
 use Rattle.spec_serve.specs.inner.Keeping.{Peer}

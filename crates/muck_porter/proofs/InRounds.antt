@@ -1,6 +1,6 @@
 -- The parts of a round.
 use Rattle.std.proofs.Common.{true≢false, ◌≡◌, ◌⊎◌, ℕ, ℤ, ◌≤◌, Bool, true, false, List, [], ◌∷◌, ◌++◌, length, refl, sym, ap, ◌∙◌, subst, inl, inr, arith, eqb-true, Option, Some, None}
-use Rattle.std.specs.Prelude.{is_some, ◌||◌, ◌==◌}
+use Rattle.std.specs.Prelude.{is_some, ◌==◌}
 use Rattle.muck_io.specs.Faults.{Rose}
 use Rattle.muck_links.specs.Sessions.{Told, accepted, is_used}
 use Rattle.muck_model.specs.declared.event.Event.{Event}

@@ -1,4 +1,4 @@
-use Rattle.std.proofs.Common.{◌≡◌, ℤ, to_z, of_z, w32, rules, ap}
+use Rattle.std.proofs.Common.{◌≡◌, to_z, of_z, w32, rules, ap}
 use Rattle.muck_porter.specs.inner.Desks.{Far}
 use Rattle.muck_porter.specs.inner.Reaches.{work_far}
 use Rattle.muck_porter.proofs.Going.{goes_as, claimed_then, claimed_stands}
