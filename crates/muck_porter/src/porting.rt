@@ -139,15 +139,15 @@ impl<'a, W: Wait, L: Links, C: Clock, G: Gate, R: Rest> Desk<'a, W, L, C, G, R> 
 /// Serves all links until the run is stopped and each connection that is open is worked off. `ListenFault` where listening failed.
 /// `gate` is passed before the porter ends; `rest` is taken where a round did nothing, and while it waits for a turn; it
 /// is told of each round that did something, and of the end.
-pub fn porter<'a, W: Wait, L: Links, C: Clock, G: Gate, R: Rest>(
-    rt: &'a W,
+pub fn porter<W: Wait, L: Links, C: Clock, G: Gate, R: Rest>(
+    rt: &W,
     alloc: Global,
-    turn: &'a Turn<World>,
-    seat: &'a mut TurnSeat<World>,
-    links: &'a mut L,
-    clock: &'a mut C,
-    gate: &'a G,
-    rest: &'a R,
+    turn: &Turn<World>,
+    seat: &mut TurnSeat<World>,
+    links: &mut L,
+    clock: &mut C,
+    gate: &G,
+    rest: &R,
 ) -> Why
     requires own { seat.old.table_id ≡ turn.now.table.shared.table_id }
     requires ready { PorterReady seat.old.me }
@@ -159,14 +159,14 @@ pub fn porter<'a, W: Wait, L: Links, C: Clock, G: Gate, R: Rest>(
     let mut peers = Vec::new(alloc);
     let mut coming = None;
     let mut desk = Desk {
-        rt,
+        rt: &*rt,
         alloc,
-        turn,
-        seat,
-        links,
-        clock,
-        gate,
-        rest,
+        turn: &*turn,
+        seat: &mut *seat,
+        links: &mut *links,
+        clock: &mut *clock,
+        gate: &*gate,
+        rest: &*rest,
         room: bytes.as_mut_slice(),
         noted: false,
         broke: false,
