@@ -158,15 +158,16 @@ pub fn porter<W: Wait, L: Links, C: Clock, G: Gate, R: Rest>(
     let mut bytes = room(alloc);
     let mut peers = Vec::new(alloc);
     let mut coming = None;
+    let lent = (rt, turn, gate, rest);
     let mut desk = Desk {
-        rt: &*rt,
+        rt: &*lent.0,
         alloc,
-        turn: &*turn,
+        turn: &*lent.1,
         seat: &mut *seat,
         links: &mut *links,
         clock: &mut *clock,
-        gate: &*gate,
-        rest: &*rest,
+        gate: &*lent.2,
+        rest: &*lent.3,
         room: bytes.as_mut_slice(),
         noted: false,
         broke: false,
