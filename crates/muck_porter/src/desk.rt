@@ -7,15 +7,15 @@ use turn_lock::{Turn, TurnSeat};
 
 /// What is lent to the porter, and what it keeps from round to round.
 #[derive(Drop)]
-pub struct Desk<'a, W, L, C, G, R> {
-    pub(crate) rt: &'a W,
+pub struct Desk<'a, 'w, 't, 'g, 'r, W, L, C, G, R> {
+    pub(crate) rt: &'w W,
     pub(crate) alloc: Global,
-    pub(crate) turn: &'a Turn<World>,
+    pub(crate) turn: &'t Turn<World>,
     pub(crate) seat: &'a mut TurnSeat<World>,
     pub(crate) links: &'a mut L,
     pub(crate) clock: &'a mut C,
-    pub(crate) gate: &'a G,
-    pub(crate) rest: &'a R,
+    pub(crate) gate: &'g G,
+    pub(crate) rest: &'r R,
     /// Room for what is read at once.
     pub(crate) room: &'a mut [u8],
     /// Whether the note of the links was made.

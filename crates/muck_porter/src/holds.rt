@@ -73,7 +73,18 @@ fn settled(did: Did) -> Result<bool, Fault>
     }
 }
 
-impl<'a, W: Wait, L: Links, C: Clock, G: Gate, R: Rest> Desk<'a, W, L, C, G, R> {
+impl<'a, 'w, 't, 'g, 'r, W: Wait, L: Links, C: Clock, G: Gate, R: Rest> Desk<
+    'a,
+    'w,
+    't,
+    'g,
+    'r,
+    W,
+    L,
+    C,
+    G,
+    R,
+> {
     /// One hold, for work.
     pub(crate) fn works(&mut self) -> Result<Worked, Fault>
         requires { Stands Far.timed (stand L.tells L.told L.listening C.answers self.old) }

@@ -79,7 +79,18 @@ fn why_of(fault: Fault) -> Why
     }
 }
 
-impl<'a, W: Wait, L: Links, C: Clock, G: Gate, R: Rest> Desk<'a, W, L, C, G, R> {
+impl<'a, 'w, 't, 'g, 'r, W: Wait, L: Links, C: Clock, G: Gate, R: Rest> Desk<
+    'a,
+    'w,
+    't,
+    'g,
+    'r,
+    W,
+    L,
+    C,
+    G,
+    R,
+> {
     // One round.
     #[tactic(auto, using(crate::proofs::Going::free_then))]
     fn goes_round(&mut self) -> Result<Round, Fault>
@@ -158,16 +169,15 @@ pub fn porter<W: Wait, L: Links, C: Clock, G: Gate, R: Rest>(
     let mut bytes = room(alloc);
     let mut peers = Vec::new(alloc);
     let mut coming = None;
-    let lent = (rt, turn, gate, rest);
     let mut desk = Desk {
-        rt: &*lent.0,
+        rt,
         alloc,
-        turn: &*lent.1,
+        turn,
         seat: &mut *seat,
         links: &mut *links,
         clock: &mut *clock,
-        gate: &*lent.2,
-        rest: &*lent.3,
+        gate,
+        rest,
         room: bytes.as_mut_slice(),
         noted: false,
         broke: false,

@@ -48,7 +48,18 @@ fn left_round(left: bool) -> Round
     if left { Round::Left } else { Round::Idle }
 }
 
-impl<'a, W: Wait, L: Links, C: Clock, G: Gate, R: Rest> Desk<'a, W, L, C, G, R> {
+impl<'a, 'w, 't, 'g, 'r, W: Wait, L: Links, C: Clock, G: Gate, R: Rest> Desk<
+    'a,
+    'w,
+    't,
+    'g,
+    'r,
+    W,
+    L,
+    C,
+    G,
+    R,
+> {
     // The run is stopped, where it isn't yet.
     fn stops(&mut self) -> Result<(), Fault>
         requires { MayDo Deed.Stop (stand L.tells L.told L.listening C.answers self.old) }

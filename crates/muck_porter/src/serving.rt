@@ -44,7 +44,18 @@ fn lets_go<L: Links>(links: &mut L, peers: &mut Vec<Peer>, at: usize)
     links.close(peer.number());
 }
 
-impl<'a, W: Wait, L: Links, C: Clock, G: Gate, R: Rest> Desk<'a, W, L, C, G, R> {
+impl<'a, 'w, 't, 'g, 'r, W: Wait, L: Links, C: Clock, G: Gate, R: Rest> Desk<
+    'a,
+    'w,
+    't,
+    'g,
+    'r,
+    W,
+    L,
+    C,
+    G,
+    R,
+> {
     /// Memory was wanted outside of the world: the last entry says so.
     pub(crate) fn dies(&mut self) -> Fault
         requires { Stands Far.free (stand L.tells L.told L.listening C.answers self.old) }
