@@ -7,13 +7,13 @@ use turn_lock::{Turn, TurnSeat};
 
 /// What is lent to the porter, and what it keeps from round to round.
 #[derive(Drop)]
-pub struct Desk<'a, 'w, 't, 'g, 'r, W, L, C, G, R> {
+pub struct Desk<'a, 'w, 't, 's, 'l, 'c, 'g, 'r, W, L, C, G, R> {
     pub(crate) rt: &'w W,
     pub(crate) alloc: Global,
     pub(crate) turn: &'t Turn<World>,
-    pub(crate) seat: &'a mut TurnSeat<World>,
-    pub(crate) links: &'a mut L,
-    pub(crate) clock: &'a mut C,
+    pub(crate) seat: &'s mut TurnSeat<World>,
+    pub(crate) links: &'l mut L,
+    pub(crate) clock: &'c mut C,
     pub(crate) gate: &'g G,
     pub(crate) rest: &'r R,
     /// Room for what is read at once.

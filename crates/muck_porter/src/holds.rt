@@ -73,10 +73,13 @@ fn settled(did: Did) -> Result<bool, Fault>
     }
 }
 
-impl<'a, 'w, 't, 'g, 'r, W: Wait, L: Links, C: Clock, G: Gate, R: Rest> Desk<
+impl<'a, 'w, 't, 's, 'l, 'c, 'g, 'r, W: Wait, L: Links, C: Clock, G: Gate, R: Rest> Desk<
     'a,
     'w,
     't,
+    's,
+    'l,
+    'c,
     'g,
     'r,
     W,

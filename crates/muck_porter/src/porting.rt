@@ -79,10 +79,13 @@ fn why_of(fault: Fault) -> Why
     }
 }
 
-impl<'a, 'w, 't, 'g, 'r, W: Wait, L: Links, C: Clock, G: Gate, R: Rest> Desk<
+impl<'a, 'w, 't, 's, 'l, 'c, 'g, 'r, W: Wait, L: Links, C: Clock, G: Gate, R: Rest> Desk<
     'a,
     'w,
     't,
+    's,
+    'l,
+    'c,
     'g,
     'r,
     W,
@@ -173,9 +176,9 @@ pub fn porter<W: Wait, L: Links, C: Clock, G: Gate, R: Rest>(
         rt,
         alloc,
         turn,
-        seat: &mut *seat,
-        links: &mut *links,
-        clock: &mut *clock,
+        seat,
+        links,
+        clock,
         gate,
         rest,
         room: bytes.as_mut_slice(),

@@ -48,10 +48,13 @@ fn left_round(left: bool) -> Round
     if left { Round::Left } else { Round::Idle }
 }
 
-impl<'a, 'w, 't, 'g, 'r, W: Wait, L: Links, C: Clock, G: Gate, R: Rest> Desk<
+impl<'a, 'w, 't, 's, 'l, 'c, 'g, 'r, W: Wait, L: Links, C: Clock, G: Gate, R: Rest> Desk<
     'a,
     'w,
     't,
+    's,
+    'l,
+    'c,
     'g,
     'r,
     W,

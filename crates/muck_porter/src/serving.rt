@@ -44,10 +44,13 @@ fn lets_go<L: Links>(links: &mut L, peers: &mut Vec<Peer>, at: usize)
     links.close(peer.number());
 }
 
-impl<'a, 'w, 't, 'g, 'r, W: Wait, L: Links, C: Clock, G: Gate, R: Rest> Desk<
+impl<'a, 'w, 't, 's, 'l, 'c, 'g, 'r, W: Wait, L: Links, C: Clock, G: Gate, R: Rest> Desk<
     'a,
     'w,
     't,
+    's,
+    'l,
+    'c,
     'g,
     'r,
     W,
