@@ -13,8 +13,7 @@ use Rattle.spec_events.specs.declared.logged.Logged.{Logged}
 use Rattle.spec_events.specs.World.{World}
 use Rattle.spec_events.specs.Histories.{by_porter}
 use Rattle.spec_events.specs.Logged.{entries_of, events_of}
-use Rattle.spec_events.specs.Own.{Stage, IsWellFormed, IsOver}
-use Rattle.spec_events.proofs.Owning.{over_with}
+use Rattle.spec_events.specs.Own.{Stage, IsWellFormed}
 use Rattle.spec_talks.specs.Parties.{worlds_at, is_halt}
 use Rattle.spec_talks.specs.Talks.{talks}
 use Rattle.spec_serve.specs.Marks.{LinksNote}
@@ -26,17 +25,13 @@ use Rattle.spec_serve.proofs.Promising.{books_lost}
 use Rattle.muck_machine.specs.inner.Seats.{Sight, Chair, Rests, Left, Waited}
 use Rattle.muck_machine.proofs.Seating.{left_rests}
 use Rattle.muck_peer.specs.Moves.{LinkStep, LinkLoss}
-use Rattle.muck_porter.specs.declared.deeds.Deed.{Deed}
-use Rattle.muck_porter.specs.declared.deeds.Deed.TheVariants.{Open, Slice, Time, Stop, Leave, Die}
-use Rattle.muck_porter.specs.declared.deeds.Did.{Did}
-use Rattle.muck_porter.specs.declared.deeds.Did.TheVariants.{Done, Timed, Dead}
 use Rattle.muck_porter.specs.inner.Notes.{note_in}
 use Rattle.muck_porter.specs.inner.Kept.{tally, BooksAt, PromisedIn, IsAt, IsFree, Resting, Ready, ReadyTimed, Over}
-use Rattle.muck_porter.specs.inner.Deeds.{IsMoment, DidAs}
+use Rattle.muck_porter.specs.inner.Deeds.{IsMoment}
 use Rattle.muck_porter.specs.inner.Turns.{PorterTurn}
-use Rattle.muck_porter.specs.inner.Moves.{Carries, CarriesOn, Ends, EndsAll, TendsPeer, LosesPeer, Tends, Loses, LastEntry}
+use Rattle.muck_porter.specs.inner.Moves.{Carries, Ends, TendsPeer, LosesPeer, Tends, Loses, LastEntry}
 use Rattle.muck_porter.specs.inner.Rounds.{WroteAt, ClosedAt}
-use Rattle.muck_porter.proofs.Stages.{stage_moment, stage_died, formed_at, formed_free}
+use Rattle.muck_porter.proofs.Stages.{stage_moment, formed_at}
 use Rattle.muck_porter.proofs.Carrying.{IsQuiet, quiet_moment, quiet_died, turn_noted, carries_quiet, last_entry, promised_in, kept_waited}
 
 -- Places in a list.
@@ -102,9 +97,6 @@ loses_more noted k k1 k2 ps ps1 i p at first second v b coming n known bk = seco
 pub over_at : (me : Chair) (stage : Stage) → Rests 0 me → IsAt stage me.0.own → Over me
 over_at me stage r at = record { left = left_rests 0 me r; formed = formed_at me.0.own stage at }
 
-pub over_free : (me : Chair) → Rests 0 me → IsFree me.0.own → Over me
-over_free me r free = record { left = left_rests 0 me r; formed = formed_free me.0.own free }
-
 pub over_waited : (me me' : Chair) → Left 0 me' → Waited me.0 me'.0 → IsWellFormed 0 (events_of me.0.own) → Over me'
 over_waited me me' left waited formed = record { left = left; formed = subst (λ (ls : List Logged). IsWellFormed 0 (events_of ls)) (sym waited.1) formed }
 
@@ -126,12 +118,6 @@ module _ (noted noted' : Bool) (k : Told) (me me' : Chair) (w : World) (event : 
 
   pub died_ends : (n : ℕ) (peers : List Peer) (coming : Option ℕ) → event ≡ Died → Ends me.0 me'.0 (tally k n) (tally k n) peers coming
   died_ends n peers coming is = ends_last me.0 me'.0 (tally k n) (tally k n) peers coming (died_last n is)
-
-  pub died_over : IsFree me.0.own → event ≡ Died → Over me'
-  died_over free is = over_at me' Stage.ended r (stage_died me.0.own me'.0.own turn.item turn.own (turn.entry ∙ ap by_porter is) free)
-
-  pub died_ended : IsFree me.0.own → event ≡ Died → IsOver 0 (events_of me'.0.own)
-  died_ended free is = over_with 0 (events_of me'.0.own) Stage.ended (stage_died me.0.own me'.0.own turn.item turn.own (turn.entry ∙ ap by_porter is) free) refl
 
   pub turn_resting : Resting noted' me'
   turn_resting = record { rests = r; known = turn_noted noted noted' k me.0 me'.0 w event turn known }
@@ -164,57 +150,12 @@ one_more P xs n x there here below i a lt at = dite (ℕ_discrete i n)
 pub peer_closed : (ps : List Peer) (i : ℕ) (p p' : Peer) → p' ≡ p → set ps i p' ≡ set ps i p
 peer_closed ps i p p' same = ap (set ps i) same
 
--- Memory was wanted outside of the world.
-module _ (noted noted' : Bool) (k : Told) (me me' : Chair) (w : World) (event : Event) (r : Rests 0 me') (turn : PorterTurn noted noted' k me.0 me'.0 w event) (known : noted ≡ is_some (note_in me.0.own)) where
-  die_is : (did : Did) (ps : List Peer) → DidAs Die did noted' ps w event → event ≡ Died
-  die_is Dead ps is = is
-  die_is Done ps is = absurd is
-  die_is Timed ps is = absurd is
-
-  pub die_last : (n : ℕ) (did : Did) (ps : List Peer) → DidAs Die did noted' ps w event → LastEntry (tally k n) (tally k n) me.0 me'.0
-  die_last n did ps is = died_last noted noted' k me me' w event r turn known n (die_is did ps is)
-
-  pub die_over : IsFree me.0.own → (did : Did) (ps : List Peer) → DidAs Die did noted' ps w event → Over me'
-  die_over free did ps is = died_over noted noted' k me me' w event r turn known free (die_is did ps is)
-
-  pub die_ended : IsFree me.0.own → (did : Did) (ps : List Peer) → DidAs Die did noted' ps w event → IsOver 0 (events_of me'.0.own)
-  die_ended free did ps is = died_ended noted noted' k me me' w event r turn known free (die_is did ps is)
-
-  -- a deed for which memory was wanted
-  pub dead_did : (deed : Deed) (did : Did) (ps : List Peer) → did ≡ Dead → DidAs deed did noted' ps w event → event ≡ Died
-  dead_did (Open d) did ps is x = subst (λ (y : Did). DidAs (Open d) y noted' ps w event) is x
-  dead_did (Slice pid) did ps is x = subst (λ (y : Did). DidAs (Slice pid) y noted' ps w event) is x
-  dead_did Time did ps is x = subst (λ (y : Did). DidAs Time y noted' ps w event) is x
-  dead_did Stop did ps is x = subst (λ (y : Did). DidAs Stop y noted' ps w event) is x
-  dead_did Leave did ps is x = subst (λ (y : Did). DidAs Leave y noted' ps w event) is x
-  dead_did Die did ps is x = subst (λ (y : Did). DidAs Die y noted' ps w event) is x
-
 pub wrote_at : (i : ℕ) (noted : Bool) (k k' : Told) (ps : List Peer) (p p' : Peer) → get_elem? ps i ≡ some p → ((counted : LinksNote) → is_some counted ≡ noted → LinkStep counted p p' k k') → WroteAt i noted k k' ps (set ps i p')
 wrote_at i noted k k' ps p p' at step q there =
     (p', refl, (λ counted marks. subst (λ (x : Peer). LinkStep counted x p' k k') (some-injective p q (sym at ∙ there)) (step counted marks)))
 
 pub closed_at : (i : ℕ) (k k' : Told) (ps : List Peer) (p : Peer) → get_elem? ps i ≡ some p → k' ≡ on_session p.number shut k → ClosedAt i k k' ps
 closed_at i k k' ps p at told q there = told ∙ ap (λ (x : Peer). on_session x.number shut k) (some-injective p q (sym at ∙ there))
-
-pub over_ready : (noted : Bool) (me : Chair) → Ready noted me → Over me
-over_ready noted me r = over_free me r.resting.rests r.free
-
-pub over_timed : (noted : Bool) (me : Chair) → ReadyTimed noted me → Over me
-over_timed noted me t = over_ready noted me (timed_ready noted me t)
-
--- a call of the links, and then an end
-pub told_ends : (v v' : Sight) (K K' K'' : Tally) (peers : List Peer) (coming coming' : Option ℕ) → Carries v v K K' peers peers coming coming' → Ends v v' K' K'' peers coming' → Ends v v' K K'' peers coming
-told_ends v v' K K' K'' peers coming coming' first second b bk = second b (first b bk)
-
-pub carried_on : (v v1 v2 : Sight) (K K1 K2 : Tally) (ps ps1 ps2 : List Peer) → CarriesOn v v1 K K1 ps ps1 → CarriesOn v1 v2 K1 K2 ps1 ps2 → CarriesOn v v2 K K2 ps ps2
-carried_on v v1 v2 K K1 K2 ps ps1 ps2 first second coming b bk = second coming b (first coming b bk)
-
-pub carried_end : (v v1 v2 : Sight) (K K1 K2 : Tally) (ps ps1 : List Peer) → CarriesOn v v1 K K1 ps ps1 → EndsAll v1 v2 K1 K2 ps1 → EndsAll v v2 K K2 ps
-carried_end v v1 v2 K K1 K2 ps ps1 first second coming b bk = second coming b (first coming b bk)
-
--- the count of faults in listening by another name
-pub listened : (v v' : Sight) (k k' : Told) (n n' : ℕ) (ps ps' : List Peer) → n' ≡ n → CarriesOn v v' (tally k n) (tally k' n) ps ps' → CarriesOn v v' (tally k n) (tally k' n') ps ps'
-listened v v' k k' n n' ps ps' same carries coming b bk = subst (λ (m : ℕ). BooksAt b v' (tally k' m) ps' coming) (sym same) (carries coming b bk)
 
 pub did_not : {A : Type 0} (answer : Bool) (old new : A) → answer ≡ false → (if answer then new else old) ≡ old
 did_not answer old new is = ap (λ (b : Bool). if b then new else old) is

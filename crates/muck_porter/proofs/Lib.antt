@@ -8,4 +8,9 @@ pub mod Doing
 pub mod Quiet
 pub mod OneServed
 pub mod InRounds
+pub mod Going
+pub mod Holding
+pub mod DeskServed
+pub mod Linking
+pub mod Ending
 pub mod Whole

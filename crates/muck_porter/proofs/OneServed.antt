@@ -11,23 +11,22 @@ use Rattle.muck_model.specs.declared.event.Event.TheVariants.{Input, Closed, Tak
 use Rattle.spec_events.specs.declared.logged.Logged.{Logged}
 use Rattle.spec_events.specs.World.{World}
 use Rattle.spec_events.specs.Histories.{by_porter}
-use Rattle.spec_events.specs.Logged.{events_of}
-use Rattle.spec_events.specs.Own.{Stage, IsOver}
+use Rattle.spec_events.specs.Own.{Stage}
 use Rattle.spec_serve.specs.inner.Keeping.{Peer}
 use Rattle.spec_serve.proofs.Booking.{set_there}
 use Rattle.muck_machine.specs.inner.Seats.{Chair, Rests}
 use Rattle.muck_peer.specs.Moves.{PeerStep}
 use Rattle.muck_porter.specs.declared.deeds.Served.{Served}
-use Rattle.muck_porter.specs.declared.deeds.Served.TheVariants.{Went as ServedOne, Closed as ClosedOne, Nobody, Dead as ServedDead}
+use Rattle.muck_porter.specs.declared.deeds.Served.TheVariants.{Went as ServedOne, Closed as ClosedOne, Nobody}
 use Rattle.muck_porter.specs.inner.Notes.{note_in}
-use Rattle.muck_porter.specs.inner.Kept.{tally, BooksAt, IsFree, Ready, ReadyTimed, Over}
+use Rattle.muck_porter.specs.inner.Kept.{tally, BooksAt, IsFree, Ready, ReadyTimed}
 use Rattle.muck_porter.specs.inner.Deeds.{ServedAs, ServedFrom}
 use Rattle.muck_porter.specs.inner.Turns.{PorterTurn}
-use Rattle.muck_porter.specs.inner.Moves.{CarriesOn, EndsAll}
+use Rattle.muck_porter.specs.inner.Moves.{CarriesOn}
 use Rattle.muck_porter.specs.inner.Rounds.{WroteAt, ClosedAt, Nearer}
 use Rattle.muck_porter.proofs.Stages.{stage_free}
 use Rattle.muck_porter.proofs.Carrying.{turn_noted, carries_peer, carries_closed, set_again}
-use Rattle.muck_porter.proofs.Doing.{at_below, linked_books, turn_resting, moment_ready, moment_carries, died_ends, died_over, died_ended, over_free}
+use Rattle.muck_porter.proofs.Doing.{at_below, linked_books, turn_resting, moment_ready, moment_carries}
 
 peer_free : (own own' : List Logged) (item : Logged) (p p' : Peer) (w : World) (event : Event) → own' ≡ own ++ item ∷ [] → item.entry ≡ by_porter event → IsFree own → PeerStep p p' w event → IsFree own'
 peer_free own own' item p p' w event is entry free (PeerStep.heard line more e ready same) = IsFree.unbound (stage_free own own' item is (Input p.number line) Stage.unbound (entry ∙ ap by_porter e) free refl refl)
@@ -108,22 +107,3 @@ module _ (noted noted' : Bool) (k : Told) (me me' : Chair) (w : World) (event : 
   nobody_carries n is coming b bk =
       let x : ServedAs Nobody ps ps1 w event = subst (λ (y : Served). ServedAs y ps ps1 w event) is did in
       subst (λ (l : List Peer). BooksAt b me'.0 (tally k n) l coming) (sym x.1) (moment_carries noted noted' k me me' w event r turn ready.resting.known n ps coming x.0 b bk)
-
-  pub dead_ends : (n : ℕ) → served ≡ ServedDead → EndsAll me.0 me'.0 (tally k n) (tally k n) ps
-  dead_ends n is coming = died_ends noted noted' k me me' w event r turn ready.resting.known n ps coming (subst (λ (y : Served). ServedAs y ps ps1 w event) is did)
-
-  pub dead_over : served ≡ ServedDead → Over me'
-  dead_over is = died_over noted noted' k me me' w event r turn ready.resting.known ready.free (subst (λ (y : Served). ServedAs y ps ps1 w event) is did)
-
-  pub dead_ended : served ≡ ServedDead → IsOver 0 (events_of me'.0.own)
-  dead_ended is = died_ended noted noted' k me me' w event r turn ready.resting.known ready.free (subst (λ (y : Served). ServedAs y ps ps1 w event) is did)
-
-  -- the seat may be taken in, whatever was done
-  pub went_over : (i : ℕ) → served ≡ ServedOne i → Over me'
-  went_over i is = over_free me' r (went_ready i is).free
-
-  pub closed_over : (i : ℕ) → served ≡ ClosedOne i → Over me'
-  closed_over i is = over_free me' r (closed_ready i is).free
-
-  pub nobody_over : served ≡ Nobody → Over me'
-  nobody_over is = over_free me' r (IsFree.timed (nobody_ready is).timed)

@@ -4,7 +4,7 @@ use Rattle.std.specs.Prelude.{if◌then◌else◌}
 use Rattle.std.specs.Ordering.{int_eq}
 use Rattle.std.proofs.lemmas.Cmp.{int_eq_equiv}
 use Rattle.muck_model.specs.declared.event.Event.{Event}
-use Rattle.muck_model.specs.declared.event.Event.TheVariants.{Moment, Died}
+use Rattle.muck_model.specs.declared.event.Event.TheVariants.{Moment}
 use Rattle.spec_events.specs.declared.logged.Logged.{Logged}
 use Rattle.spec_events.specs.Histories.{by_porter}
 use Rattle.spec_events.specs.Logged.{events_of}
@@ -29,9 +29,6 @@ module _ (own own' : List Logged) (item : Logged) (is : own' ≡ own ++ item ∷
 
   pub stage_moment : (t : ℕ) → item.entry ≡ by_porter (Moment t) → IsFree own → IsAt Stage.timed own'
   stage_moment t entry free = stage_free (Moment t) Stage.timed entry free refl refl
-
-  pub stage_died : item.entry ≡ by_porter Died → IsFree own → IsAt Stage.ended own'
-  stage_died entry free = stage_free Died Stage.ended entry free refl refl
 
 pub formed_at : (own : List Logged) (stage : Stage) → IsAt stage own → IsWellFormed 0 (events_of own)
 formed_at own stage at = well_formed 0 (events_of own) stage at

@@ -4,4 +4,6 @@ pub mod Deeds
 pub mod Turns
 pub mod Moves
 pub mod Rounds
+pub mod Desks
+pub mod Reaches
 pub mod Porter

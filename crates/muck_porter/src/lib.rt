@@ -2,6 +2,7 @@
 #![tactic(auto)]
 
 mod deeds;
+mod desk;
 mod holds;
 mod porting;
 mod rounds;

@@ -1,20 +1,18 @@
 // The porter.
-ghost use Rattle.std.specs.Prelude.{◌≡◌, ◌≤◌, ◌||◌, IfOk, IfErr, OnErr, true};
-ghost use Rattle.muck_io.specs.Faults.{Rose};
-ghost use Rattle.muck_machine.specs.inner.Seats.{SameLists};
-ghost use Rattle.muck_porter.specs.inner.Kept.{tally, account, Ready, Over};
-ghost use Rattle.muck_porter.specs.inner.Moves.{Ends, number_in, IsNew};
-ghost use Rattle.muck_porter.specs.inner.Rounds.{EndsEarly, IsRound, Went, is_left};
+ghost use Rattle.std.specs.Prelude.{◌≡◌, true};
+ghost use Rattle.muck_porter.specs.declared.porting.Why.{Why};
+ghost use Rattle.muck_porter.specs.inner.Kept.{account};
+ghost use Rattle.muck_porter.specs.inner.Rounds.{is_left};
 ghost use Rattle.muck_porter.specs.inner.Porter.{PorterReady, PorterDone};
-ghost use Rattle.muck_porter.specs.Times.{ByClock};
+ghost use Rattle.muck_porter.specs.inner.Desks.{stand, Far, Stands, Fresh, Goes};
+ghost use Rattle.muck_porter.specs.inner.Reaches.{round_reach, why_far};
 
-use crate::rounds::{Round, attends, welcomes};
-use crate::serving::{Fault, dies};
+use crate::desk::{Desk, Fault};
+use crate::rounds::Round;
 use muck_io::{Clock, Gate, Rest};
 use muck_links::Links;
 use muck_machine::World;
-use muck_peer::Peer;
-use std::alloc::{AllocError, Global};
+use std::alloc::Global;
 use std::sync::Wait;
 use turn_lock::{Turn, TurnSeat};
 
@@ -34,23 +32,12 @@ pub enum Why {
     Spent,
 }
 
-// What a round left.
-#[derive(Drop)]
-struct Gone {
-    coming: Option<Peer>,
-    broke: bool,
-    round: Round,
-    moved: bool,
-}
-
-fn room(alloc: Global) -> Result<Vec<u8>, AllocError> {
-    vec![in alloc; 0u8; ROOM]
-}
-
-fn either(first: bool, second: bool) -> bool
-    ensures { result ≡ (first || second) }
-{
-    first || second
+// Room for what is read; none where memory is wanted for it.
+fn room(alloc: Global) -> Vec<u8> {
+    match vec![in alloc; 0u8; ROOM] {
+        Ok(bytes) => bytes,
+        Err(_) => Vec::new(alloc),
+    }
 }
 
 fn has_left(round: &Round) -> bool
@@ -81,125 +68,85 @@ fn rests<R: Rest>(rest: &R, round: &Round, moved: bool) {
     }
 }
 
-// One round.
-fn goes_round<W: Wait, L: Links, C: Clock, G: Gate, R: Rest>(
-    rt: &W,
-    alloc: Global,
-    turn: &Turn<World>,
-    seat: &mut TurnSeat<World>,
-    links: &mut L,
-    clock: &mut C,
-    gate: &G,
-    rest: &R,
-    room: &mut [u8],
-    noted: &mut bool,
-    peers: &mut Vec<Peer>,
-    coming: Option<Peer>,
-) -> Result<Gone, Fault>
-    requires own { seat.old.table_id ≡ turn.now.table.shared.table_id }
-    requires ready { Ready noted.old seat.old.me }
-    requires fresh { IsNew coming }
-    ensures own { (seat.new.table_id ≡ seat.old.table_id) × (seat.new.id ≡ seat.old.id) }
-    ensures lists { SameLists seat.old.me.0 seat.new.me.0 }
-    ensures time { ByClock seat.old.me.0 seat.new.me.0 (C.answers clock.old) (C.answers clock.new) }
-    ensures tells { L.tells links.new ≡ L.tells links.old }
-    ensures later { L.listening links.old ≤ L.listening links.new }
-    ensures ports { L.tells links.old ≡ true → (L.told links.new).ports ≡ (L.told links.old).ports }
-    ensures ready { IfOk result (λ g. IsRound g.round noted.new seat.new.me) }
-    ensures broke { IfOk result (λ g. g.broke ≡ true → Rose (L.listening links.old) (L.listening links.new)) }
-    ensures fresh { IfOk result (λ g. IsNew g.coming) }
-    ensures ok { IfOk result (λ g. L.tells links.old ≡ true → Went g.round seat.old.me.0 seat.new.me.0 (tally (L.told links.old) (L.listening links.old)) (tally (L.told links.new) (L.listening links.new)) peers.old.items peers.new.items (number_in coming) (number_in g.coming)) }
-    ensures err { OnErr result (L.tells links.old ≡ true → Ends seat.old.me.0 seat.new.me.0 (tally (L.told links.old) (L.listening links.old)) (tally (L.told links.new) (L.listening links.new)) peers.old.items (number_in coming)) }
-    ensures over { Over seat.new.me }
-    ensures spent { IfErr result (λ fault. EndsEarly fault seat.new.me.0) }
+// Why it ended early.
+fn why_of(fault: Fault) -> Why
+    ensures far { why_far result ≡ Far.ended fault }
+    ensures early { ¬ (result ≡ Why.ListenFault) }
 {
-    let came = match welcomes(
-        rt, alloc, turn, seat, links, clock, rest, noted, peers, coming,
-    ) {
-        Ok(came) => came,
-        Err(fault) => return Err(fault),
-    };
-    match attends(rt, turn, seat, links, clock, gate, rest, room, noted, peers) {
-        Ok(attended) => Ok(Gone {
-            coming: came.peer,
-            broke: came.broke,
-            round: attended.round,
-            moved: attended.moved,
-        }),
-        Err(fault) => Err(fault),
-    }
-}
-
-// Round by round, with room for what is read.
-fn goes_on<W: Wait, L: Links, C: Clock, G: Gate, R: Rest>(
-    rt: &W,
-    alloc: Global,
-    turn: &Turn<World>,
-    seat: &mut TurnSeat<World>,
-    links: &mut L,
-    clock: &mut C,
-    gate: &G,
-    rest: &R,
-    room: &mut [u8],
-) -> Why
-    requires own { seat.old.table_id ≡ turn.now.table.shared.table_id }
-    requires ready { PorterReady seat.old.me }
-    ensures own { (seat.new.table_id ≡ seat.old.table_id) × (seat.new.id ≡ seat.old.id) }
-    ensures tells { L.tells links.new ≡ L.tells links.old }
-    ensures done { PorterDone result (L.tells links.old) (account (L.told links.old) (L.listening links.old) (C.answers clock.old)) (account (L.told links.new) (L.listening links.new) (C.answers clock.new)) seat.old.me seat.new.me }
-{
-    let mut peers = Vec::new(alloc);
-    let mut coming = None;
-    let mut noted = false;
-    let mut broke = false;
-    for _ in rt.forever() {
-        match goes_round(
-            rt, alloc, turn, seat, links, clock, gate, rest, room, &mut noted, &mut peers, coming,
-        ) {
-            Ok(gone) => {
-                let Gone {
-                    coming: next,
-                    broke: fell,
-                    round,
-                    moved,
-                } = gone;
-                broke = either(broke, fell);
-                rests(rest, &round, moved);
-                if has_left(&round) {
-                    if broke {
-                        return Why::ListenFault;
-                    }
-                    return Why::Fine;
-                }
-                coming = next;
-            }
-            Err(Fault::NoMemory) => return Why::NoMemory,
-            Err(Fault::Spent) => return Why::Spent,
-        }
-    }
-    unreachable!()
-}
-
-// Memory was wanted before anything was done.
-fn gives_up<W: Wait, L: Links, C: Clock, R: Rest>(
-    rt: &W,
-    alloc: Global,
-    turn: &Turn<World>,
-    seat: &mut TurnSeat<World>,
-    links: &L,
-    clock: &mut C,
-    rest: &R,
-) -> Why
-    requires own { seat.old.table_id ≡ turn.now.table.shared.table_id }
-    requires ready { PorterReady seat.old.me }
-    ensures own { (seat.new.table_id ≡ seat.old.table_id) × (seat.new.id ≡ seat.old.id) }
-    ensures done { PorterDone result (L.tells links.now) (account (L.told links.now) (L.listening links.now) (C.answers clock.old)) (account (L.told links.now) (L.listening links.now) (C.answers clock.new)) seat.old.me seat.new.me }
-{
-    let mut noted = false;
-    let peers = Vec::new(alloc);
-    match dies(rt, turn, seat, links, clock, rest, &mut noted, &peers) {
+    match fault {
         Fault::NoMemory => Why::NoMemory,
         Fault::Spent => Why::Spent,
+    }
+}
+
+impl<'a, 'w, 't, 's, 'l, 'c, 'g, 'r, W: Wait, L: Links, C: Clock, G: Gate, R: Rest> Desk<
+    'a,
+    'w,
+    't,
+    's,
+    'l,
+    'c,
+    'g,
+    'r,
+    W,
+    L,
+    C,
+    G,
+    R,
+> {
+    // One round.
+    #[tactic(auto, using(crate::proofs::Going::free_then))]
+    fn goes_round(&mut self) -> Result<Round, Fault>
+        requires { Stands Far.free (stand L.tells L.told L.listening C.answers self.old) }
+        ensures { Goes (round_reach result) (stand L.tells L.told L.listening C.answers self.old) (stand L.tells L.told L.listening C.answers self.new) }
+    {
+        match self.welcomes() {
+            Ok(()) => {}
+            Err(fault) => return Err(fault),
+        }
+        match self.attends() {
+            Ok(round) => Ok(round),
+            Err(fault) => Err(fault),
+        }
+    }
+
+    // Round by round.
+    #[tactic(auto, using(crate::proofs::Going::free_then, crate::proofs::Going::goes_still, crate::proofs::Going::goes_as, crate::proofs::Going::round_stays, crate::proofs::Going::round_leaves))]
+    fn goes_on(&mut self) -> Why
+        requires { Stands Far.free (stand L.tells L.told L.listening C.answers self.old) }
+        ensures goes { Goes (why_far result) (stand L.tells L.told L.listening C.answers self.old) (stand L.tells L.told L.listening C.answers self.new) }
+        ensures broke { result ≡ Why.ListenFault → self.new.broke ≡ true }
+    {
+        let rt = self.rt;
+        for _ in rt.forever() {
+            match self.goes_round() {
+                Ok(round) => {
+                    rests(self.rest, &round, self.moved);
+                    if has_left(&round) {
+                        if self.broke {
+                            return Why::ListenFault;
+                        }
+                        return Why::Fine;
+                    }
+                }
+                Err(fault) => return why_of(fault),
+            }
+        }
+        unreachable!()
+    }
+
+    // Round by round, from the first one on; or there is no room for what is read.
+    fn serves(&mut self) -> Why
+        requires { Fresh (stand L.tells L.told L.listening C.answers self.old) }
+        ensures same { (self.new.seat.ghost_name ≡ self.old.seat.ghost_name) × (self.new.links.ghost_name ≡ self.old.links.ghost_name) × (self.new.clock.ghost_name ≡ self.old.clock.ghost_name) }
+        ensures own { (self.new.seat.now.table_id ≡ self.old.seat.now.table_id) × (self.new.seat.now.id ≡ self.old.seat.now.id) }
+        ensures tells { L.tells self.new.links.now ≡ L.tells self.old.links.now }
+        ensures done { PorterDone result (L.tells self.old.links.now) (account (L.told self.old.links.now) (L.listening self.old.links.now) (C.answers self.old.clock.now)) (account (L.told self.new.links.now) (L.listening self.new.links.now) (C.answers self.new.clock.now)) self.old.seat.now.me self.new.seat.now.me }
+    {
+        if self.room.is_empty() {
+            return why_of(self.dies());
+        }
+        self.goes_on()
     }
 }
 
@@ -222,21 +169,24 @@ pub fn porter<W: Wait, L: Links, C: Clock, G: Gate, R: Rest>(
     ensures tells { L.tells links.new ≡ L.tells links.old }
     ensures done { PorterDone result (L.tells links.old) (account (L.told links.old) (L.listening links.old) (C.answers clock.old)) (account (L.told links.new) (L.listening links.new) (C.answers clock.new)) seat.old.me seat.new.me }
 {
-    match room(alloc) {
-        Ok(bytes) => {
-            let mut bytes = bytes;
-            goes_on(
-                rt,
-                alloc,
-                turn,
-                seat,
-                links,
-                clock,
-                gate,
-                rest,
-                bytes.as_mut_slice(),
-            )
-        }
-        Err(_) => gives_up(rt, alloc, turn, seat, links, clock, rest),
-    }
+    let mut bytes = room(alloc);
+    let mut peers = Vec::new(alloc);
+    let mut coming = None;
+    let mut desk = Desk {
+        rt,
+        alloc,
+        turn,
+        seat,
+        links,
+        clock,
+        gate,
+        rest,
+        room: bytes.as_mut_slice(),
+        noted: false,
+        broke: false,
+        moved: false,
+        peers: &mut peers,
+        coming: &mut coming,
+    };
+    desk.serves()
 }

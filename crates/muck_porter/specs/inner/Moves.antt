@@ -1,5 +1,5 @@
 -- How the books go over from step to step.
-use Rattle.std.specs.Prelude.{◌≡◌, ℕ, ℤ, Bool, true, ◌≤◌, ◌⊎◌, List, [], ◌∷◌, ◌++◌, slice_set, is_some, Option, Some, None}
+use Rattle.std.specs.Prelude.{◌≡◌, ℕ, ℤ, Bool, true, ◌⊎◌, List, [], ◌∷◌, ◌++◌, slice_set, is_some, Option, Some, None}
 use mathlib.Core.Option.{some}
 use lib.ListN.{get_elem?}
 use Rattle.muck_io.specs.Faults.{Rose}
@@ -26,9 +26,6 @@ CarriesOn v v' k k' peers peers' = (coming : Option ℕ) → Carries v v' k k' p
 -- books go over to what is promised at the end
 abbrev pub Ends : Sight → Sight → Tally → Tally → List Peer → Option ℕ → Type 0
 Ends v v' k k' peers coming = (b : Tally) → BooksAt b v k peers coming → KeptBy b v' k'
-
-abbrev pub EndsAll : Sight → Sight → Tally → Tally → List Peer → Type 0
-EndsAll v v' k k' peers = (coming : Option ℕ) → Ends v v' k k' peers coming
 
 -- Calls of the links, whatever the seat has seen, which knows whether the note of the links was made.
 
@@ -65,10 +62,6 @@ ClaimAt deed v = Unit {0}
 -- A cause to stop the run: listening failed, or no link will come any more and none is open.
 abbrev pub MayHalt : Tally → Tally → List Peer → Type 0
 MayHalt b k peers = Rose b.listening k.listening ⊎ ((k.told.over ≡ true) × (peers ≡ []))
-
--- books go over to books, where there is a cause to stop the run
-abbrev pub Halts : Sight → Sight → Tally → Tally → List Peer → Type 0
-Halts v v' k k' peers = (b : Tally) (coming : Option ℕ) → (b.listening ≤ k.listening → MayHalt b k peers) → BooksAt b v k peers coming → BooksAt b v' k' peers coming
 
 -- The link that came and isn't opened yet: nothing was read from it.
 

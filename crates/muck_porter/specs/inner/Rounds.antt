@@ -9,23 +9,17 @@ use Rattle.spec_serve.specs.Marks.{LinksNote}
 use Rattle.spec_serve.specs.Promises.{Tally}
 use Rattle.spec_serve.specs.inner.Keeping.{Peer}
 use Rattle.muck_peer.specs.Moves.{LinkStep}
-use Rattle.muck_machine.specs.inner.Seats.{Sight, Chair}
-use Rattle.muck_porter.specs.declared.serving.Fault.{Fault}
-use Rattle.muck_porter.specs.declared.serving.Fault.TheVariants.{NoMemory, Spent}
+use Rattle.muck_machine.specs.inner.Seats.{Sight}
+use Rattle.muck_porter.specs.declared.desk.Fault.{Fault}
+use Rattle.muck_porter.specs.declared.desk.Fault.TheVariants.{NoMemory, Spent}
 use Rattle.muck_porter.specs.declared.rounds.Round.{Round}
 use Rattle.muck_porter.specs.declared.rounds.Round.TheVariants.{Busy, Idle, Left}
-use Rattle.muck_porter.specs.inner.Kept.{Ready, ReadyTimed, BooksAt, KeptBy, Stopped, EndsWithStop}
-use Rattle.muck_porter.specs.inner.Moves.{Carries, CarriesOn}
+use Rattle.muck_porter.specs.inner.Kept.{BooksAt, KeptBy, Stopped}
 
 -- the porter ends early: only where all turns were had; or where memory was wanted, and then its own entries are over
 abbrev pub EndsEarly : Fault → Sight → Type 0
 EndsEarly Spent v = 2 ^ 62 ≤ length v.seen
 EndsEarly NoMemory v = IsOver 0 (events_of v.own)
-
--- one link was served, or none wants anything: then a moment was entered
-abbrev pub IsServed : Option ℕ → Bool → Chair → Type 0
-IsServed (Some n) noted me = Ready noted me
-IsServed None noted me = ReadyTimed noted me
 
 -- fewer links are left behind the place
 abbrev pub Nearer : Option ℕ → ℕ → List Peer → List Peer → Type 0
@@ -44,22 +38,6 @@ ClosedAt i k k' peers = (p : Peer) → get_elem? peers i ≡ some p → k' ≡ o
 -- Where the porter has left, what is promised stands, and each connection that is open is worked off.
 abbrev pub HasLeft : Sight → Sight → Tally → Tally → List Peer → Type 0
 HasLeft v v' k k' peers = (b : Tally) (coming : Option ℕ) → BooksAt b v k peers coming → KeptBy b v' k' × Stopped v' k'
-
-abbrev pub IsRound : Round → Bool → Chair → Type 0
-IsRound Left noted me = EndsWithStop me.0.own
-IsRound Busy noted me = Ready noted me
-IsRound Idle noted me = Ready noted me
-
-abbrev pub RoundCarries : Round → Sight → Sight → Tally → Tally → List Peer → List Peer → Type 0
-RoundCarries Left v v' k k' peers peers' = HasLeft v v' k k' peers
-RoundCarries Busy v v' k k' peers peers' = CarriesOn v v' k k' peers peers'
-RoundCarries Idle v v' k k' peers peers' = CarriesOn v v' k k' peers peers'
-
--- the same where a link may come
-abbrev pub Went : Round → Sight → Sight → Tally → Tally → List Peer → List Peer → Option ℕ → Option ℕ → Type 0
-Went Left v v' k k' peers peers' coming coming' = (b : Tally) → BooksAt b v k peers coming → KeptBy b v' k' × Stopped v' k'
-Went Busy v v' k k' peers peers' coming coming' = Carries v v' k k' peers peers' coming coming'
-Went Idle v v' k k' peers peers' coming coming' = Carries v v' k k' peers peers' coming coming'
 
 abbrev pub is_left : Round → Bool
 is_left Left = true
