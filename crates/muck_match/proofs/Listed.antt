@@ -48,9 +48,6 @@ is_seen name w d e = at (w.sight d) e
 abbrev pub Passed : List ℕ → Scenery → List ℕ → ℕ → ℕ → Type 0
 Passed name w ns index least = (at m : ℕ) → at < index → slice_get ns at ≡ Some m → m < least → is_player_named name w (numbered (pos m)) ≡ false
 
-]
-  where
-
 unnamed : (name : List ℕ) (w : Scenery) (ns : List ℕ) (end least m : ℕ) → AreListed w ns → length ns ≤ end → Passed name w ns end least → m < least → is_player_named name w (numbered (pos m)) ≡ false
 unnamed name w ns end least m listed past passed below = at (is_player_named name w (numbered (pos m))) refl
   where
