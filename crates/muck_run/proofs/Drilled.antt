@@ -211,9 +211,3 @@ broke_at n h k a b WriteFault is p = record {
 
 pub broke_short : (n : ℕ) (acts : List Act) (h k : History) (a b : Option (List ℕ)) (fault : RunFault) → acts ≡ drill_script n → h ≡ fresh → Breaks (lines_story acts) (ending_of fault) h k a b → IsCutShort n k
 broke_short n acts h k a b fault is_acts is p = broke_at n h k a b fault is (subst (λ (x : List Act). Breaks (lines_story x) (ending_of fault) h k a b) is_acts p)
-
-}
-
-}
-
-}
