@@ -71,7 +71,7 @@ each_walk {R} may r h es fs p = along (each_order r) step es fs p
 abbrev pub NoFewer : List Entry → List Entry → Type 0
 NoFewer es fs = length es ≤ length fs
 
-fewer_order : Order NoFewer
+pub fewer_order : Order NoFewer
 fewer_order = record { itself = λ es. omega arith; both = λ es fs gs p q. omega (arith, p, q) }
 
 fewer_part : (may : May) (listing : Bool) (es fs : List Entry) → Part may listing es fs → NoFewer es fs

@@ -1,14 +1,17 @@
 -- Changes of the live world as paths: of the objects, and of the connections.
-use Rattle.std.proofs.Common.{◌≡◌, ℕ, List, Option, Bool, true, subst, sym, refl, ◌∙◌}
+use Rattle.std.proofs.Common.{◌≡◌, ℕ, List, Option, Bool, true, false, subst, sym, refl, ◌∙◌}
 use Rattle.std.specs.Prelude.{map}
 use Rattle.muck_model.specs.declared.dbref.Dbref.{Dbref}
 use Rattle.muck_model.specs.declared.tune.Tune.{Tune}
 use Rattle.spec_live.specs.Objects.{Entry}
+use Rattle.spec_live.specs.Saving.{Marked}
 use Rattle.spec_live.specs.Connections.{Connection, left_where}
 use Rattle.spec_live.specs.Boards.{Board, on_connections, opened, closed, leaving_one, seated_one, tuned}
 use Rattle.spec_live.specs.Lives.{Live, Change, on_objects, unchanged}
 use Rattle.spec_live.proofs.Keeping.{Keeps, Order, Path, one, goes, stays, along, path_order, keeps_unchanged}
-use Rattle.spec_live.proofs.Steps.{May, Shown, Came, Leaving, Seated, Tuned, Step, Walk}
+use Rattle.spec_live.proofs.Steps.{May, Begun, Shown, Came, Leaving, Seated, Tuned, Step, Walk}
+use Rattle.spec_live.proofs.Entries.{NoFewer, fewer_order, fewer_walk}
+use Rattle.spec_live.proofs.Marking.{marked_order, marked_walk}
 
 -- whose the connections are, and which are leaving
 abbrev pub tie : Connection → ℕ × Option Dbref × Bool
@@ -63,7 +66,7 @@ goes_objects may w es p = lifted w.objects es p
   where
     lifted : (fs gs : List Entry) → Walk may fs gs → Goes may (record w { objects = fs }) (record w { objects = gs })
     lifted _ _ stays = stays
-    lifted _ _ (goes {u} {v} {x} s p) = goes (objects v (record w { objects = u }) s) (lifted v x p)
+    lifted _ _ (goes {u} {v} {w = x} s p) = goes (objects v (record w { objects = u }) s) (lifted v x p)
 
 pub walks_objects : (may : May) (f : List Entry → List Entry) → ((es : List Entry) → Walk may es (f es)) → Walks may (on_objects f)
 walks_objects may f p = record { law = λ w. goes_objects may w (f w.objects) (p w.objects) }
@@ -82,3 +85,9 @@ objects_along {R} may o law w v p = along order step w v p
     step _ _ (objects es w s) = law w.objects es (one s)
     step _ _ (board b w s) = o.itself w.objects
     step _ _ (shows w v m s) = subst (R w.objects) (sym s.objects) (o.itself w.objects)
+
+pub fewer_along : (may : May) (w v : Live) → Goes may w v → NoFewer w.objects v.objects
+fewer_along may w v p = objects_along may fewer_order (fewer_walk may) w v p
+
+pub marked_along : (may : May) → may Begun ≡ false → (w v : Live) → Goes may w v → Marked w.objects v.objects
+marked_along may n w v p = objects_along may marked_order (marked_walk may n) w v p

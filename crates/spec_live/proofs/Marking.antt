@@ -24,6 +24,9 @@ marked_both es fs gs p q = λ k early.
     let a : IsAsBefore es fs k = p k b.early in
     record { early = a.early; object = b.object ∙ a.object; links = b.links ∙ a.links }
 
+pub marked_order : Order Marked
+marked_order = record { itself = marked_itself; both = marked_both }
+
 pub marked_as : (es fs gs : List Entry) → gs ≡ fs → Marked es fs → Marked es gs
 marked_as es fs gs e m = let P : List Entry → Type 0 = λ z. Marked es z in subst P (sym e) m
 
@@ -117,4 +120,4 @@ marked_step may n _ _ (settles es fs l p) k early =
     record { early = was.early; object = object_relinked es fs k ∙ was.object; links = links_relinked es fs k ∙ sym (same_equal a b late.0) }
 
 pub marked_walk : (may : May) → may Begun ≡ false → (es fs : List Entry) → Walk may es fs → Marked es fs
-marked_walk may n es fs p = along (record { itself = marked_itself; both = marked_both }) (marked_step may n) es fs p
+marked_walk may n es fs p = along marked_order (marked_step may n) es fs p
