@@ -1,10 +1,10 @@
 -- A line that is done: what it changes is open, it keeps the numbers of the connections, and the world lives on.
 use Rattle.std.proofs.Common.{◌≡◌, ℕ, ℤ, Bool, true, false, cond, List, [], ◌∷◌, refl, sym, ◌∙◌, ap, subst, Option, Some, None, inl, inr}
-use Rattle.spec_live.proofs.Keeping.{keeps_followed}
-use Rattle.spec_live.proofs.Lists.{length_map}
-use Rattle.spec_live.proofs.Savings.{length_resaved}
-use Rattle.spec_live.proofs.Marking.{marked_itself, marked_both, marked_as}
-use Rattle.std.specs.Prelude.{◌≤◌, length, map, find, ◌==◌}
+use Rattle.spec_live.proofs.Keeping.{stays, one, join, keeps_followed}
+use Rattle.spec_live.proofs.Steps.{Walk}
+use Rattle.spec_live.proofs.Walks.{walk_told}
+use Rattle.spec_live.proofs.Lives.{Goes, board, shows, leaves_one, tunes, goes_objects}
+use Rattle.std.specs.Prelude.{map, find, ◌==◌}
 use Rattle.std.specs.Option.{option_and_then}
 use Rattle.std.proofs.lemmas.Option.{none-some}
 use Rattle.muck_model.specs.declared.dbref.Dbref.{Dbref}
@@ -14,18 +14,18 @@ use Rattle.muck_match.specs.declared.exits.ExitHit.{ExitHit}
 use Rattle.muck_match.specs.Exits.{exit_for}
 use Rattle.spec_live.specs.declared.saving.Saving.{Saving}
 use Rattle.spec_live.specs.Objects.{Entry, mark_in}
-use Rattle.spec_live.specs.Saving.{Marked, all_saving}
+use Rattle.spec_live.specs.Saving.{all_saving}
 use Rattle.spec_live.specs.Seen.{scenery_of}
 use Rattle.spec_live.specs.Connections.{Connection, has_number, edited as edited_connection}
+use Rattle.spec_live.specs.Boards as boards
 use Rattle.spec_live.specs.Boards.{connection_in, player_in, leaving_one, edited_one}
 use Rattle.spec_live.specs.Lives.{Live, Change, followed, ◌▸◌, tell, leave}
 use Rattle.spec_rights.specs.declared.act.Actor.{Actor}
 use Rattle.spec_rights.specs.Verdict.{is_master}
 use Rattle.spec_rights.specs.Changing.{tuned}
 use Rattle.spec_rights.specs.Licence.{Freedom, SameTies, Licensed, editing}
-use Rattle.spec_rights.proofs.Licences.{as_many, no_fewer_both, Proper, judge, SameMarks, Quiet, Always, ties_same, ties_both, quiet_order, whole_quiet}
+use Rattle.spec_rights.proofs.Licences.{Proper, judge, SameMarks, Quiet, Always, ties_same, ties_both, quiet_order, licensed_as, whole_quiet}
 use Rattle.spec_rights.proofs.Leaving.{whole_leave}
-use Rattle.spec_mpi.specs.Touching.{without_props}
 use Rattle.spec_rights.proofs.Shown.{quiet_one, quiet_tell}
 use Rattle.spec_commands.specs.declared.outcome.Outcome.{Outcome}
 use Rattle.spec_commands.specs.declared.outcome.Outcome.TheVariants.{Done, NotMine, Start, Edit, Leave, Dump, Stop, Retune}
@@ -50,8 +50,8 @@ use Rattle.spec_events.specs.Following.{swept, settled}
 use Rattle.spec_events.specs.Lines.{with_editor, next_editor, after_edit, edited_line, in_editor, editor_on, typed, left_by, followed_up, in_world, program_aborted, is_abort, given_line, line_for, line_done, done}
 use Rattle.spec_events.specs.Endings.{ProcessesLicensed, NoProcess, MayEnd, by_actor, EndsReading}
 use Rattle.spec_events.specs.Licences.{Undisturbed, LineLicensed, TurnLicensed}
-use Rattle.spec_events.proofs.Quietly.{Still, still_of, Quietly, quietly_both, quietly_live, quietly_queue, quietly_swept, quietly_launched, quietly_compiled}
-use Rattle.spec_events.proofs.Told.{licensed_told, licensed_as}
+use Rattle.spec_events.proofs.Quietly.{Still, still_of, lively, lively_acts, Quietly, quietly_shows, quietly_both, quietly_live, quietly_queue, quietly_swept, quietly_launched, quietly_compiled}
+use Rattle.spec_events.proofs.Told.{licensed_told}
 use Rattle.spec_events.proofs.Typed.{MayRetune, typed_retunes, waited_open}
 use Rattle.spec_events.proofs.Endings.{Lasting, lasting_same, lasting_both, lasting_changed, lasting_without, lasting_up, lasting_after, process_number, IsTold, told_settled, processes_remain}
 use Rattle.spec_events.proofs.Lapses.{IsLapsing, marks_lapse, by_lapse, steady_may, lasting_lapse}
@@ -66,6 +66,7 @@ state_of w = (w.dead, still_of w)
 -- is as dead as before, the same dump runs, and it is the same second
 pub record Open (a : Actor) (free : Freedom) (start : Live) (state : Bool × Still) (v : World) : Type 0 where
   pub licensed : Licensed a free start v.live
+  pub goes : Goes lively start v.live
   pub tuned : IsInRange start.board.tune → IsInRange v.live.board.tune
   pub alive : v.dead ≡ state.0
   pub still : still_of v ≡ state.1
@@ -76,7 +77,8 @@ in_range_as w v e h = subst IsInRange (sym e) h
 
 pub open_quietly : (a : Actor) (free : Freedom) (start : Live) (state : Bool × Still) (u v : World) → Open a free start state u → Quietly u v → Open a free start state v
 open_quietly a free start state u v p q = record {
-  licensed = licensed_as a free start u.live v.live p.licensed q.objects q.ties q.tune;
+  licensed = licensed_as a free start u.live v.live p.licensed (quietly_shows u v q);
+  goes = join p.goes (one (shows u.live v.live refl (quietly_shows u v q)));
   tuned = λ h. in_range_as u.live v.live q.tune (p.tuned h);
   alive = q.dead ∙ p.alive;
   still = q.still ∙ p.still;
@@ -86,7 +88,8 @@ pub open_settled : (a : Actor) (free : Freedom) (start : Live) (state : Bool × 
 unfolding settled
 open_settled a free start state u p =
     let q = open_quietly a free start state u _ p (quietly_swept 0 u.live.objects u) in
-    record { licensed = licensed_told a free start (swept 0 u.live.objects u).live q.licensed; tuned = q.tuned; alive = q.alive; still = q.still }
+    let v : Live = (swept 0 u.live.objects u).live in
+    record { licensed = licensed_told a free start v q.licensed; goes = join q.goes (goes_objects lively v _ (walk_told lively v.objects refl)); tuned = q.tuned; alive = q.alive; still = q.still }
 
 -- Leaving.
 
@@ -105,6 +108,10 @@ unfolding leave leaving_one
 left_licensed a d free w v own l =
     let left : Licensed a free v (leave d v) = (((whole_leave a d (λ es. free) Always).law v).law (player-same_ties a d w.board.connections v.board.connections l.connections ∙ own) tt).licensed in
     record { gone = l.gone; recycled = l.recycled; vanished = l.vanished; objects = l.objects; no_fewer = l.no_fewer; marked = l.marked; lists = l.lists; connections = ties_both a _ _ _ l.connections left.connections; tune = l.tune }
+
+left_goes : (d : ℕ) (w : Live) → Goes lively w (leave d w)
+unfolding leave
+left_goes d w = one (board _ w (leaves_one d w.board refl))
 
 left_tune : (d : ℕ) (w : Live) → (leave d w).board.tune ≡ w.board.tune
 unfolding leave leaving_one
@@ -153,7 +160,7 @@ open_edited d player s line lines w =
     let proper : Proper a (editing s.program) u.live r.0 = edited_proper d a s line u.live in
     let l : Licensed a (editing s.program) w.live r.0 = licensed_from a (editing s.program) d lines w.live r.0 proper.licensed in
     let v : World = record u { live = r.0 } in
-    let e = open_quietly a (editing s.program) w.live (state_of w) v (on_live (with_editor d (next_editor r.2 r.1)) v) (record { licensed = l; tuned = in_range_as w.live r.0 proper.tune; alive = refl; still = refl }) (quietly_live _ (quiet_with_editor d (next_editor r.2 r.1)) v) in
+    let e = open_quietly a (editing s.program) w.live (state_of w) v (on_live (with_editor d (next_editor r.2 r.1)) v) (record { licensed = l; goes = join (one (shows w.live u.live refl ((quiet_taken_out d lines).law w.live))) (lively_acts u.live r.0 proper.goes); tuned = in_range_as w.live r.0 proper.tune; alive = refl; still = refl }) (quietly_live _ (quiet_with_editor d (next_editor r.2 r.1)) v) in
     open_after a (editing s.program) w.live (state_of w) d s.program r.2 _ (open_settled a (editing s.program) w.live (state_of w) _ e)
 
 left_open : (d : ℕ) (player : Dbref) (s : EditState) (lines : List (List ℕ)) (w : World) →
@@ -163,7 +170,7 @@ left_open d player s lines w =
     let f : Change = taken_out d lines ▸ tell d editor_exited in
     let q : Quiet f = keeps_followed _ _ quiet_order (quiet_taken_out d lines) (quiet_tell d editor_exited) in
     let proper : Proper (actor_of w.live.objects player) (editing s.program) w.live (f w.live) = ((whole_quiet (actor_of w.live.objects player) None (λ es. editing s.program) Always f q).law w.live).law tt tt in
-    record { licensed = proper.licensed; tuned = in_range_as w.live (f w.live) proper.tune; alive = refl; still = refl }
+    record { licensed = proper.licensed; goes = lively_acts w.live (f w.live) proper.goes; tuned = in_range_as w.live (f w.live) proper.tune; alive = refl; still = refl }
 
 open_in_editor : (d : ℕ) (player : Dbref) (s : EditState) (line : List ℕ) (lines : List (List ℕ)) (w : World) →
     Open (actor_of w.live.objects player) (editing s.program) w.live (state_of w) (in_editor d player s line (on_live (taken_out d lines) w))
@@ -182,22 +189,26 @@ unfolding tuned
 tuned_licensed a free w v tune l h =
     record { gone = l.gone; recycled = l.recycled; vanished = l.vanished; objects = l.objects; no_fewer = l.no_fewer; marked = l.marked; lists = l.lists; connections = l.connections; tune = inr h }
 
+tuned_goes : (tune : Tune) (w : Live) → Goes lively w (tuned tune w)
+unfolding tuned boards.tuned
+tuned_goes tune w = one (board _ w (tunes tune w.board refl))
+
 tuned_in_range : (w : Live) (tune : Tune) → IsInRange tune → IsInRange (tuned tune w).board.tune
 unfolding tuned
 tuned_in_range w tune h = h
 
 open_followed : (d : ℕ) (player : Dbref) (a : Actor) (free : Freedom) (start : Live) (state : Bool × Still) (outcome : Outcome) (u : World) → player_in d start.board ≡ Some a.player →
     ((tune : Tune) → outcome ≡ Retune tune → MayRetune a start tune) → Open a free start state u → Open a free start state (followed_up d player outcome u)
-open_followed d player a free start state Leave u own may p = record { licensed = left_licensed a d free start u.live own p.licensed; tuned = λ h. in_range_as u.live (leave d u.live) (left_tune d u.live) (p.tuned h); alive = p.alive; still = p.still }
+open_followed d player a free start state Leave u own may p = record { licensed = left_licensed a d free start u.live own p.licensed; goes = join p.goes (left_goes d u.live); tuned = λ h. in_range_as u.live (leave d u.live) (left_tune d u.live) (p.tuned h); alive = p.alive; still = p.still }
 open_followed d player a free start state (Edit program) u own may p =
     open_quietly a free start state u _ p (quietly_live (with_editor d (Some (editor_on program u.live))) (quiet_with_editor d (Some (editor_on program u.live))) u)
 open_followed d player a free start state (Start program trigger line arg) u own may p =
     open_quietly a free start state u _ p (quietly_launched d (actor_of u.live.objects player) (record { player = player; program = program; trigger = trigger; command = line; argument = arg }) u)
 open_followed d player a free start state Done u own may p = p
 open_followed d player a free start state NotMine u own may p = p
-open_followed d player a free start state Dump u own may p = record { licensed = p.licensed; tuned = p.tuned; alive = p.alive; still = p.still }
-open_followed d player a free start state Stop u own may p = record { licensed = p.licensed; tuned = p.tuned; alive = p.alive; still = p.still }
-open_followed d player a free start state (Retune tune) u own may p = record { licensed = tuned_licensed a free start u.live tune p.licensed (may tune refl).0; tuned = λ h. tuned_in_range u.live tune ((may tune refl).1 h); alive = p.alive; still = p.still }
+open_followed d player a free start state Dump u own may p = record { licensed = p.licensed; goes = p.goes; tuned = p.tuned; alive = p.alive; still = p.still }
+open_followed d player a free start state Stop u own may p = record { licensed = p.licensed; goes = p.goes; tuned = p.tuned; alive = p.alive; still = p.still }
+open_followed d player a free start state (Retune tune) u own may p = record { licensed = tuned_licensed a free start u.live tune p.licensed (may tune refl).0; goes = join p.goes (tuned_goes tune u.live); tuned = λ h. tuned_in_range u.live tune ((may tune refl).1 h); alive = p.alive; still = p.still }
 
 open_in_world : (d : ℕ) (player : Dbref) (line : List ℕ) (lines : List (List ℕ)) (w : World) → player_in d w.live.board ≡ Some player →
     Open (actor_of w.live.objects player) (free_line (actor_of w.live.objects player) line w.live.objects) w.live (state_of w) (in_world d player line (on_live (waits d lines) w))
@@ -209,7 +220,7 @@ open_in_world d player line lines w own =
     let r = typed u.queue d a line u.live in
     let proper : Proper a free w.live r.0 = ((waited_open a u.queue d lines line).law w.live).law own tt in
     open_followed d player a free w.live (state_of w) r.1 _ own (typed_retunes u.queue d a line u.live)
-    (open_settled a free w.live (state_of w) (record u { live = r.0; queue = left_by d a line u.live u.queue }) (record { licensed = proper.licensed; tuned = in_range_as w.live r.0 proper.tune; alive = refl; still = refl }))
+    (open_settled a free w.live (state_of w) (record u { live = r.0; queue = left_by d a line u.live u.queue }) (record { licensed = proper.licensed; goes = lively_acts w.live r.0 proper.goes; tuned = in_range_as w.live r.0 proper.tune; alive = refl; still = refl }))
 
 -- Processes.
 
@@ -419,12 +430,10 @@ unfolding done
 told_done d w None h = h
 told_done d w (Some c) h = lines_told d w c.player c.editor c.waiting h
 
--- The numbers of the connections, that there are no fewer objects, that what changed is due, that what is tuned stays in its range, that the
--- world lives on, and that the same dump runs.
+-- The way that it goes, the numbers of the connections, that what is tuned stays in its range, that the world lives on, and that the same dump runs.
 
 pub record Going (w v : World) : Type 0 where
-  pub no_fewer : length w.live.objects ≤ length v.live.objects
-  pub marked : Marked w.live.objects v.live.objects
+  pub goes : Goes lively w.live v.live
   pub numbers : numbers v.live.board.connections ≡ numbers w.live.board.connections
   pub tuned : IsInRange w.live.board.tune → IsInRange v.live.board.tune
   pub dead : v.dead ≡ w.dead
@@ -432,15 +441,14 @@ pub record Going (w v : World) : Type 0 where
   pub moment : v.moment ≡ w.moment
 
 pub going_open : (a : Actor) (free : Freedom) (w v : World) → Open a free w.live (state_of w) v → Going w v
-going_open a free w v p = record { no_fewer = p.licensed.no_fewer; marked = p.licensed.marked; numbers = numbers-same_ties a w.live.board.connections v.live.board.connections p.licensed.connections; tuned = p.tuned; dead = p.alive; running = ap (λ (x : Still). x.0) p.still; moment = ap (λ (x : Still). x.1) p.still }
+going_open a free w v p = record { goes = p.goes; numbers = numbers-same_ties a w.live.board.connections v.live.board.connections p.licensed.connections; tuned = p.tuned; dead = p.alive; running = ap (λ (x : Still). x.0) p.still; moment = ap (λ (x : Still). x.1) p.still }
 
 pub going_same : (w : World) → Going w w
-going_same w = record { no_fewer = as_many w.live.objects w.live.objects refl; marked = marked_itself w.live.objects; numbers = refl; tuned = λ h. h; dead = refl; running = refl; moment = refl }
+going_same w = record { goes = stays; numbers = refl; tuned = λ h. h; dead = refl; running = refl; moment = refl }
 
 pub going_both : (u v w : World) → Going u v → Going v w → Going u w
 going_both u v w p q = record {
-  no_fewer = no_fewer_both u.live.objects v.live.objects w.live.objects p.no_fewer q.no_fewer;
-  marked = marked_both u.live.objects v.live.objects w.live.objects p.marked q.marked;
+  goes = join p.goes q.goes;
   numbers = q.numbers ∙ p.numbers;
   tuned = λ h. q.tuned (p.tuned h);
   dead = q.dead ∙ p.dead;
@@ -450,8 +458,7 @@ going_both u v w p q = record {
 
 pub going_quietly : (w v : World) → Quietly w v → Going w v
 going_quietly w v q = record {
-  no_fewer = as_many w.live.objects v.live.objects (ap (λ (os : List Entry). length os) q.objects);
-  marked = marked_as w.live.objects w.live.objects v.live.objects q.objects (marked_itself w.live.objects);
+  goes = one (shows w.live v.live refl (quietly_shows w v q));
   numbers = numbers-ties w.live.board.connections v.live.board.connections q.ties;
   tuned = in_range_as w.live v.live q.tune;
   dead = q.dead;
@@ -459,14 +466,9 @@ going_quietly w v q = record {
   moment = ap (λ (x : Still). x.1) q.still;
 }
 
--- as many where properties alone differ
-many_alike : (es fs : List Entry) → map without_props fs ≡ map without_props es → length fs ≡ length es
-many_alike es fs e = sym (length_map without_props fs) ∙ ap (λ (os : List Entry). length os) e ∙ length_map without_props es
-
 pub going_live : (d : ℕ) (f : Change) → Seating d f → (w : World) → Going w (on_live f w)
 going_live d f p w = record {
-  no_fewer = as_many w.live.objects (f w.live).objects (many_alike w.live.objects (f w.live).objects (p.law w.live).objects);
-  marked = (p.law w.live).marked;
+  goes = lively_acts w.live (f w.live) (p.law w.live).goes;
   numbers = (p.law w.live).numbers;
   tuned = in_range_as w.live (f w.live) (p.law w.live).tune;
   dead = refl;
@@ -474,11 +476,10 @@ going_live d f p w = record {
   moment = refl;
 }
 
--- where objects stand otherwise to the dumps, and what isn't due wasn't before
-pub going_resaved : (f : Saving → Saving) (w : World) → Marked w.live.objects (all_saving f w.live.objects) → Going w (on_live (resaved f) w)
-going_resaved f w marked = record {
-  no_fewer = as_many w.live.objects (all_saving f w.live.objects) (length_resaved f w.live.objects);
-  marked = marked;
+-- where objects stand otherwise to the dumps
+pub going_resaved : (f : Saving → Saving) (w : World) → Walk lively w.live.objects (all_saving f w.live.objects) → Going w (on_live (resaved f) w)
+going_resaved f w walk = record {
+  goes = goes_objects lively w.live (all_saving f w.live.objects) walk;
   numbers = refl;
   tuned = λ h. h;
   dead = refl;

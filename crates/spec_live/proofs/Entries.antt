@@ -1,17 +1,17 @@
 -- What holds of each touch of an entry holds of each entry along a path. What isn't there yet counts as blank.
 use Rattle.std.proofs.Common.{◌≡◌, ℕ, ◌≤◌, List, [], ◌∷◌, ◌++◌, Option, Some, None, inl, inr, refl, sym, ◌∙◌, ap, subst, length, length-append, arith, Bool, true, false}
-use Rattle.std.proofs.lemmas.Bool.{cases_eq}
+use Rattle.std.proofs.lemmas.Bool.{cases_eq, false≢true}
 use Rattle.std.proofs.lemmas.Option.{slice_get-map}
 use Rattle.std.specs.List.{slice_get}
 use Rattle.std.specs.Prelude.{unwrap_or}
-use Rattle.std.specs.Option.{option_map}
-use Rattle.spec_live.specs.Objects.{Entry, due, changed_at}
+use Rattle.std.specs.Option.{option_map, option_and_then}
+use Rattle.spec_live.specs.Objects.{Entry, mark_in, due, changed_at}
 use Rattle.spec_live.specs.Saving.{relinked}
 use Rattle.spec_live.specs.Making.{blank_entry}
 use Rattle.spec_live.proofs.Keeping.{Order, Path, along}
 use Rattle.spec_live.proofs.Lists.{length_map, length_changed, get_changed_same, get_changed_other, read_more}
 use Rattle.spec_live.proofs.Savings.{due_where, links_differ, get_relinked, length_relinked}
-use Rattle.spec_live.proofs.Steps.{May, Touch, dues, Part, each, at, grows, Step, parts, settles, Walk}
+use Rattle.spec_live.proofs.Steps.{Lines, Gone, Told, May, Touch, lines, vanishes, tells, dues, Part, each, at, grows, Step, parts, settles, Walk}
 
 abbrev pub seen : Option Entry → Entry
 seen o = unwrap_or o blank_entry
@@ -85,3 +85,25 @@ fewer_walk may es fs p = along fewer_order step es fs p
     step : (es fs : List Entry) → Step may es fs → NoFewer es fs
     step _ _ (parts es fs p) = along fewer_order (fewer_part may false) es fs p
     step _ _ (settles es fs l p) = omega (arith, along fewer_order (fewer_part may true) es fs p, length_relinked es fs)
+
+-- What is to be told is what was, where none of the labels Lines, Gone and Told may be touched.
+
+pub mark_read : (es : List Entry) (n : ℕ) → mark_in es n ≡ (seen (slice_get es n)).mark
+unfolding mark_in blank_entry
+mark_read es n = by_cases (slice_get es n)
+  where
+    by_cases : (q : Option Entry) → option_and_then (λ (e : Entry). e.mark) q ≡ (seen q).mark
+    by_cases None = refl
+    by_cases (Some e) = refl
+
+abbrev SameMark : Entry → Entry → Type 0
+SameMark e g = g.mark ≡ e.mark
+
+mark_touch : (may : May) → may Lines ≡ false → may Gone ≡ false → may Told ≡ false → Holds may SameMark
+mark_touch may l g t _ _ _ (lines ls e h) = absurd (false≢true (sym l ∙ h))
+mark_touch may l g t _ _ _ (vanishes e h i) = absurd (false≢true (sym g ∙ h))
+mark_touch may l g t _ _ _ (tells e h) = absurd (false≢true (sym t ∙ h))
+mark_touch may l g t _ _ _ touch = refl
+
+pub mark_walk : (may : May) → may Lines ≡ false → may Gone ≡ false → may Told ≡ false → (es fs : List Entry) → Walk may es fs → (n : ℕ) → mark_in fs n ≡ mark_in es n
+mark_walk may l g t es fs p n = mark_read fs n ∙ each_walk may (record { itself = λ e. refl; both = λ d e f r s. s ∙ r }) (mark_touch may l g t) es fs p n ∙ sym (mark_read es n)

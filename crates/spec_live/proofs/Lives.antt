@@ -9,7 +9,7 @@ use Rattle.spec_live.specs.Connections.{Connection, left_where}
 use Rattle.spec_live.specs.Boards.{Board, on_connections, opened, closed, leaving_one, seated_one, tuned}
 use Rattle.spec_live.specs.Lives.{Live, Change, on_objects, unchanged}
 use Rattle.spec_live.proofs.Keeping.{Keeps, Order, Path, one, goes, stays, along, path_order, keeps_unchanged}
-use Rattle.spec_live.proofs.Steps.{May, Begun, Shown, Came, Leaving, Seated, Tuned, Step, Walk}
+use Rattle.spec_live.proofs.Steps.{Name, Begun, Shown, Came, Leaving, Seated, Tuned, May, Touch, sets, lines, makes, unties, vanishes, lists, dues, tells, resaves, begins, Touches, Part, each, at, grows, Step, parts, settles, Walk}
 use Rattle.spec_live.proofs.Entries.{NoFewer, fewer_order, fewer_walk}
 use Rattle.spec_live.proofs.Marking.{marked_order, marked_walk}
 
@@ -91,3 +91,43 @@ fewer_along may w v p = objects_along may fewer_order (fewer_walk may) w v p
 
 pub marked_along : (may : May) → may Begun ≡ false → (w v : Live) → Goes may w v → Marked w.objects v.objects
 marked_along may n w v p = objects_along may marked_order (marked_walk may n) w v p
+
+-- What may touch more may go the same way.
+
+module _ (m n : May) (up : (name : Name) → m name ≡ true → n name ≡ true) where
+  wider_touch : (b : Bool) (e g : Entry) → Touch m b e g → Touches n b e g
+  wider_touch b _ _ (sets c e h) = one (sets c e (up _ h))
+  wider_touch b _ _ (lines ls e h) = one (lines ls e (up _ h))
+  wider_touch b _ _ (makes o e h k l) = one (makes o e (up _ h) k l)
+  wider_touch b _ _ (unties d e h) = one (unties d e (up _ h))
+  wider_touch b _ _ (vanishes e h l) = one (vanishes e (up _ h) l)
+  wider_touch b _ _ (lists cs xs e l) = one (lists cs xs e l)
+  wider_touch b _ _ (dues e l) = one (dues e l)
+  wider_touch b _ _ (tells e h) = one (tells e (up _ h))
+  wider_touch b _ _ (resaves f e h s) = one (resaves f e (up _ h) s)
+  wider_touch b _ _ (begins e h) = one (begins e (up _ h))
+
+  wider_part : (b : Bool) (es fs : List Entry) → Part m b es fs → Path (Part n b) es fs
+  wider_part b _ _ (each f es t) = one (each f es (λ e. along (path_order (Touch n b)) (wider_touch b) e (f e) (t e)))
+  wider_part b _ _ (at i f es t) = one (at i f es (λ e h. along (path_order (Touch n b)) (wider_touch b) e (f e) (t e h)))
+  wider_part b _ _ (grows es h) = one (grows es (up _ h))
+
+  wider_step : (es fs : List Entry) → Step m es fs → Step n es fs
+  wider_step _ _ (parts es fs p) = parts es fs (along (path_order (Part n false)) (wider_part false) es fs p)
+  wider_step _ _ (settles es fs l p) = settles es fs (up _ l) (along (path_order (Part n true)) (wider_part true) es fs p)
+
+  wider_board : (b c : Board) → BoardStep m b c → BoardStep n b c
+  wider_board _ _ (opens d greeting b h) = opens d greeting b (up _ h)
+  wider_board _ _ (closes d b h) = closes d b (up _ h)
+  wider_board _ _ (leaves_one d b h) = leaves_one d b (up _ h)
+  wider_board _ _ (leaves test b h) = leaves test b (up _ h)
+  wider_board _ _ (seats d player b h) = seats d player b (up _ h)
+  wider_board _ _ (tunes tune b h) = tunes tune b (up _ h)
+
+  wider_live : (w v : Live) → LiveStep m w v → Goes n w v
+  wider_live _ _ (objects es w s) = one (objects es w (wider_step w.objects es s))
+  wider_live _ _ (board b w s) = one (board b w (wider_board w.board b s))
+  wider_live _ _ (shows w v h s) = one (shows w v (up _ h) s)
+
+  pub wider : (w v : Live) → Goes m w v → Goes n w v
+  wider w v p = along (goes_order n) wider_live w v p

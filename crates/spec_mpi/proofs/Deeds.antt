@@ -13,11 +13,13 @@ use Rattle.spec_live.specs.Connections.{Connection, told, told_where, is_of, hea
 use Rattle.spec_live.specs.Boards.{told_player, told_others, random_drawn}
 use Rattle.spec_live.specs.Lives.{Live, Change, tell_player, tell_but, tell_others, draw, place_of}
 use Rattle.spec_live.proofs.Keeping.{Order}
+use Rattle.spec_live.proofs.Steps as field
 use Rattle.spec_live.proofs.Marking.{marked_itself, marked_both}
+use Rattle.spec_live.proofs.Lives.{marked_along}
 use Rattle.spec_rights.specs.declared.act.Act.TheVariants.{Write}
 use Rattle.spec_rights.specs.Verdict.{verdict}
 use Rattle.spec_rights.specs.Changing.{at_number, stored, unstored}
-use Rattle.spec_rights.proofs.Changes.{marked_found}
+use Rattle.spec_rights.proofs.Walking.{acts, goes_set}
 use Rattle.mpi.specs.declared.fault.MpiFault.TheVariants.{BadValue, Denied}
 use Rattle.mpi.specs.declared.host.Deed.{Deed}
 use Rattle.mpi.specs.declared.host.Deed.TheVariants as deed
@@ -100,11 +102,11 @@ noted_at f h x es = at (number_in es x)
 
 pub touching_stored : (x : Dbref) (path : List (List ℕ)) (value : PropValue) (w : Live) → TouchesNotes w (stored x path value w)
 unfolding stored
-touching_stored x path value w = record { objects = noted_at (with_prop path value) (λ e. refl) x w.objects; marked = marked_found x (with_prop path value) w.objects; connections = refl; tune = refl }
+touching_stored x path value w = record { objects = noted_at (with_prop path value) (λ e. refl) x w.objects; marked = marked_along acts refl w _ (goes_set acts (field.stored path value) x w refl); connections = refl; tune = refl }
 
 pub touching_unstored : (x : Dbref) (path : List (List ℕ)) (w : Live) → TouchesNotes w (unstored x path w)
 unfolding unstored
-touching_unstored x path w = record { objects = noted_at (without_prop path) (λ e. refl) x w.objects; marked = marked_found x (without_prop path) w.objects; connections = refl; tune = refl }
+touching_unstored x path w = record { objects = noted_at (without_prop path) (λ e. refl) x w.objects; marked = marked_along acts refl w _ (goes_set acts (field.unstored path) x w refl); connections = refl; tune = refl }
 
 pub touching_one : (player : Dbref) (text : List ℕ) (w : Live) → TouchesNotes w (tell_player player text w)
 unfolding tell_player told_player

@@ -24,20 +24,20 @@ use Rattle.spec_live.specs.Lives.{Live}
 use Rattle.spec_live.specs.Seen.{listed_in}
 use Rattle.spec_live.proofs.Lists.{get_changed_same}
 use Rattle.spec_live.proofs.Readers.{object_elsewhere, object_left, object_moved, object_unmoved, kind_is, mark_elsewhere, mark_left, mark_moved}
-use Rattle.spec_live.proofs.Marking.{marked_itself, marked_recycled}
-use Rattle.spec_live.proofs.Savings.{object_relinked, list_relinked, mark_relinked, length_relinked}
+use Rattle.spec_live.proofs.Walks.{walk_recycled}
+use Rattle.spec_live.proofs.Lives.{Goes, goes_objects, fewer_along, marked_along}
+use Rattle.spec_live.proofs.Savings.{object_relinked, list_relinked, mark_relinked}
 use Rattle.spec_rights.specs.declared.act.Actor.{Actor}
 use Rattle.spec_rights.specs.declared.act.Act.TheVariants.{Recycle}
 use Rattle.spec_rights.specs.Levels.{is_player_at}
 use Rattle.spec_rights.specs.Verdict.{verdict, controls}
 use Rattle.spec_rights.specs.Changing.{recycled_now}
 use Rattle.spec_rights.specs.Licence.{Freedom, Open, Judge, Changed, Differs, Reordered, as_before, empties, front_open, SameLists, is_emptied, is_way_home, place_open, link_open, home_open, gone_open, may_recycle}
-use Rattle.spec_live.proofs.HomeLaws.{list_untied, mark_untied, length_untied, length_sent_home}
-use Rattle.spec_live.proofs.RecyclingLaws.{length_exits_gone, length_vanished}
-use Rattle.spec_rights.proofs.Listing.{lists_itself, reordered_all, reordered_one, reordered_left, reordered_moved}
+use Rattle.spec_live.proofs.HomeLaws.{list_untied, mark_untied}
+use Rattle.spec_rights.proofs.Listing.{reordered_all, reordered_one, reordered_left, reordered_moved}
 use Rattle.spec_rights.proofs.Lookups.{Row, alive, seen_at, number_is}
-use Rattle.spec_rights.proofs.Telling.{told_itself, told_recycled}
-use Rattle.spec_rights.proofs.Licences.{judge, changed_same, MarkOpen, SameMarks, marks_itself, ties_itself, as_many, Proper}
+use Rattle.spec_rights.proofs.Walking.{acts}
+use Rattle.spec_rights.proofs.Licences.{judge, MarkOpen, SameMarks, ties_itself, stay_itself, stay_end, end_proper, Proper}
 use Rattle.spec_rights.proofs.Allowed.{recycle_allowed}
 
 -- one object is recycled, of that number
@@ -416,37 +416,11 @@ marks_recycled j d es n = at (object_at (dbref_of n) (recycled d es)) refl
     at None e = tt
     at (Some o) e = inl (mark_kept d n es o e)
 
--- There are as many numbers as there were.
-many_recycled : (d : ℕ) (es : List Entry) → length (recycled d es) ≡ length es
-unfolding recycled taken_away
-many_recycled d es =
-    let home : List Entry = sent_home (list_in false es d) (untied d es) in
-    length_relinked home (vanished d (exits_gone d home)) ∙ length_vanished (exits_gone d home) d ∙ length_exits_gone d home ∙ length_sent_home (untied d es) (list_in false es d) ∙ length_untied d es
-
 -- The whole change.
 
 -- what isn't there or stays because it is a player or `#0`
 nothing_recycled : (a : Actor) (free : Freedom) (w : Live) → Proper a free w w
-nothing_recycled a free w = record {
-  licensed = record {
-    gone = None;
-    recycled = λ x e. absurd (cc);
-    vanished = λ x e. absurd (cc);
-    objects = λ n. same_differs n (object_at (dbref_of n) w.objects);
-    no_fewer = as_many w.objects w.objects refl;
-    marked = marked_itself w.objects;
-    lists = lists_itself (judge a free w.objects) w.objects;
-    connections = ties_itself a w.board.connections;
-    tune = inl refl;
-  };
-  marks = marks_itself (judge a free w.objects) w.objects;
-  told = told_itself w.objects;
-  tune = refl;
-}
-  where
-    same_differs : (n : ℕ) (q : Option Object) → Differs (judge a free w.objects) (dbref_of n) q q
-    same_differs n None = tt
-    same_differs n (Some o) = changed_same (judge a free w.objects) (dbref_of n) o
+nothing_recycled a free w = let j = judge a free w.objects in end_proper a free w w (stay_end j w w (stay_itself j w))
 
 no_player : (es : List Entry) (d : ℕ) → is_player (kind_in es d) ≡ false → is_player_at es (dbref_of d) ≡ false
 unfolding is_player_at kind_in
@@ -474,20 +448,21 @@ there : (a : Actor) (free : Freedom) (x : Dbref) (w : Live) → controls w.objec
 there a free x w h d e t =
     let known : x ≡ dbref_of d = number_is w.objects x d e in
     let k : ((d == 0) ≡ false) × (is_player (kind_in w.objects d) ≡ false) = or_parts _ _ (not-true _ t) in
+    let path : Goes acts w (record w { objects = recycled d w.objects }) = goes_objects acts w _ (walk_recycled acts d w.objects refl refl refl) in
     record {
       licensed = record {
         gone = Some (dbref_of d);
         recycled = λ y f. let same : x ≡ y = known ∙ cc in ap (may_recycle w.objects a) (sym same) ∙ may a w.objects x d known k.0 k.1 h;
         vanished = λ y f. let same : y ≡ dbref_of d = cc in ap (λ z. object_at z (recycled d w.objects)) same ∙ lost_at d w.objects;
         objects = differs_recycled a free d w.objects (ap (number_in w.objects) (sym known) ∙ e) k.0;
-        no_fewer = as_many w.objects (recycled d w.objects) (many_recycled d w.objects);
-        marked = marked_recycled d w.objects;
+        no_fewer = fewer_along acts w _ path;
+        marked = marked_along acts refl w _ path;
         lists = lists_recycled a free d w.objects (ap (number_in w.objects) (sym known) ∙ e);
         connections = ties_itself a w.board.connections;
         tune = inl refl;
       };
       marks = marks_recycled (judge a free w.objects) d w.objects;
-      told = told_recycled d w.objects;
+      goes = path;
       tune = refl;
     }
 

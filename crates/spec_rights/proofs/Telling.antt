@@ -14,7 +14,7 @@ use Rattle.spec_live.specs.Setting.{lines_marked}
 use Rattle.spec_live.specs.Lives.{Live}
 use Rattle.spec_live.proofs.Keeping.{Order}
 use Rattle.spec_live.proofs.Steps.{kept, sets, lines, makes, vanishes, tells}
-use Rattle.spec_live.proofs.Entries.{seen, Each, Holds, each_order, each_walk}
+use Rattle.spec_live.proofs.Entries.{seen, Each, Holds, each_order, each_walk, mark_read}
 use Rattle.spec_live.proofs.Lives.{Goes, objects_along}
 use Rattle.spec_rights.proofs.Lookups.{alive, seen_at}
 use Rattle.spec_rights.proofs.Walking.{acts}
@@ -89,7 +89,7 @@ tells_touch _ _ _ (makes o e h g l) =
     sourceless false ls s = refl
 tells_touch _ _ _ (vanishes e h l) = record { source = inr refl; stays = λ _. refl; gone = λ _ _. refl; still = λ _. refl }
 tells_touch _ _ _ (tells e h) = absurd (false≢true h)
-tells_touch _ _ _ (sets kept e h) = tells_order.itself e
+tells_touch _ _ _ (sets kept e h) = record { source = inl refl; stays = λ s. s; gone = λ l k. never_both (lives e) l k; still = λ s. s }
 tells_touch _ _ _ touch = record { source = inl refl; stays = λ s. s; gone = λ l k. never_both _ l k; still = λ s. s }
 
 -- All of them, as they are read.
@@ -109,14 +109,6 @@ there_read es n = ap is_some (seen_at es n) ∙ by_cases (slice_get es n)
     by_cases : (q : Option Entry) → is_some (option_and_then alive (option_map (λ (e : Entry). e.object) q)) ≡ lives (seen q)
     by_cases None = refl
     by_cases (Some e) = elim (is_garbage e.object.kind) as (λ b. is_some (cond b None (Some e.object)) ≡ not b) [ true ↦ refl | false ↦ refl ]
-
-mark_read : (es : List Entry) (n : ℕ) → mark_in es n ≡ (seen (slice_get es n)).mark
-unfolding mark_in blank_entry
-mark_read es n = by_cases (slice_get es n)
-  where
-    by_cases : (q : Option Entry) → option_and_then (λ (e : Entry). e.mark) q ≡ (seen q).mark
-    by_cases None = refl
-    by_cases (Some e) = refl
 
 told_by : (es fs : List Entry) → Each Tells es fs → Told es fs
 told_by es fs h = record {
