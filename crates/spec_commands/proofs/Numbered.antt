@@ -3,17 +3,16 @@ use Rattle.std.proofs.Common.{◌≡◌, ℕ, ◌<◌, Bool, true, false, cond, 
 use Rattle.std.specs.Prelude.{map, ◌==◌}
 use Rattle.muck_model.specs.declared.dbref.Dbref.{Dbref}
 use Rattle.spec_live.specs.Objects.{Entry}
-use Rattle.spec_mpi.specs.Touching.{without_props, without_output, TouchesNotes}
+use Rattle.spec_mpi.specs.Touching.{without_props, TouchesNotes}
 use Rattle.spec_live.specs.Connections.{Connection, has_number, changed_in, left, seated}
 use Rattle.spec_live.specs.Boards.{on_connection, leaving_one, seated_one}
 use Rattle.spec_live.proofs.Keeping.{Keeps, Order, stays, one, join, keeps_more}
-use Rattle.spec_live.proofs.Lives.{Goes, board, shows, leaves_one, seats}
+use Rattle.spec_live.proofs.Lives.{Goes, board, shows, leaves_one, seats, mute, readies, viewed_one, viewed_again}
 use Rattle.spec_live.specs.Lives.{Live, Change, on_board, leave, enter}
 use Rattle.spec_rights.specs.declared.act.Actor.{Actor}
 use Rattle.spec_rights.specs.Licence.{Open, SameTies, LeaversLicensed}
 use Rattle.spec_rights.proofs.Walking.{acts}
 use Rattle.spec_rights.proofs.Licences.{Quiet, open_both, tie, ties}
-use Rattle.spec_rights.proofs.Shown.{quiet_one}
 use Rattle.spec_commands.specs.inner.Rising.{IsAbove, IsRising}
 
 unfoldable pub numbers : List Connection → List ℕ
@@ -45,12 +44,7 @@ rising_by (c ∷ cs) (d ∷ ds) e h =
 
 pub numbers-changed_in : (d : ℕ) (f : Connection → Connection) → ((c : Connection) → (f c).number ≡ c.number) → (cs : List Connection) → numbers (changed_in d f cs) ≡ numbers cs
 unfolding numbers
-numbers-changed_in d f keeps [] = refl
-numbers-changed_in d f keeps (c ∷ cs) =
-    elim (has_number d c) as (λ b. numbers (cond b (f c ∷ cs) (c ∷ changed_in d f cs)) ≡ numbers (c ∷ cs)) [
-      | true ↦ ap (λ n. n ∷ numbers cs) (keeps c)
-      | false ↦ ap (λ ns. c.number ∷ ns) (numbers-changed_in d f keeps cs)
-    ]
+numbers-changed_in d f keeps cs = viewed_one (λ c. c.number) d f keeps cs
 
 -- connections that are tied alike have the same numbers
 pub numbers-ties : (cs ds : List Connection) → ties ds ≡ ties cs → numbers ds ≡ numbers cs
@@ -81,7 +75,7 @@ leavers_ties may (c ∷ cs) (d ∷ ds) e =
     let rest : ties ds ≡ ties cs = cc in
     (ap (λ (t : ℕ × Option Dbref × Bool). t.0) head, inl (ap (λ (t : ℕ × Option Dbref × Bool). t.2) head), leavers_ties may cs ds rest)
 
-leavers_both : (n : ℕ) (cs ds es : List Connection) → LeaversLicensed (has_number n) cs ds → LeaversLicensed (has_number n) ds es → LeaversLicensed (has_number n) cs es
+pub leavers_both : (n : ℕ) (cs ds es : List Connection) → LeaversLicensed (has_number n) cs ds → LeaversLicensed (has_number n) ds es → LeaversLicensed (has_number n) cs es
 leavers_both n [] [] [] r s = tt
 leavers_both n [] [] (e ∷ es) r s = absurd s
 leavers_both n [] (d ∷ ds) es r s = absurd r
@@ -122,32 +116,18 @@ seating_quiet d f q = keeps_more f (λ w v s. record {
   objects = ap (λ (es : List Entry). map without_props es) s.objects;
   goes = one (shows w v refl s);
   tune = s.tune;
-  numbers = numbers-ties w.board.connections v.board.connections s.ties;
-  leavers = leavers_ties (has_number d) w.board.connections v.board.connections s.ties;
+  numbers = numbers-ties w.board.connections v.board.connections (readies w v s).ties;
+  leavers = leavers_ties (has_number d) w.board.connections v.board.connections (readies w v s).ties;
 }) q
-
--- what differs in notes alone
-mute_ties : (cs ds : List Connection) → map without_output ds ≡ map without_output cs → ties ds ≡ ties cs
-mute_ties [] [] e = refl
-mute_ties [] (d ∷ ds) e = absurd cc
-mute_ties (c ∷ cs) [] e = absurd cc
-mute_ties (c ∷ cs) (d ∷ ds) e =
-    let head : without_output d ≡ without_output c = cc in
-    let rest : map without_output ds ≡ map without_output cs = cc in
-    ap (λ (x : Connection). tie x ∷ ties ds) head ∙ ap (λ ts. tie c ∷ ts) (mute_ties cs ds rest)
 
 pub seating_notes : (d : ℕ) (f : Change) → Keeps TouchesNotes f → Keeps (Goes acts) f → Seating d f
 seating_notes d f q g = record {
   law = λ w.
       let v : Live = f w in
       let s = q.law w in
-      let same = mute_ties w.board.connections v.board.connections s.connections in
+      let same = viewed_again mute tie w.board.connections v.board.connections s.connections in
       record { objects = s.objects; goes = g.law w; tune = s.tune; numbers = numbers-ties w.board.connections v.board.connections same; leavers = leavers_ties (has_number d) w.board.connections v.board.connections same };
 }
-
--- one connection, which stays who it was
-pub seating_one : (d : ℕ) (f : Connection → Connection) → ((c : Connection) → tie (f c) ≡ tie c) → Seating d (on_board (on_connection d f))
-seating_one d f keeps = seating_quiet d _ (quiet_one d f keeps)
 
 seating_other : (d : ℕ) (f : Connection → Connection) → ((c : Connection) → (f c).number ≡ c.number) → Keeps (Goes acts) (on_board (on_connection d f)) → Seating d (on_board (on_connection d f))
 seating_other d f keeps g =

@@ -22,15 +22,16 @@ use Rattle.spec_admin.specs.declared.word.Parameter.TheVariants.{InstrSlice, Pre
 use Rattle.spec_admin.specs.Parameters.{IsInRange}
 use Rattle.spec_commands.specs.Talk.{welcome, parted, gone_away}
 use Rattle.spec_commands.specs.inner.Rising.{IsAbove, IsRising}
-use Rattle.spec_commands.proofs.Numbered.{rising_by, seating_quiet, seating_one}
+use Rattle.spec_rights.proofs.Shown.{loose_one}
+use Rattle.spec_commands.proofs.Numbered.{rising_by, seating_quiet}
 use Rattle.spec_commands.proofs.Lines.{quiet_parted}
 use Rattle.spec_events.specs.World.{World, connection, queue_of, is_leaving, askers_of, on_live, booted, starting}
 use Rattle.spec_events.specs.Dumping.{resaved, dump_stored, dump_failed, told_each}
 use Rattle.spec_events.specs.Steps.{is_free, may_idle, is_allowed, is_lawful, is_died, happened, effect, next_ready}
 use Rattle.spec_events.specs.Histories.{by_porter}
 use Rattle.spec_events.specs.inner.Sound.{IsSound}
-use Rattle.spec_events.proofs.Quietly.{lively, quietly_live, quiet_told_each}
-use Rattle.spec_events.proofs.Done.{Going, in_range_as, going_both, going_quietly, going_live, going_resaved, done_going}
+use Rattle.spec_events.proofs.Quietly.{lively, quietly_loose, quietly_live, quiet_told_each}
+use Rattle.spec_events.proofs.Done.{Going, in_range_as, going_both, going_quietly, going_resaved, done_going}
 use Rattle.spec_events.proofs.Taken.{sliced_going}
 use Rattle.spec_events.proofs.Happening.{effect-board}
 use Rattle.spec_events.proofs.Living.{dead-effect}
@@ -126,11 +127,11 @@ pub rising-happened : (event : Event) (party : ℕ) (w : World) → is_allowed w
 unfolding opened line_added bytes_taken
 rising-happened (Opened d) party w l h =
     rising-placed (newcomer d welcome) w.live.board.connections (no_connection d w (party == 0) w.stopping (nat_lt (length w.live.board.connections) connections_most) l) h
-rising-happened (Input d line) party w l h = going-rises w _ (going_live d (on_board (line_added d line)) (seating_one d (lined line) (λ c. refl)) w) h
+rising-happened (Input d line) party w l h = going-rises w _ (going_quietly w _ (quietly_loose (on_board (line_added d line)) (loose_one d (lined line) (λ c. refl)) w)) h
 rising-happened (Closed d) party w l h = rising-gone_away d w.live h
 rising-happened (Exec d) party w l h = going-rises w _ (done_going d w (connection d w) refl) h
 rising-happened (Slice pid) party w l h = going-rises w _ (sliced_going pid w) h
-rising-happened (Take d n) party w l h = going-rises w _ (going_live d (on_board (bytes_taken d n)) (seating_one d _ (λ c. refl)) w) h
+rising-happened (Take d n) party w l h = going-rises w _ (going_quietly w _ (quietly_loose (on_board (bytes_taken d n)) (loose_one d _ (λ c. refl)) w)) h
 rising-happened (Stored k) party w l h = going-rises w _ (stored-going k w) h
 rising-happened (DumpFailed k) party w l h = going-rises w _ (failed-going w) h
 rising-happened event party w l h = h

@@ -13,8 +13,8 @@ use Rattle.spec_live.specs.Lives.{Live, followed, reading, on_board}
 use Rattle.spec_live.proofs.Keeping.{stays, goes, one, join}
 use Rattle.spec_live.proofs.Steps.{Name, Begun, May}
 use Rattle.spec_live.proofs.Walks.{walk_begun}
-use Rattle.spec_live.proofs.Lives.{Goes, board, shows, opens, closes, goes_objects, fewer_along, marked_along, wider}
-use Rattle.spec_rights.proofs.Shown.{quiet_one}
+use Rattle.spec_live.proofs.Lives.{Goes, board, shows, hears, opens, closes, goes_objects, fewer_along, marked_along, wider}
+use Rattle.spec_rights.proofs.Shown.{quiet_one, loose_one}
 use Rattle.spec_commands.specs.Talk.{welcome, gone_away}
 use Rattle.spec_commands.proofs.Lines.{quiet_parted}
 use Rattle.spec_events.specs.World.{World, connection}
@@ -46,7 +46,7 @@ gone_goes b d w = let v : Live = on_board (closed d) w in goes (board _ w (close
 pub goes_happened : (b : Bool) (event : Event) (w : World) (party : ℕ) → (is_cut event ≡ true → b ≡ true) → Goes (every b) w.live (happened w party event).live
 unfolding line_added bytes_taken
 goes_happened b (Opened d) w party may = one (board _ w.live (opens d welcome w.live.board refl))
-goes_happened b (Input d line) w party may = one (shows w.live _ refl ((quiet_one d (lined line) (λ c. refl)).law w.live))
+goes_happened b (Input d line) w party may = one (hears w.live _ refl ((loose_one d (lined line) (λ c. refl)).law w.live))
 goes_happened b (Closed d) w party may = gone_goes b d w.live
 goes_happened b (Exec d) w party may = every_lively b w.live _ (done_going d w (connection d w) refl).goes
 goes_happened b (Slice pid) w party may = every_lively b w.live _ (sliced_going pid w).goes

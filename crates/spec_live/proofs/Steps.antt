@@ -19,7 +19,7 @@ use Rattle.spec_live.proofs.Keeping.{Path}
 -- Of objects, and of the connections.
 pub data Name : Type 0 where
   Called Owner Place Link Home Flagged Level Digest Props Lines Made Gone Lists Told Stored Begun : Name
-  Shown Came Leaving Seated Tuned : Name
+  Shown Heard Came Leaving Seated Tuned : Name
 
 abbrev pub May : Type 0
 May = Name → Bool

@@ -13,6 +13,7 @@ use Rattle.spec_live.specs.Boards.{player_in}
 use Rattle.spec_live.specs.Lives.{Live, Change, followed, reading}
 use Rattle.spec_live.proofs.Keeping.{Keeps, stays, one, join, keeps_after, keeps_more, keeps_told}
 pub use Rattle.spec_live.proofs.Lives.{tie, ties, Shows, Quiet, quiet_order, quiet_unchanged}
+use Rattle.spec_live.proofs.Lives.{Readies, readies}
 use Rattle.spec_live.proofs.Lives.{Goes, shows, fewer_along, marked_along}
 use Rattle.spec_rights.specs.declared.act.Actor.{Actor}
 use Rattle.spec_rights.specs.declared.act.Act.{Act}
@@ -195,13 +196,13 @@ pub stay_quietly : (j : Judge) (u v w : Live) → Stay j u v → Shows v w → S
 stay_quietly j u v w t q =
     let P : List Entry → Type 0 = λ os. Stay j u (record { objects = os; board = v.board }) in
     let s = subst P (sym q.objects) t in
-    record { rows = s.rows; lists = s.lists; marks = s.marks; goes = join t.goes (one (shows v w refl q)); ties = ties_both j.actor _ _ _ t.ties (ties_same j.actor v.board.connections w.board.connections q.ties); tune = q.tune ∙ t.tune }
+    record { rows = s.rows; lists = s.lists; marks = s.marks; goes = join t.goes (one (shows v w refl q)); ties = ties_both j.actor _ _ _ t.ties (ties_same j.actor v.board.connections w.board.connections (readies v w q).ties); tune = q.tune ∙ t.tune }
 
 pub end_quietly : (j : Judge) (u v w : Live) → End j u v → Shows v w → End j u w
 end_quietly j u v w t q =
     let P : List Entry → Type 0 = λ os. End j u (record { objects = os; board = v.board }) in
     let s = subst P (sym q.objects) t in
-    record { rows = s.rows; lists = s.lists; marks = s.marks; goes = join t.goes (one (shows v w refl q)); ties = ties_both j.actor _ _ _ t.ties (ties_same j.actor v.board.connections w.board.connections q.ties); tune = q.tune ∙ t.tune }
+    record { rows = s.rows; lists = s.lists; marks = s.marks; goes = join t.goes (one (shows v w refl q)); ties = ties_both j.actor _ _ _ t.ties (ties_same j.actor v.board.connections w.board.connections (readies v w q).ties); tune = q.tune ∙ t.tune }
 
 row_rights : (j : Judge) (x : Dbref) (o p : Option Object) → Row (Kept j x) o p → option_map rights o ≡ option_map rights p
 row_rights j x None None r = refl
@@ -369,7 +370,7 @@ ends_asked out a free given act refuse go p q =
 
 -- Whole commands.
 
-own_kept : (own : Option ℕ) (w v : Live) (a : Actor) → ties v.board.connections ≡ ties w.board.connections → Own own w a → Own own v a
+pub own_kept : (own : Option ℕ) (w v : Live) (a : Actor) → ties v.board.connections ≡ ties w.board.connections → Own own w a → Own own v a
 own_kept None w v a e c = tt
 own_kept (Some d) w v a e c = player_kept d w.board.connections v.board.connections e ∙ c
 
@@ -399,37 +400,12 @@ whole_ends out a own free given f p = whole_by f (λ w c h.
 pub whole_quiet : (a : Actor) (own : Option ℕ) (free : List Entry → Freedom) (given : Live → Type 0) (f : Change) → Quiet f → Whole itself a own free given f
 whole_quiet a own free given f q = whole_ends itself a own free given f (λ w h. ends_quiet a (free w.objects) None f q)
 
--- what only shows comes first, after which nothing is given
-pub whole_followed : {Y : Type 0} (out : Y → Live) (a : Actor) (own : Option ℕ) (free : List Entry → Freedom) (given : Live → Type 0) (f : Change) (g : Live → Y) → Quiet f → Whole out a own free Always g → Whole out a own free given (followed f g)
-whole_followed out a own free given f g q p = keeps_after f g (λ w v y s t. record { law = λ c h. after w v (out y) s (t.law (own_kept own w v a s.ties c) tt) }) q p
-  where
-    after : (w v u : Live) → Shows w v → Proper a (free v.objects) v u → Proper a (free w.objects) w u
-    after w v u s p =
-        let P : List Entry → Type 0 = λ os. Proper a (free os) (record { objects = os; board = v.board }) u in
-        let q = subst P s.objects p in
-        let l = q.licensed in
-        record {
-          licensed = record {
-            gone = l.gone;
-            recycled = l.recycled;
-            vanished = l.vanished;
-            objects = l.objects;
-            no_fewer = l.no_fewer;
-            marked = l.marked;
-            lists = l.lists;
-            connections = ties_both a _ _ _ (ties_same a w.board.connections v.board.connections s.ties) l.connections;
-            tune = open_both (λ tune. is_master a) _ _ _ (inl s.tune) l.tune;
-          };
-          marks = q.marks;
-          goes = join (one (shows w v refl s)) p.goes;
-          tune = p.tune ∙ s.tune;
-        }
+-- What isn't judged may come behind what is licensed, and before it.
 
--- and what only shows may come last
-pub licensed_as : (a : Actor) (free : Freedom) (w u v : Live) → Licensed a free w u → Shows u v → Licensed a free w v
-licensed_as a free w u v l s =
+pub licensed_as : (a : Actor) (free : Freedom) (w u v : Live) → Licensed a free w u → Readies u v → Licensed a free w v
+licensed_as a free w u v l r =
     let P : List Entry → Type 0 = λ os. Licensed a free w (record { objects = os; board = u.board }) in
-    let q = subst P (sym s.objects) l in
+    let q = subst P (sym r.objects) l in
     record {
       gone = q.gone;
       recycled = q.recycled;
@@ -438,16 +414,44 @@ licensed_as a free w u v l s =
       no_fewer = q.no_fewer;
       marked = q.marked;
       lists = q.lists;
-      connections = ties_both a _ _ _ l.connections (ties_same a u.board.connections v.board.connections s.ties);
-      tune = open_both (λ tune. is_master a) _ _ _ l.tune (inl s.tune);
+      connections = ties_both a _ _ _ l.connections (ties_same a u.board.connections v.board.connections r.ties);
+      tune = open_both (λ tune. is_master a) _ _ _ l.tune (inl r.tune);
     }
 
+pub licensed_from : (a : Actor) (free : Freedom) (w u v : Live) → Readies w u → Licensed a free u v → Licensed a free w v
+licensed_from a free w u v r l =
+    let P : List Entry → Type 0 = λ os. Licensed a free (record { objects = os; board = u.board }) v in
+    let q = subst P r.objects l in
+    record {
+      gone = q.gone;
+      recycled = q.recycled;
+      vanished = q.vanished;
+      objects = q.objects;
+      no_fewer = q.no_fewer;
+      marked = q.marked;
+      lists = q.lists;
+      connections = ties_both a _ _ _ (ties_same a w.board.connections u.board.connections r.ties) l.connections;
+      tune = open_both (λ tune. is_master a) _ _ _ (inl r.tune) l.tune;
+    }
+
+-- what only shows comes first, after which nothing is given
+pub whole_followed : {Y : Type 0} (out : Y → Live) (a : Actor) (own : Option ℕ) (free : List Entry → Freedom) (given : Live → Type 0) (f : Change) (g : Live → Y) → Quiet f → Whole out a own free Always g → Whole out a own free given (followed f g)
+whole_followed out a own free given f g q p = keeps_after f g (λ w v y s t. record { law = λ c h. after w v (out y) s (t.law (own_kept own w v a (readies w v s).ties c) tt) }) q p
+  where
+    after : (w v u : Live) → Shows w v → Proper a (free v.objects) v u → Proper a (free w.objects) w u
+    after w v u s p =
+        let P : List Entry → Type 0 = λ os. Proper a (free os) (record { objects = os; board = v.board }) u in
+        let q = subst P s.objects p in
+        let x : Live = record { objects = w.objects; board = v.board } in
+        record { licensed = licensed_from a (free w.objects) w x u (record { objects = refl; ties = (readies w v s).ties; tune = s.tune }) q.licensed; marks = q.marks; goes = join (one (shows w v refl s)) p.goes; tune = p.tune ∙ s.tune }
+
+-- and what only shows may come last
 pub whole_quietly : (a : Actor) (own : Option ℕ) (free : List Entry → Freedom) (given : Live → Type 0) (f g : Change) → Whole itself a own free given f → Quiet g → Whole itself a own free given (followed f g)
 whole_quietly a own free given f g p q = keeps_after f g (λ w v u s t. record {
   law = λ c h.
       let p = s.law c h in
       let M : List Entry → Type 0 = λ os. SameMarks (judge a (free w.objects) w.objects) w.objects os in
-      record { licensed = licensed_as a (free w.objects) w v u p.licensed t; marks = subst M (sym t.objects) p.marks; goes = join p.goes (one (shows v u refl t)); tune = t.tune ∙ p.tune };
+      record { licensed = licensed_as a (free w.objects) w v u p.licensed (readies v u t); marks = subst M (sym t.objects) p.marks; goes = join p.goes (one (shows v u refl t)); tune = t.tune ∙ p.tune };
 }) p q
 
 -- with what was read
