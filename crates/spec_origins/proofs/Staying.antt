@@ -88,12 +88,11 @@ use Rattle.spec_origins.specs.Origins.{Comes, StartedIn, LostIn, no_process}
 use Rattle.spec_origins.specs.Seats.{Seated, AllSeated}
 use Rattle.spec_origins.specs.There.{IsThere, StaysThere}
 use Rattle.spec_origins.proofs.Going.{each_among, goes_woken, from_itself, holds_begun}
-use Rattle.spec_origins.proofs.Keepers.{plays_typed, sits_login, sits_edited}
 use Rattle.spec_origins.proofs.Lines.{kept_left, objects_up, objects_after, queue_after}
 use Rattle.spec_origins.proofs.Named.{Stands, Names, Naming, names_or, names_played, so_there}
 use Rattle.spec_origins.proofs.Seated.{DeedMild, done_mild, none_own, seat_turn, launched_sits, after_sits}
 use Rattle.spec_origins.proofs.Seating.{editor_in, kept_sits}
-use Rattle.spec_origins.proofs.Seats.{sits_tell, sits_leave}
+use Rattle.spec_origins.proofs.Seats.{sits_tell, sits_leave, plays_typed, sits_login, sits_edited}
 use Rattle.spec_origins.proofs.There.{NoneGoes, none_same, none_resaved, none_notes, FromThere, Held, held_more, trigger_as, triggers_come, Editors, editor_as, editors_sit, editors_put, none_settled, settled_held, held_settled}
 use Rattle.spec_origins.proofs.Units.{turn_holds}
 use Rattle.spec_origins.proofs.Waiting.{waits_editor, seated_as, all_seated_booted}
