@@ -4,7 +4,7 @@ use Rattle.spec_live.proofs.Keeping.{stays, one, join, keeps_followed}
 use Rattle.spec_live.proofs.Steps.{Walk}
 use Rattle.spec_live.proofs.Walks.{walk_told}
 use Rattle.spec_live.proofs.Lives.{Loose, loose_order, Goes, board, hears, leaves_one, tunes, goes_objects}
-use Rattle.std.specs.Prelude.{map, find, ◌==◌}
+use Rattle.std.specs.Prelude.{find, ◌==◌}
 use Rattle.std.specs.Option.{option_and_then}
 use Rattle.std.proofs.lemmas.Option.{none-some}
 use Rattle.muck_model.specs.declared.dbref.Dbref.{Dbref}

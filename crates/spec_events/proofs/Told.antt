@@ -1,8 +1,7 @@
 -- What is to be told of objects is no part of what a licence speaks of.
-use Rattle.std.proofs.Common.{◌≡◌, ℕ, Bool, true, false, List, [], refl, sym, ◌∙◌, ap, subst, Option, Some, None, inl}
-use Rattle.std.specs.Prelude.{map, slice_get, if◌then◌else◌}
+use Rattle.std.proofs.Common.{◌≡◌, ℕ, Bool, true, false, List, [], refl, sym, ◌∙◌, ap, subst, Option, Some, None}
+use Rattle.std.specs.Prelude.{map, if◌then◌else◌}
 use Rattle.std.specs.Option.{option_map, option_map_or, option_and_then}
-use Rattle.std.proofs.lemmas.Option.{slice_get-map}
 use Rattle.muck_model.specs.declared.dbref.Dbref.{Dbref}
 use Rattle.muck_model.specs.declared.dbref.Kind.TheVariants.{Garbage}
 use Rattle.spec_live.specs.declared.object.Object.{Object}
@@ -10,8 +9,7 @@ use Rattle.spec_live.specs.Objects.{Entry, dbref_of, index_of, is_garbage, list_
 use Rattle.spec_live.specs.Marks.{unmarked}
 use Rattle.spec_live.specs.Lives.{Live, on_objects}
 use Rattle.spec_rights.specs.declared.act.Actor.{Actor}
-use Rattle.spec_rights.specs.Verdict.{is_master}
-use Rattle.spec_rights.specs.Licence.{Freedom, SameLists, Reordered, front_open, Licensed, Differs}
+use Rattle.spec_rights.specs.Licence.{Freedom, Reordered, front_open, Licensed, Differs}
 use Rattle.spec_live.proofs.Lists.{read_mapped}
 use Rattle.spec_live.proofs.Steps.{Walk}
 use Rattle.spec_live.proofs.Walks.{walk_told}

@@ -1,5 +1,5 @@
 -- A line of a player: what it leaves to the keepers, who alone retune the world, and that what it does is open to who types it.
-use Rattle.std.proofs.Common.{◌≡◌, ℕ, true, List, subst, Option, Some, None}
+use Rattle.std.proofs.Common.{◌≡◌, ℕ, true, List, subst, Option, None}
 use Rattle.muck_model.specs.declared.tune.Tune.{Tune}
 use Rattle.spec_live.specs.Lives.{Live}
 use Rattle.spec_live.proofs.Keeping.{Keeps, keeps_more}

@@ -8,7 +8,7 @@ use Rattle.spec_live.specs.Saving.{Marked}
 use Rattle.spec_live.specs.Output.{no_output}
 use Rattle.spec_live.specs.Connections.{Connection, has_number, changed_in, left_where}
 use Rattle.spec_live.specs.Boards.{Board, on_connections, opened, closed, leaving_one, seated_one, tuned}
-use Rattle.spec_live.specs.Lives.{Live, Change, on_objects, unchanged}
+use Rattle.spec_live.specs.Lives.{Live, Change, unchanged}
 use Rattle.spec_live.proofs.Keeping.{Keeps, Order, Path, one, goes, stays, along, path_order, keeps_more, keeps_unchanged}
 use Rattle.spec_live.proofs.Steps.{Name, Begun, Shown, Heard, Came, Leaving, Seated, Tuned, May, Touch, sets, lines, makes, unties, vanishes, lists, dues, tells, resaves, begins, Touches, Part, each, at, grows, Step, parts, settles, Walk}
 use Rattle.spec_live.proofs.Entries.{NoFewer, fewer_order, fewer_walk}
@@ -108,9 +108,6 @@ pub data LiveStep (may : May) : Live → Live → Type 0 where
 abbrev pub Goes : May → Live → Live → Type 0
 Goes may = Path (LiveStep may)
 
-abbrev pub Walks : May → Change → Type 0
-Walks may f = Keeps (Goes may) f
-
 pub goes_order : (may : May) → Order (Goes may)
 goes_order may = path_order (LiveStep may)
 
@@ -120,9 +117,6 @@ goes_objects may w es p = lifted w.objects es p
     lifted : (fs gs : List Entry) → Walk may fs gs → Goes may (record w { objects = fs }) (record w { objects = gs })
     lifted _ _ stays = stays
     lifted _ _ (goes {u} {v} {w = x} s p) = goes (objects v (record w { objects = u }) s) (lifted v x p)
-
-pub walks_objects : (may : May) (f : List Entry → List Entry) → ((es : List Entry) → Walk may es (f es)) → Walks may (on_objects f)
-walks_objects may f p = record { law = λ w. goes_objects may w (f w.objects) (p w.objects) }
 
 -- a fact of the objects, along a path
 abbrev OfObjects : (List Entry → List Entry → Type 0) → Live → Live → Type 0

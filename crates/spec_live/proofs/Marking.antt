@@ -12,7 +12,7 @@ use Rattle.spec_live.specs.Recycling.{without_ties, is_tied, gone_entry}
 use Rattle.spec_live.proofs.Keeping.{Order, along}
 use Rattle.spec_live.proofs.Savings.{object_relinked, saving_relinked}
 use Rattle.spec_live.proofs.Dues.{links_alike, links_relinked, same_equal}
-use Rattle.spec_live.proofs.Steps.{Begun, May, Touch, unties, vanishes, lists, dues, tells, resaves, begins, Step, parts, settles, Walk}
+use Rattle.spec_live.proofs.Steps.{Begun, May, Touch, unties, vanishes, lists, tells, resaves, begins, Step, parts, settles, Walk}
 use Rattle.spec_live.proofs.Entries.{seen, Each, Holds, each_parts}
 
 pub marked_itself : (es : List Entry) → Marked es es

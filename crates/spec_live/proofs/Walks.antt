@@ -1,11 +1,11 @@
 -- Each change of the objects is a path of steps.
-use Rattle.std.proofs.Common.{◌≡◌, ℕ, List, [], ◌∷◌, ◌++◌, Option, Some, None, length, refl, sym, ◌∙◌, ap, eqb, Bool, true, false, cond, map}
+use Rattle.std.proofs.Common.{◌≡◌, ℕ, List, [], ◌∷◌, ◌++◌, Some, length, refl, sym, ◌∙◌, eqb, Bool, true, false, cond, map}
 use Rattle.std.specs.List.{slice_get}
 use Rattle.muck_model.specs.declared.dbref.Dbref.{Dbref}
 use Rattle.muck_model.specs.declared.dbref.Kind.{Kind}
 use Rattle.muck_model.specs.declared.dbref.Kind.TheVariants.{Garbage}
 use Rattle.spec_live.specs.declared.saving.Saving.{Saving}
-use Rattle.spec_live.specs.declared.saving.Saving.TheVariants.{Done, Pending, Due}
+use Rattle.spec_live.specs.declared.saving.Saving.TheVariants.{Due}
 use Rattle.spec_live.specs.Chain.{without}
 use Rattle.spec_live.specs.Objects.{Entry, is_exit, kind_in, object_in, list_in, changed_at, on_object, with_object}
 use Rattle.spec_live.specs.Saving.{is_due, on_saving, all_saving, done, due_again, pending}
@@ -15,8 +15,8 @@ use Rattle.spec_live.specs.Setting.{set_at, with_lines, lines_set}
 use Rattle.spec_live.specs.Recycling.{untie, untied, way_home, sent_home, gone_entry, is_exit_of, exit_gone, without_exits, exits_gone, vanished, taken_away, recycled}
 use Rattle.spec_live.specs.Marks.{unmarked}
 use Rattle.spec_live.proofs.CreationLaws.{grown_kind}
-use Rattle.spec_live.proofs.Keeping.{Path, stays, goes, one, join}
-use Rattle.spec_live.proofs.Steps.{Begun, Place, Lines, Made, Gone, Lists, Told, Stored, May, Field, placed, name_of, field_set, sets, lines, makes, unties, vanishes, lists, dues, tells, resaves, begins, Touches, Part, each, at, grows, Step, parts, settles, Walk}
+use Rattle.spec_live.proofs.Keeping.{stays, goes, one, join}
+use Rattle.spec_live.proofs.Steps.{Begun, Place, Lines, Made, Gone, Lists, Told, Stored, May, Field, placed, name_of, field_set, sets, lines, makes, unties, vanishes, lists, dues, tells, resaves, begins, Touches, each, at, grows, parts, settles, Walk}
 
 -- it writes no list
 pub walk_at : (may : May) (n : ℕ) (f : Entry → Entry) (es : List Entry) → ((e : Entry) → slice_get es n ≡ Some e → Touches may false e (f e)) → Walk may es (changed_at n f es)

@@ -1,5 +1,5 @@
 -- What changes neither the lines that wait on a connection nor its editor: whatever acts.
-use Rattle.std.proofs.Common.{◌≡◌, ℕ, List, refl, ◌∙◌, ap, Option, Some, None}
+use Rattle.std.proofs.Common.{◌≡◌, ℕ, List, refl, ◌∙◌, Option, None}
 use Rattle.std.specs.Prelude.{map}
 use Rattle.std.proofs.lemmas.Bool.{false≢true}
 use Rattle.muck_model.specs.declared.dbref.Dbref.{Dbref}
@@ -8,7 +8,7 @@ use Rattle.muck_model.specs.declared.edit.EditState.{EditState}
 use Rattle.spec_live.specs.Connections.{Connection, left, seated}
 use Rattle.spec_live.specs.Boards.{Board, on_connection, leaving_one, seated_one}
 use Rattle.spec_live.specs.Lives.{Live, Change, on_board, tell, tell_player, leave, draw}
-use Rattle.spec_live.proofs.Keeping.{Keeps, Order, one, along, keeps_more}
+use Rattle.spec_live.proofs.Keeping.{Keeps, Order, along, keeps_more}
 use Rattle.spec_live.proofs.Lives.{viewed_one, viewed_where, viewed_again, mute, Quiet, BoardStep, opens, closes, leaves_one, leaves, seats as takes, tunes, LiveStep, objects, board, shows, hears, Goes}
 use Rattle.spec_rights.specs.declared.act.Actor.{Actor}
 use Rattle.spec_rights.specs.Asking.{refused}

@@ -1,5 +1,5 @@
 -- When what a row changes is open to who acts, and what is to be told of it.
-use Rattle.std.proofs.Common.{◌≡◌, ℕ, List, Option, Some, None, inl}
+use Rattle.std.proofs.Common.{◌≡◌, ℕ, List, Option, Some, None}
 use Rattle.spec_live.specs.Objects.{Entry}
 use Rattle.spec_live.specs.Lives.{Live, unchanged}
 use Rattle.spec_rights.specs.declared.act.Actor.{Actor}

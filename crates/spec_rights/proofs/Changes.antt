@@ -15,15 +15,15 @@ use Rattle.muck_prop.specs.Store.{PropMap, is_nothing, stored as put}
 use Rattle.muck_prop.proofs.Maps.{path_cmp_same}
 use Rattle.spec_live.specs.declared.object.Object.{Object}
 use Rattle.spec_live.specs.Flags.{has_flag, with_flag, without_flag, wizard}
-use Rattle.spec_live.specs.Objects.{Entry, dbref_of, object_in, list_in, mark_in, number_in, object_at, changed_at, on_object}
-use Rattle.spec_live.specs.Setting.{set_at, with_name, with_owner, with_link, with_flags, with_level, with_lines, lines_set, with_password, with_prop, without_prop}
+use Rattle.spec_live.specs.Objects.{Entry, dbref_of, object_in, list_in, mark_in, number_in, object_at, changed_at}
+use Rattle.spec_live.specs.Setting.{set_at, with_name, with_owner, with_link, with_flags, with_level, with_lines, lines_set, with_password}
 use Rattle.spec_live.specs.Boards.{Board}
 use Rattle.spec_live.specs.Lives.{Live}
 use Rattle.spec_live.proofs.Lists.{get_changed_same}
 use Rattle.spec_live.proofs.Steps as field
 use Rattle.spec_live.proofs.Steps.{Field, kept, owned, flagged, password, field_set}
 use Rattle.spec_live.proofs.Lives.{Goes}
-use Rattle.spec_live.proofs.Readers.{object_changed, object_unchanged, object_elsewhere, list_change, list_changed, mark_changed, mark_elsewhere}
+use Rattle.spec_live.proofs.Readers.{object_changed, object_unchanged, object_elsewhere, list_change, list_changed, mark_elsewhere}
 use Rattle.spec_rights.specs.declared.act.Actor.{Actor}
 use Rattle.spec_rights.specs.declared.act.Act.TheVariants.{Write, Link, Edit, Change, Rename, Password, SetFlag, SetLevel, SetOwner}
 use Rattle.spec_rights.specs.Verdict.{is_master, controls, is_guarded}
@@ -33,7 +33,7 @@ use Rattle.spec_rights.proofs.Lookups.{Row, row_same, rows_changed, number_is}
 use Rattle.spec_rights.proofs.Listing.{lists_alike, lists_itself}
 use Rattle.spec_rights.proofs.Walking.{acts, silent, same_marks, silent_acts, field_silent, goes_set, goes_lines}
 use Rattle.spec_rights.proofs.Bits.{wizard_stays_set, wizard_stays_cleared}
-use Rattle.spec_rights.proofs.Licences.{judge, changed_same, SameMarks, TellsLines, mark_open, Kept, kept_same, Stay, End, Stays, Ends, itself, ties_itself, ends_by, stays_by}
+use Rattle.spec_rights.proofs.Licences.{judge, changed_same, SameMarks, mark_open, Kept, kept_same, Stay, End, Stays, Ends, itself, ties_itself, ends_by, stays_by}
 use Rattle.spec_rights.proofs.Allowed.{rename_allowed, write_allowed, change_allowed, link_allowed, flag_allowed, level_allowed, owner_allowed, edit_allowed, password_allowed}
 
 -- Where f is done to one object, R holds of all.

@@ -1,6 +1,6 @@
 -- What keeps to the licence: one lemma for each way to put changes together.
-use Rattle.std.proofs.Common.{◌≡◌, ℕ, Bool, true, false, List, [], ◌∷◌, refl, sym, ◌∙◌, ap, subst, Option, Some, None, inl, inr, cond, arith}
-use Rattle.std.specs.Prelude.{◌≤◌, length, map, find, ◌||◌, ◌&&◌, ◌==◌}
+use Rattle.std.proofs.Common.{◌≡◌, ℕ, Bool, true, false, List, [], ◌∷◌, refl, sym, ◌∙◌, ap, subst, Option, Some, None, inl, inr, cond}
+use Rattle.std.specs.Prelude.{find, ◌||◌, ◌&&◌, ◌==◌}
 use Rattle.std.specs.FinMap.{get}
 use Rattle.std.specs.Option.{option_map, option_and_then, option_map_or}
 use Rattle.muck_model.specs.declared.dbref.Dbref.{Dbref}
@@ -18,7 +18,7 @@ use Rattle.spec_live.proofs.Lives.{Goes, shows, fewer_along, marked_along}
 use Rattle.spec_rights.specs.declared.act.Actor.{Actor}
 use Rattle.spec_rights.specs.declared.act.Act.{Act}
 use Rattle.spec_rights.specs.Verdict.{is_master, verdict}
-use Rattle.spec_rights.specs.Licence.{Freedom, Open, Judge, owned, name_open, property_open, place_open, link_open, home_open, level_open, lines_open, owner_open, Changed, Differs, SameLists, leave_open, SameTies, may_recycle, Licensed}
+use Rattle.spec_rights.specs.Licence.{Freedom, Open, Judge, owned, name_open, property_open, place_open, link_open, home_open, level_open, lines_open, owner_open, Changed, Differs, SameLists, leave_open, SameTies, Licensed}
 use Rattle.spec_rights.specs.Asking.{answered, asked}
 use Rattle.spec_rights.proofs.Lookups.{Row, row_same, row_both}
 use Rattle.spec_rights.proofs.Listing.{lists_itself, lists_both}
@@ -96,9 +96,6 @@ mark_open j x old new (Some o) m = m
 
 marks_open : (j : Judge) (es fs : List Entry) → TellsLines j es fs → SameMarks j es fs
 marks_open j es fs m n = mark_open j (dbref_of n) _ _ (object_at (dbref_of n) fs) (m n)
-
-pub marks_itself : (j : Judge) (es : List Entry) → SameMarks j es es
-marks_itself j es = marks_open j es es (λ n. inl refl)
 
 marks_both : (j : Judge) (es fs gs : List Entry) → TellsLines j es fs → SameMarks j fs gs → SameMarks j es gs
 marks_both j es fs gs m k n = at (object_at (dbref_of n) gs) (k n)

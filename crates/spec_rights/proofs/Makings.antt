@@ -1,7 +1,7 @@
 -- What is made keeps to the licence.
-use Rattle.std.proofs.Common.{◌≡◌, ℕ, ◌==◌, suc, Bool, true, false, cond, List, [], ◌∷◌, ◌++◌, length, length-append, refl, sym, ◌∙◌, ap, subst, Option, Some, None, inl, inr, arith}
+use Rattle.std.proofs.Common.{◌≡◌, ℕ, ◌==◌, suc, Bool, true, false, cond, List, [], ◌∷◌, ◌++◌, length, refl, sym, ◌∙◌, ap, subst, Option, Some, None, inl, inr, arith}
 use Rattle.muck_model.proofs.Dbrefs.{same_eq}
-use Rattle.std.specs.Prelude.{◌≤◌, ◌⊎◌, Ok, Err, nat_lt, slice_get, min, nat_le, ◌||◌, ◌&&◌, is_some}
+use Rattle.std.specs.Prelude.{Ok, Err, nat_lt, slice_get, min, nat_le, ◌||◌, ◌&&◌}
 use Rattle.std.specs.Option.{option_map, option_and_then, option_map_or}
 use Rattle.std.proofs.lemmas.Bool.{cases_eq, or_right}
 use Rattle.std.proofs.lemmas.Bool.Decides.{nat_tests}
@@ -10,7 +10,7 @@ use Rattle.muck_model.specs.declared.dbref.Kind.{Kind}
 use Rattle.muck_model.specs.declared.dbref.Kind.TheVariants.{Room, Thing, Exit, Player, Program, Garbage}
 use Rattle.spec_live.specs.declared.object.Object.{Object}
 use Rattle.spec_live.specs.Flags.{builder, jump, link}
-use Rattle.spec_live.specs.Objects.{Entry, dbref_of, nothing, home, same, is_garbage, object_in, list_in, mark_in, kind_in, number_in, object_at, changed_at, on_object, with_object, garbage}
+use Rattle.spec_live.specs.Objects.{Entry, dbref_of, nothing, home, same, is_garbage, object_in, list_in, kind_in, number_in, object_at, changed_at, on_object, with_object, garbage}
 use Rattle.spec_live.specs.Moving.{moved, with_place}
 use Rattle.spec_live.specs.Making.{free_in, blank_entry, grown, new_object, created, may_make, make_judged, objects_most, owner_judged, create_check}
 use Rattle.spec_live.specs.declared.fault.DbFault.TheVariants.{NoSuchObject, WrongKind, WorldFull}
@@ -21,7 +21,7 @@ use Rattle.spec_live.proofs.Steps.{Touches}
 use Rattle.spec_live.proofs.Walks.{walk_at, walk_created}
 use Rattle.spec_live.proofs.Lives.{goes_objects}
 use Rattle.spec_live.proofs.Lists.{get_changed_same, read_more}
-use Rattle.spec_live.proofs.Readers.{object_changed, object_unchanged, object_elsewhere, object_moved, object_unmoved, list_changed, list_named, mark_changed, mark_named, mark_moved}
+use Rattle.spec_live.proofs.Readers.{object_changed, object_unchanged, object_elsewhere, object_moved, object_unmoved, list_changed, list_named}
 use Rattle.spec_live.proofs.CreationLaws.{list_more, free_garbage}
 use Rattle.spec_rights.specs.declared.act.Actor.{Actor}
 use Rattle.spec_rights.specs.declared.act.Act.TheVariants.{NewRoom, NewThing, NewExit, NewProgram, Wizard}
@@ -33,7 +33,7 @@ use Rattle.spec_rights.proofs.Lookups.{alive, seen_at, number_is}
 use Rattle.spec_rights.proofs.Listing.{reordered_moved}
 use Rattle.spec_rights.proofs.Walking.{silent}
 use Rattle.spec_rights.proofs.Rights.{SameRights, same_level}
-use Rattle.spec_rights.proofs.Licences.{judge, changed_same, mark_open, End}
+use Rattle.spec_rights.proofs.Licences.{judge, changed_same, End}
 use Rattle.spec_rights.proofs.Allowed.{room_allowed, thing_allowed, exit_allowed, program_allowed, wizard_allowed}
 use Rattle.spec_rights.proofs.Changes.{end_objects}
 

@@ -4,12 +4,12 @@ use Rattle.std.proofs.lemmas.Bool.{or_left}
 use Rattle.std.specs.Option.{option_map_or}
 use Rattle.muck_model.specs.declared.dbref.Dbref.{Dbref}
 use Rattle.spec_live.specs.declared.object.Object.{Object}
-use Rattle.spec_live.specs.Objects.{Entry, dbref_of, nothing, home, same, mark_in, number_in, object_at}
+use Rattle.spec_live.specs.Objects.{Entry, dbref_of, nothing, home, same, number_in, object_at}
 use Rattle.spec_live.specs.Setting.{with_home}
 use Rattle.spec_live.specs.Moving.{moved, with_place}
 use Rattle.spec_live.specs.Lives.{Live}
 use Rattle.spec_live.proofs.Steps as field
-use Rattle.spec_live.proofs.Readers.{object_moved, object_unmoved, mark_moved}
+use Rattle.spec_live.proofs.Readers.{object_moved, object_unmoved}
 use Rattle.spec_rights.specs.declared.act.Actor.{Actor}
 use Rattle.spec_rights.specs.declared.act.Act.{Act}
 use Rattle.spec_rights.specs.declared.act.Act.TheVariants.{Move, Link}

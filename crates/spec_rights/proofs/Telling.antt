@@ -45,7 +45,7 @@ never_both false h k = absurd cc
 
 -- One entry.
 
-abbrev lives : Entry → Bool
+abbrev pub lives : Entry → Bool
 lives e = not (is_garbage e.object.kind)
 
 abbrev source_of : Entry → List (List ℕ)
@@ -102,7 +102,7 @@ source_read es n = ap (λ (q : Option Object). option_map_or (λ (o : Object). o
     by_cases None = refl
     by_cases (Some e) = elim (is_garbage e.object.kind) as (λ b. option_map_or (λ (o : Object). o.lines) (cond b None (Some e.object)) [] ≡ cond (not b) e.object.lines []) [ true ↦ refl | false ↦ refl ]
 
-there_read : (es : List Entry) (n : ℕ) → is_there es n ≡ lives (seen (slice_get es n))
+pub there_read : (es : List Entry) (n : ℕ) → is_there es n ≡ lives (seen (slice_get es n))
 unfolding object_in blank_entry garbage
 there_read es n = ap is_some (seen_at es n) ∙ by_cases (slice_get es n)
   where

@@ -1,5 +1,5 @@
 -- Each change by leave is a path of steps.
-use Rattle.std.proofs.Common.{◌≡◌, ℕ, List, Option, Some, None, Bool, true, false, refl, ◌∙◌}
+use Rattle.std.proofs.Common.{◌≡◌, ℕ, List, Option, Some, None, true, false, refl, ◌∙◌}
 use Rattle.std.specs.Option.{option_map_or}
 use Rattle.muck_model.specs.declared.dbref.Dbref.{Dbref}
 use Rattle.spec_live.specs.Objects.{Entry, mark_in, number_in, on_object}
