@@ -69,7 +69,7 @@ lively_acts w v p = wider acts lively up w v p
   where
     up : (name : Name) → acts name ≡ true → lively name ≡ true
     up Begun h = h
-    up name h = refl
+    up _ h = refl
 
 pub quietly_readies : (w v : World) → Quietly w v → Readies w.live v.live
 quietly_readies w v q = record { objects = q.objects; ties = q.ties; tune = q.tune }

@@ -37,7 +37,7 @@ every_lively b w v p = wider lively (every b) up w v p
   where
     up : (name : Name) → lively name ≡ true → every b name ≡ true
     up Begun h = absurd (false≢true h)
-    up name h = refl
+    up _ h = refl
 
 gone_goes : (b : Bool) (d : ℕ) (w : Live) → Goes (every b) w (gone_away d w)
 unfolding gone_away reading followed

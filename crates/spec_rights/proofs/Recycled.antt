@@ -24,7 +24,7 @@ use Rattle.spec_live.specs.Lives.{Live}
 use Rattle.spec_live.specs.Seen.{listed_in}
 use Rattle.spec_live.proofs.Lists.{get_changed_same}
 use Rattle.spec_live.proofs.Readers.{object_elsewhere, object_left, object_moved, object_unmoved, kind_is}
-use Rattle.spec_live.proofs.Steps.{May, Gone, Place, Lists, kept, sets, lines, makes, vanishes, tells}
+use Rattle.spec_live.proofs.Steps.{May, Gone, Place, Lists, kept, sets, lines, makes, vanishes, tells as unmarks}
 use Rattle.spec_live.proofs.Walks.{walk_recycled}
 use Rattle.spec_live.proofs.Entries.{Holds, each_walk, mark_read}
 use Rattle.spec_live.proofs.Lives.{Goes, goes_objects, fewer_along, marked_along}
@@ -403,7 +403,7 @@ unfolding gone_entry garbage
 silent_touch _ _ _ (vanishes e h l) = (inr refl, λ k. refl)
 silent_touch _ _ _ (lines ls e h) = absurd (false≢true h)
 silent_touch _ _ _ (makes o e h g l) = absurd (false≢true h)
-silent_touch _ _ _ (tells e h) = absurd (false≢true h)
+silent_touch _ _ _ (unmarks e h) = absurd (false≢true h)
 silent_touch _ _ _ (sets kept e h) = absurd (false≢true h)
 silent_touch _ _ _ touch = (inl refl, λ k. k)
 

@@ -56,7 +56,7 @@ silent_acts w v p = wider silent acts up w v p
     up : (name : Name) → silent name ≡ true → acts name ≡ true
     up Lines h = refl
     up Gone h = refl
-    up name h = h
+    up _ h = h
 
 pub field_silent : (c : Field) → silent (name_of c) ≡ true
 field_silent kept = refl
