@@ -15,7 +15,7 @@ use Rattle.spec_rights.specs.declared.act.Act.TheVariants.{Start}
 use Rattle.spec_rights.specs.Verdict.{verdict}
 use Rattle.spec_rights.specs.Asking.{refused}
 use Rattle.spec_live.proofs.Steps.{Name, Begun, May}
-use Rattle.spec_live.proofs.Lives.{Readies, Loose, loose_quiet, Goes, wider}
+use Rattle.spec_live.proofs.Lives.{Shows, Readies, Loose, loose_quiet, Goes, wider}
 use Rattle.spec_rights.proofs.Walking.{acts}
 use Rattle.spec_rights.proofs.Licences.{Quiet, quiet_order, tie, ties}
 use Rattle.spec_rights.proofs.Shown.{quiet_tell, quiet_refused}
