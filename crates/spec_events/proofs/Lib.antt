@@ -27,6 +27,7 @@ pub mod Runs
 pub mod Logging
 pub mod Owning
 pub mod Turns
+mod Owners
 mod Knowing
 pub mod Passwords
 pub mod Claims
