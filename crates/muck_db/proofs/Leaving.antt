@@ -264,20 +264,20 @@ unfolding vanished exits_gone
 get_gone d es lt =
     let xs : List Entry = changed_at d without_exits (map (exit_gone d) es) in
     let s : (x : Entry) × (slice_get (map (left_out d) xs) d ≡ Some x) = some_at (map (left_out d) xs) d (omega (arith, lt, length_map (left_out d) xs, length_changed (map (exit_gone d) es) d without_exits, length_map (exit_gone d) es)) in
-    get_changed_same (map (left_out d) xs) d (λ e. gone_entry) ∙ ap (λ (o : Option Entry). option_map (λ (e : Entry). gone_entry) o) s.1
+    get_changed_same (map (left_out d) xs) d gone_entry ∙ ap (λ (o : Option Entry). option_map gone_entry o) s.1
 
 get_left : (d k : ℕ) (es : List Entry) → (k ≡ d → ⊥) → slice_get (vanished d (exits_gone d es)) k ≡ option_map (left_out d) (option_map (exit_gone d) (slice_get es k))
 unfolding vanished exits_gone
 get_left d k es ne =
     let xs : List Entry = changed_at d without_exits (map (exit_gone d) es) in
-    get_changed_other (map (left_out d) xs) d k (λ e. gone_entry) ne ∙ slice_get-map (left_out d) xs k
+    get_changed_other (map (left_out d) xs) d k gone_entry ne ∙ slice_get-map (left_out d) xs k
     ∙ ap (λ (o : Option Entry). option_map (left_out d) o) (get_changed_other (map (exit_gone d) es) d k without_exits ne ∙ slice_get-map (exit_gone d) es k)
 
 gone_is : (d : ℕ) (e : Entry) → is_exit_of d e.object ≡ true → exit_gone d e ≡ gone_entry
-gone_is d e h = ap (λ b. cond b gone_entry e) h
+gone_is d e h = ap (λ b. cond b (gone_entry e) e) h
 
 stays_is : (d : ℕ) (e : Entry) → is_exit_of d e.object ≡ false → exit_gone d e ≡ e
-stays_is d e h = ap (λ b. cond b gone_entry e) h
+stays_is d e h = ap (λ b. cond b (gone_entry e) e) h
 
 gone_object : (d : ℕ) (e : Entry) (b : Bool) → is_exit_of d e.object ≡ b → (exit_gone d e).object ≡ left_object d e.object
 unfolding left_object gone_entry
@@ -503,9 +503,9 @@ length_cleared d old mid lt e = omega (
 
 vanished_kind : (d : ℕ) (es : List Entry) → kind_in (vanished d es) d ≡ Garbage
 unfolding vanished kind_in object_in gone_entry garbage
-vanished_kind d es = rw (get_changed_same (map (left_out d) es) d (λ e. gone_entry)) (by_cases (slice_get (map (left_out d) es) d))
+vanished_kind d es = rw (get_changed_same (map (left_out d) es) d gone_entry) (by_cases (slice_get (map (left_out d) es) d))
   where
-    by_cases : (a : Option Entry) → option_map_or (λ (o : Object). o.kind) (option_map (λ (e : Entry). e.object) (option_map (λ e. gone_entry) a)) Garbage ≡ Garbage
+    by_cases : (a : Option Entry) → option_map_or (λ (o : Object). o.kind) (option_map (λ (e : Entry). e.object) (option_map gone_entry a)) Garbage ≡ Garbage
     by_cases None = refl
     by_cases (Some e) = refl
 

@@ -194,7 +194,7 @@ gone_fits = garbage_fits
 exit_fits : (d : ℕ) (e : Entry) → FitsLimits e.object → FitsLimits (exit_gone d e).object
 exit_fits d e h = by_cases (is_exit_of d e.object)
   where
-    by_cases : (b : Bool) → FitsLimits (cond b gone_entry e).object
+    by_cases : (b : Bool) → FitsLimits (cond b (gone_entry e) e).object
     by_cases true = gone_fits
     by_cases false = h
 
@@ -204,7 +204,7 @@ limits_exits_gone d es h = limits_at d without_exits (map (exit_gone d) es) (λ 
 
 limits_vanished : (d : ℕ) (es : List Entry) → IsWithinLimits es → IsWithinLimits (vanished d es)
 unfolding vanished
-limits_vanished d es h = limits_at d (λ e. gone_entry) (map (left_out d) es) (λ e l. gone_fits) (limits_map (left_out d) es (λ e l. l) h)
+limits_vanished d es h = limits_at d gone_entry (map (left_out d) es) (λ e l. gone_fits) (limits_map (left_out d) es (λ e l. l) h)
 
 pub limits_recycled : (d : ℕ) (es : List Entry) → IsWithinLimits es → IsWithinLimits (recycled d es)
 unfolding recycled taken_away

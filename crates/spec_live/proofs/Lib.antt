@@ -14,6 +14,7 @@ pub mod HomeLaws
 pub mod RecyclingLaws
 pub mod Dues
 pub mod Marking
+pub mod Tracing
 pub mod Resaved
 pub mod Standing
 pub mod EditorLaws

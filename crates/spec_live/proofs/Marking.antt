@@ -288,12 +288,12 @@ unfolding sent_home
 marked_sent [] es = marked_itself es
 marked_sent (x ∷ xs) es = let next : List Entry = moved x (way_home x es) es in marked_both es next (sent_home xs next) (marked_moved x (way_home x es) es) (marked_sent xs next)
 
-gone_due : gone_entry.saving ≡ Due
+gone_due : (e : Entry) → (gone_entry e).saving ≡ Due
 unfolding gone_entry
-gone_due = refl
+gone_due e = refl
 
-gone_by : (e : Entry) (b : Bool) → is_due (cond b gone_entry e).saving ≡ false → HasEntry e (cond b gone_entry e)
-gone_by e true early = entry_due e gone_entry gone_due early
+gone_by : (e : Entry) (b : Bool) → is_due (cond b (gone_entry e) e).saving ≡ false → HasEntry e (cond b (gone_entry e) e)
+gone_by e true early = entry_due e (gone_entry e) (gone_due e) early
 gone_by e false early = entry_same e e refl refl early
 
 fields_gone : (d : ℕ) (es : List Entry) → KeepsFields es (exits_gone d es)
@@ -306,7 +306,7 @@ fields_vanished : (d : ℕ) (es : List Entry) → KeepsFields es (vanished d es)
 unfolding vanished
 fields_vanished d es =
     let out : List Entry = map (left_out d) es in
-    fields_both es out (changed_at d (λ e. gone_entry) out) (fields_left d es) (fields_changed d (λ e. gone_entry) out (λ e. entry_due e gone_entry gone_due))
+    fields_both es out (changed_at d gone_entry out) (fields_left d es) (fields_changed d gone_entry out (λ e. entry_due e (gone_entry e) (gone_due e)))
 
 marked_taken : (d : ℕ) (es : List Entry) → Marked es (taken_away d es)
 unfolding taken_away

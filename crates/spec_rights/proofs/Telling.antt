@@ -154,7 +154,7 @@ tells_kept e g kind lines mark =
     by_cases false = lines
 
 -- one that is gone
-tells_gone : (e : Entry) → Tells (Some e) (Some gone_entry)
+tells_gone : (e : Entry) → Tells (Some e) (Some (gone_entry e))
 unfolding gone_entry
 tells_gone e = record { source = inr refl; stays = λ h. refl; gone = λ h k. refl; still = λ h. refl }
 
@@ -239,7 +239,7 @@ told_home (x ∷ xs) es = let next : List Entry = moved x (way_home x es) es in 
 exit_told : (d : ℕ) (e : Entry) → Tells (Some e) (Some (exit_gone d e))
 exit_told d e = by_cases (is_exit_of d e.object)
   where
-    by_cases : (b : Bool) → Tells (Some e) (Some (cond b gone_entry e))
+    by_cases : (b : Bool) → Tells (Some e) (Some (cond b (gone_entry e) e))
     by_cases true = tells_gone e
     by_cases false = tells_same (Some e)
 
@@ -253,7 +253,7 @@ told_vanished : (d : ℕ) (es : List Entry) → Told es (vanished d es)
 unfolding vanished
 told_vanished d es =
     let out : List Entry = map (left_out d) es in
-    told_both es out (changed_at d (λ e. gone_entry) out) (told_left d es) (told_changed d (λ e. gone_entry) out tells_gone)
+    told_both es out (changed_at d gone_entry out) (told_left d es) (told_changed d gone_entry out tells_gone)
 
 pub told_recycled : (d : ℕ) (es : List Entry) → Told es (recycled d es)
 unfolding recycled taken_away

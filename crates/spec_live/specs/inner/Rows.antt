@@ -32,7 +32,7 @@ abbrev pub with_seats : Object → Object
 with_seats o = record o { flags = record { 0 = vehicle } }
 
 abbrev pub holding : List ℕ → List ℕ → Object → Entry
-holding contents exits o = record { object = o; contents = contents; exits = exits; mark = None; saving = Done }
+holding contents exits o = record { object = o; contents = contents; exits = exits; mark = None; saving = Done; stood = None }
 
 abbrev pub link_in : List Entry → ℕ → Option Dbref
 link_in es k = option_map (λ o. o.link) (object_in es k)
@@ -75,7 +75,7 @@ abbrev pub bag_world : List Entry
 bag_world =
     holding (3 ∷ 1 ∷ []) [] room_zero ∷
     holding [] [] player_one ∷
-    gone_entry ∷
+    gone_entry (holding [] [] garbage) ∷
     holding (4 ∷ []) [] (made Thing (dbref_of 0) (dbref_of 0) nothing) ∷
     holding [] [] (made Thing (dbref_of 3) (dbref_of 0) nothing) ∷ []
 
