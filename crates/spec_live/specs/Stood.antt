@@ -1,9 +1,10 @@
 -- Where players stand, and where they stood when the event began.
-use Rattle.std.specs.Prelude.{◌≡◌, ℕ, if◌then◌else◌, List, map, Option, Some, None, slice_get}
+use Rattle.std.specs.Prelude.{◌≡◌, ℕ, suc, if◌then◌else◌, List, [], ◌∷◌, ◌++◌, map, Option, Some, None, slice_get}
 use Rattle.std.specs.Option.{option_and_then}
 use Rattle.muck_model.specs.declared.dbref.Dbref.{Dbref}
 use Rattle.spec_live.specs.declared.object.Object.{Object}
-use Rattle.spec_live.specs.Objects.{Entry, is_player, object_in}
+use Rattle.spec_live.specs.declared.moved.Move.{Move}
+use Rattle.spec_live.specs.Objects.{Entry, dbref_of, same, is_player, object_in}
 use Rattle.spec_live.specs.Saving.{Marked}
 
 -- where an object stands, where it is a player
@@ -17,6 +18,16 @@ stands_in es k = option_and_then standing (object_in es k)
 
 unfoldable pub stood_in : List Entry → ℕ → Option Dbref
 stood_in es k = option_and_then (λ e. e.stood) (slice_get es k)
+
+-- Who stands elsewhere than before, by rising number, where the first number is n. One that wasn't there as a player has left no place.
+
+abbrev pub move_of : ℕ → Option Dbref → Option Dbref → List Move
+move_of n (Some from) (Some to) = if same from to then [] else record { player = dbref_of n; from = from; to = to } ∷ []
+move_of n from to = []
+
+unfoldable pub moves_from : ℕ → List Entry → List Move
+moves_from n [] = []
+moves_from n (e ∷ es) = move_of n e.stood (standing e.object) ++ moves_from (suc n) es
 
 -- An event begins: where players stand is where they stood.
 
