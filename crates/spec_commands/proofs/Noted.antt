@@ -15,7 +15,7 @@ use Rattle.spec_live.specs.Lives.{Change, unchanged, tell, tell_others}
 use Rattle.spec_live.proofs.Keeping.{Keeps, keeping, keeps_followed, keeps_reading, keeps_unchanged}
 use Rattle.spec_rights.specs.declared.act.Actor.{Actor}
 use Rattle.spec_mpi.specs.Messages.{heard, variables_of, shown, spoken as said_of}
-use Rattle.spec_live.proofs.Marking.{marked_itself}
+use Rattle.spec_live.proofs.Tracing.{traced_itself}
 use Rattle.spec_mpi.specs.Touching.{without_props, without_output, TouchesNotes}
 use Rattle.spec_mpi.proofs.Leave.{heard_touches}
 use Rattle.spec_mpi.proofs.Deeds.{touching_order, touching_others}
@@ -41,7 +41,7 @@ notes_unchanged = keeps_unchanged touching_order
 
 notes_tell : (d : ℕ) (text : List ℕ) → Notes (tell d text)
 unfolding tell told_one
-notes_tell d text = record { law = λ w. record { objects = refl; marked = marked_itself w.objects; connections = mute-changed_in d text w.board.connections; tune = refl } }
+notes_tell d text = record { law = λ w. record { objects = refl; traced = traced_itself w.objects; connections = mute-changed_in d text w.board.connections; tune = refl } }
 
 notes_tell_others : (room but : Dbref) (text : List ℕ) → Notes (tell_others room but text)
 notes_tell_others room but text = record { law = touching_others room but text }

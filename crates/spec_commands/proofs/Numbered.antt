@@ -3,8 +3,8 @@ use Rattle.std.proofs.Common.{◌≡◌, ℕ, ◌<◌, Bool, true, false, cond, 
 use Rattle.std.specs.Prelude.{map, ◌==◌}
 use Rattle.muck_model.specs.declared.dbref.Dbref.{Dbref}
 use Rattle.spec_live.specs.Objects.{Entry}
-use Rattle.spec_live.specs.Saving.{Marked}
-use Rattle.spec_live.proofs.Marking.{marked_itself, marked_both, marked_as}
+use Rattle.spec_live.specs.Stood.{Traced}
+use Rattle.spec_live.proofs.Tracing.{traced_itself, traced_both, traced_as}
 use Rattle.spec_mpi.specs.Touching.{without_props, without_output, TouchesNotes}
 use Rattle.spec_live.specs.Connections.{Connection, has_number, changed_in, left, seated}
 use Rattle.spec_live.specs.Boards.{on_connection, leaving_one, seated_one}
@@ -102,7 +102,7 @@ leavers_changed_in d f keeps (c ∷ cs) = at (has_number d c) refl (leavers_chan
 -- changed is due for the next dump.
 pub record Seats (d : ℕ) (w v : Live) : Type 0 where
   pub objects : map without_props v.objects ≡ map without_props w.objects
-  pub marked : Marked w.objects v.objects
+  pub traced : Traced w.objects v.objects
   pub tune : v.board.tune ≡ w.board.tune
   pub numbers : numbers v.board.connections ≡ numbers w.board.connections
   pub leavers : LeaversLicensed (has_number d) w.board.connections v.board.connections
@@ -112,14 +112,14 @@ Seating d f = Keeps (Seats d) f
 
 pub seating_order : (d : ℕ) → Order (Seats d)
 seating_order d = record {
-  itself = λ w. record { objects = refl; marked = marked_itself w.objects; tune = refl; numbers = refl; leavers = leavers_ties (has_number d) w.board.connections w.board.connections refl };
-  both = λ u v w r s. record { objects = s.objects ∙ r.objects; marked = marked_both u.objects v.objects w.objects r.marked s.marked; tune = s.tune ∙ r.tune; numbers = s.numbers ∙ r.numbers; leavers = leavers_both d _ _ _ r.leavers s.leavers };
+  itself = λ w. record { objects = refl; traced = traced_itself w.objects; tune = refl; numbers = refl; leavers = leavers_ties (has_number d) w.board.connections w.board.connections refl };
+  both = λ u v w r s. record { objects = s.objects ∙ r.objects; traced = traced_both u.objects v.objects w.objects r.traced s.traced; tune = s.tune ∙ r.tune; numbers = s.numbers ∙ r.numbers; leavers = leavers_both d _ _ _ r.leavers s.leavers };
 }
 
 pub seating_quiet : (d : ℕ) (f : Change) → Quiet f → Seating d f
 seating_quiet d f q = keeps_more f (λ w v s. record {
   objects = ap (λ (es : List Entry). map without_props es) s.objects;
-  marked = marked_as w.objects w.objects v.objects s.objects (marked_itself w.objects);
+  traced = traced_as w.objects w.objects v.objects s.objects (traced_itself w.objects);
   tune = s.tune;
   numbers = numbers-ties w.board.connections v.board.connections s.ties;
   leavers = leavers_ties (has_number d) w.board.connections v.board.connections s.ties;
@@ -138,14 +138,14 @@ mute_ties (c ∷ cs) (d ∷ ds) e =
 pub seating_notes : (d : ℕ) (f : Change) → Keeps TouchesNotes f → Seating d f
 seating_notes d f q = keeps_more f (λ w v s. let same = mute_ties w.board.connections v.board.connections s.connections in record {
   objects = s.objects;
-  marked = s.marked;
+  traced = s.traced;
   tune = s.tune;
   numbers = numbers-ties w.board.connections v.board.connections same;
   leavers = leavers_ties (has_number d) w.board.connections v.board.connections same;
 }) q
 
 pub seating_one : (d : ℕ) (f : Connection → Connection) → ((c : Connection) → (f c).number ≡ c.number) → Seating d (on_board (on_connection d f))
-seating_one d f keeps = record { law = λ w. record { objects = refl; marked = marked_itself w.objects; tune = refl; numbers = numbers-changed_in d f keeps w.board.connections; leavers = leavers_changed_in d f keeps w.board.connections } }
+seating_one d f keeps = record { law = λ w. record { objects = refl; traced = traced_itself w.objects; tune = refl; numbers = numbers-changed_in d f keeps w.board.connections; leavers = leavers_changed_in d f keeps w.board.connections } }
 
 pub seating_leave : (d : ℕ) → Seating d (leave d)
 unfolding leave leaving_one

@@ -16,7 +16,7 @@ use Rattle.spec_live.specs.Lives.{Live, Change, unchanged, tell, reading, either
 use Rattle.spec_live.specs.Objects.{nothing}
 use Rattle.spec_live.specs.Seen.{scenery_of}
 use Rattle.spec_live.proofs.Keeping.{keeps_followed, keeps_unchanged}
-use Rattle.spec_live.proofs.Marking.{marked_itself}
+use Rattle.spec_live.proofs.Tracing.{traced_itself}
 use Rattle.spec_rights.specs.declared.act.Actor.{Actor}
 use Rattle.spec_rights.specs.declared.act.Act.{Act}
 use Rattle.spec_rights.specs.declared.act.Act.TheVariants.{Walk, Take}
@@ -52,7 +52,7 @@ mute_told d text (c ∷ cs) = at (has_number d c) (mute_told d text cs)
 
 notes_tell : (d : ℕ) (text : List ℕ) → Notes (tell d text)
 unfolding tell told_one
-notes_tell d text = record { law = λ w. record { objects = refl; marked = marked_itself w.objects; connections = mute_told d text w.board.connections; tune = refl } }
+notes_tell d text = record { law = λ w. record { objects = refl; traced = traced_itself w.objects; connections = mute_told d text w.board.connections; tune = refl } }
 
 notes_failed : (d : ℕ) (a : Actor) (typed : Typed) (otherwise : List ℕ) (x : Dbref) → Notes (failed d a typed otherwise x)
 unfolding failed message_or message_to_others

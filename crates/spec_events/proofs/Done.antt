@@ -3,7 +3,7 @@ use Rattle.std.proofs.Common.{◌≡◌, ℕ, ℤ, Bool, true, false, cond, List
 use Rattle.spec_live.proofs.Keeping.{keeps_followed}
 use Rattle.spec_live.proofs.Lists.{length_map}
 use Rattle.spec_live.proofs.Savings.{length_resaved}
-use Rattle.spec_live.proofs.Marking.{marked_itself, marked_both, marked_as}
+use Rattle.spec_live.proofs.Tracing.{traced_itself, traced_both, traced_as}
 use Rattle.std.specs.Prelude.{◌≤◌, length, map, find, ◌==◌}
 use Rattle.std.specs.Option.{option_and_then}
 use Rattle.std.proofs.lemmas.Option.{none-some}
@@ -14,7 +14,8 @@ use Rattle.muck_match.specs.declared.exits.ExitHit.{ExitHit}
 use Rattle.muck_match.specs.Exits.{exit_for}
 use Rattle.spec_live.specs.declared.saving.Saving.{Saving}
 use Rattle.spec_live.specs.Objects.{Entry, mark_in}
-use Rattle.spec_live.specs.Saving.{Marked, all_saving}
+use Rattle.spec_live.specs.Saving.{all_saving}
+use Rattle.spec_live.specs.Stood.{Traced}
 use Rattle.spec_live.specs.Seen.{scenery_of}
 use Rattle.spec_live.specs.Connections.{Connection, has_number, edited as edited_connection}
 use Rattle.spec_live.specs.Boards.{connection_in, player_in, leaving_one, edited_one}
@@ -104,7 +105,7 @@ left_licensed : (a : Actor) (d : ℕ) (free : Freedom) (w v : Live) → player_i
 unfolding leave leaving_one
 left_licensed a d free w v own l =
     let left : Licensed a free v (leave d v) = (((whole_leave a d (λ es. free) Always).law v).law (player-same_ties a d w.board.connections v.board.connections l.connections ∙ own) tt).licensed in
-    record { gone = l.gone; recycled = l.recycled; vanished = l.vanished; objects = l.objects; no_fewer = l.no_fewer; marked = l.marked; lists = l.lists; connections = ties_both a _ _ _ l.connections left.connections; tune = l.tune }
+    record { gone = l.gone; recycled = l.recycled; vanished = l.vanished; objects = l.objects; no_fewer = l.no_fewer; traced = l.traced; lists = l.lists; connections = ties_both a _ _ _ l.connections left.connections; tune = l.tune }
 
 left_tune : (d : ℕ) (w : Live) → (leave d w).board.tune ≡ w.board.tune
 unfolding leave leaving_one
@@ -137,7 +138,7 @@ licensed_from a free d lines w v l = record {
   vanished = l.vanished;
   objects = l.objects;
   no_fewer = l.no_fewer;
-  marked = l.marked;
+  traced = l.traced;
   lists = l.lists;
   connections = ties_both a _ _ _ (ties_same a w.board.connections (taken_out d lines w).board.connections (((quiet_taken_out d lines).law w).ties)) l.connections;
   tune = l.tune;
@@ -180,7 +181,7 @@ open_in_editor d player s line lines w = at (is_open s (taken_out d lines w.live
 tuned_licensed : (a : Actor) (free : Freedom) (w v : Live) (tune : Tune) → Licensed a free w v → is_master a ≡ true → Licensed a free w (tuned tune v)
 unfolding tuned
 tuned_licensed a free w v tune l h =
-    record { gone = l.gone; recycled = l.recycled; vanished = l.vanished; objects = l.objects; no_fewer = l.no_fewer; marked = l.marked; lists = l.lists; connections = l.connections; tune = inr h }
+    record { gone = l.gone; recycled = l.recycled; vanished = l.vanished; objects = l.objects; no_fewer = l.no_fewer; traced = l.traced; lists = l.lists; connections = l.connections; tune = inr h }
 
 tuned_in_range : (w : Live) (tune : Tune) → IsInRange tune → IsInRange (tuned tune w).board.tune
 unfolding tuned
@@ -424,7 +425,7 @@ told_done d w (Some c) h = lines_told d w c.player c.editor c.waiting h
 
 pub record Going (w v : World) : Type 0 where
   pub no_fewer : length w.live.objects ≤ length v.live.objects
-  pub marked : Marked w.live.objects v.live.objects
+  pub traced : Traced w.live.objects v.live.objects
   pub numbers : numbers v.live.board.connections ≡ numbers w.live.board.connections
   pub tuned : IsInRange w.live.board.tune → IsInRange v.live.board.tune
   pub dead : v.dead ≡ w.dead
@@ -432,15 +433,15 @@ pub record Going (w v : World) : Type 0 where
   pub moment : v.moment ≡ w.moment
 
 pub going_open : (a : Actor) (free : Freedom) (w v : World) → Open a free w.live (state_of w) v → Going w v
-going_open a free w v p = record { no_fewer = p.licensed.no_fewer; marked = p.licensed.marked; numbers = numbers-same_ties a w.live.board.connections v.live.board.connections p.licensed.connections; tuned = p.tuned; dead = p.alive; running = ap (λ (x : Still). x.0) p.still; moment = ap (λ (x : Still). x.1) p.still }
+going_open a free w v p = record { no_fewer = p.licensed.no_fewer; traced = p.licensed.traced; numbers = numbers-same_ties a w.live.board.connections v.live.board.connections p.licensed.connections; tuned = p.tuned; dead = p.alive; running = ap (λ (x : Still). x.0) p.still; moment = ap (λ (x : Still). x.1) p.still }
 
 pub going_same : (w : World) → Going w w
-going_same w = record { no_fewer = as_many w.live.objects w.live.objects refl; marked = marked_itself w.live.objects; numbers = refl; tuned = λ h. h; dead = refl; running = refl; moment = refl }
+going_same w = record { no_fewer = as_many w.live.objects w.live.objects refl; traced = traced_itself w.live.objects; numbers = refl; tuned = λ h. h; dead = refl; running = refl; moment = refl }
 
 pub going_both : (u v w : World) → Going u v → Going v w → Going u w
 going_both u v w p q = record {
   no_fewer = no_fewer_both u.live.objects v.live.objects w.live.objects p.no_fewer q.no_fewer;
-  marked = marked_both u.live.objects v.live.objects w.live.objects p.marked q.marked;
+  traced = traced_both u.live.objects v.live.objects w.live.objects p.traced q.traced;
   numbers = q.numbers ∙ p.numbers;
   tuned = λ h. q.tuned (p.tuned h);
   dead = q.dead ∙ p.dead;
@@ -451,7 +452,7 @@ going_both u v w p q = record {
 pub going_quietly : (w v : World) → Quietly w v → Going w v
 going_quietly w v q = record {
   no_fewer = as_many w.live.objects v.live.objects (ap (λ (os : List Entry). length os) q.objects);
-  marked = marked_as w.live.objects w.live.objects v.live.objects q.objects (marked_itself w.live.objects);
+  traced = traced_as w.live.objects w.live.objects v.live.objects q.objects (traced_itself w.live.objects);
   numbers = numbers-ties w.live.board.connections v.live.board.connections q.ties;
   tuned = in_range_as w.live v.live q.tune;
   dead = q.dead;
@@ -466,7 +467,7 @@ many_alike es fs e = sym (length_map without_props fs) ∙ ap (λ (os : List Ent
 pub going_live : (d : ℕ) (f : Change) → Seating d f → (w : World) → Going w (on_live f w)
 going_live d f p w = record {
   no_fewer = as_many w.live.objects (f w.live).objects (many_alike w.live.objects (f w.live).objects (p.law w.live).objects);
-  marked = (p.law w.live).marked;
+  traced = (p.law w.live).traced;
   numbers = (p.law w.live).numbers;
   tuned = in_range_as w.live (f w.live) (p.law w.live).tune;
   dead = refl;
@@ -475,10 +476,10 @@ going_live d f p w = record {
 }
 
 -- where objects stand otherwise to the dumps, and what isn't due wasn't before
-pub going_resaved : (f : Saving → Saving) (w : World) → Marked w.live.objects (all_saving f w.live.objects) → Going w (on_live (resaved f) w)
-going_resaved f w marked = record {
+pub going_resaved : (f : Saving → Saving) (w : World) → Traced w.live.objects (all_saving f w.live.objects) → Going w (on_live (resaved f) w)
+going_resaved f w traced = record {
   no_fewer = as_many w.live.objects (all_saving f w.live.objects) (length_resaved f w.live.objects);
-  marked = marked;
+  traced = traced;
   numbers = refl;
   tuned = λ h. h;
   dead = refl;

@@ -11,12 +11,13 @@ use Rattle.muck_model.specs.declared.tune.Tune.{Tune}
 use Rattle.spec_live.specs.Objects.{Entry as Kept}
 use Rattle.spec_live.specs.declared.saving.Saving.{Saving}
 use Rattle.spec_live.specs.Start.{first_objects}
-use Rattle.spec_live.specs.Saving.{Marked, done, due_again, all_saving}
+use Rattle.spec_live.specs.Saving.{done, due_again, all_saving}
+use Rattle.spec_live.specs.Stood.{Traced}
 use Rattle.spec_live.specs.Output.{bytes_of}
 use Rattle.spec_live.specs.Connections.{Connection, has_number, placed, without, newcomer, connections_most, holds, lined}
 use Rattle.spec_live.specs.Boards.{Board, player_in, opened, closed, line_added, bytes_taken, first_tune, early_board}
 use Rattle.spec_live.specs.Lives.{Live, Change, followed, reading, on_board}
-use Rattle.spec_live.proofs.Marking.{marked_stored, marked_failed}
+use Rattle.spec_live.proofs.Tracing.{traced_stored, traced_failed}
 use Rattle.spec_admin.specs.declared.word.Parameter.TheVariants.{InstrSlice, PreemptUnits, M1Units, M2Units, ProcessLimit, PlayerProcesses, MpiCommands, DumpInterval}
 use Rattle.spec_admin.specs.Parameters.{IsInRange}
 use Rattle.spec_commands.specs.Talk.{welcome, parted, gone_away}
@@ -99,16 +100,16 @@ no_connection d w first stop few e = none_of (connection d w) (and_parts first _
 
 -- What the end of a dump makes of objects, and what is told of it, keeps the world as it was before.
 
-ended-going : (f : Saving → Saving) (ds : List ℕ) (text : List ℕ) (w : World) → Marked w.live.objects (all_saving f w.live.objects) → Going w (on_live (told_each ds text) (on_live (resaved f) w))
-ended-going f ds text w marked =
+ended-going : (f : Saving → Saving) (ds : List ℕ) (text : List ℕ) (w : World) → Traced w.live.objects (all_saving f w.live.objects) → Going w (on_live (told_each ds text) (on_live (resaved f) w))
+ended-going f ds text w traced =
     let u : World = on_live (resaved f) w in
-    going_both w u (on_live (told_each ds text) u) (going_resaved f w marked) (going_quietly u _ (quietly_live (told_each ds text) (quiet_told_each ds text) u))
+    going_both w u (on_live (told_each ds text) u) (going_resaved f w traced) (going_quietly u _ (quietly_live (told_each ds text) (quiet_told_each ds text) u))
 
 pub stored-going : (k : ℕ) (w : World) → Going w (on_live (told_each (askers_of w.dumps) (dump_stored k)) (on_live (resaved done) w))
-stored-going k w = ended-going done (askers_of w.dumps) (dump_stored k) w (marked_stored w.live.objects)
+stored-going k w = ended-going done (askers_of w.dumps) (dump_stored k) w (traced_stored w.live.objects)
 
 pub failed-going : (w : World) → Going w (on_live (told_each (askers_of w.dumps) dump_failed) (on_live (resaved due_again) w))
-failed-going w = ended-going due_again (askers_of w.dumps) dump_failed w (marked_failed w.live.objects)
+failed-going w = ended-going due_again (askers_of w.dumps) dump_failed w (traced_failed w.live.objects)
 
 going-rises : (w v : World) → Going w v → IsRising w.live.board.connections → IsRising v.live.board.connections
 going-rises w v g h = rising_by w.live.board.connections v.live.board.connections g.numbers h

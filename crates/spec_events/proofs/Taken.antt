@@ -194,7 +194,7 @@ going_run : (tune : Tune) (pid : ℤ) (n : ℕ) (w : World) → Going w (last_wo
 going_run tune pid n w = run_holds tune pid (λ v ts. Going v (last_world v ts)) going_same (λ v x s ts e rest. going_both v _ _ (going_turn tune pid x s v) rest) n w
 
 going_awake : (pid : ℤ) (w : World) → Going w (awake pid w)
-going_awake pid w = record { no_fewer = (going_same w).no_fewer; marked = (going_same w).marked; numbers = refl; tuned = λ h. h; dead = refl; running = refl; moment = refl }
+going_awake pid w = record { no_fewer = (going_same w).no_fewer; traced = (going_same w).traced; numbers = refl; tuned = λ h. h; dead = refl; running = refl; moment = refl }
 
 pub sliced_going : (pid : ℤ) (w : World) → Going w (sliced pid w)
 unfolding sliced

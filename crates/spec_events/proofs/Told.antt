@@ -13,7 +13,7 @@ use Rattle.spec_rights.specs.declared.act.Actor.{Actor}
 use Rattle.spec_rights.specs.Verdict.{is_master}
 use Rattle.spec_rights.specs.Licence.{Freedom, SameLists, Reordered, front_open, Licensed, Differs}
 use Rattle.spec_live.proofs.Lists.{length_map}
-use Rattle.spec_live.proofs.Marking.{marked_both, marked_as, marked_told}
+use Rattle.spec_live.proofs.Tracing.{traced_both, traced_as, traced_told}
 use Rattle.spec_rights.proofs.Licences.{as_many, no_fewer_both, no_fewer_as, ties, ties_same, ties_both, open_both}
 
 -- Objects and lists without what is to be told of them.
@@ -64,7 +64,7 @@ licensed_told a free w v l = record {
   vanished = λ x e. told_at x v.objects ∙ l.vanished x e;
   objects = λ n. let P : Option Object → Type 0 = λ o. Differs (record { actor = a; free = free; gone = l.gone; objects = w.objects }) (dbref_of n) (object_at (dbref_of n) w.objects) o in subst P (sym (told_at (dbref_of n) v.objects)) (l.objects n);
   no_fewer = no_fewer_both w.objects v.objects (map unmarked v.objects) l.no_fewer (as_many v.objects (map unmarked v.objects) (length_map unmarked v.objects));
-  marked = marked_both w.objects v.objects (map unmarked v.objects) l.marked (marked_told v.objects);
+  traced = traced_both w.objects v.objects (map unmarked v.objects) l.traced (traced_told v.objects);
   lists = λ exits p. subst (Reordered (front_open (record { actor = a; free = free; gone = l.gone; objects = w.objects }) w.objects p) (list_in exits w.objects p)) (sym (told_list exits v.objects p)) (l.lists exits p);
   connections = l.connections;
   tune = l.tune;
@@ -80,7 +80,7 @@ licensed_as a free w u v l objects tied tuned =
       vanished = λ x e. ap (object_at x) objects ∙ l.vanished x e;
       objects = subst O (sym objects) l.objects;
       no_fewer = no_fewer_as w.objects u.objects v.objects objects l.no_fewer;
-      marked = marked_as w.objects u.objects v.objects objects l.marked;
+      traced = traced_as w.objects u.objects v.objects objects l.traced;
       lists = subst (SameLists (record { actor = a; free = free; gone = l.gone; objects = w.objects }) w.objects) (sym objects) l.lists;
       connections = ties_both a _ _ _ l.connections (ties_same a u.board.connections v.board.connections tied);
       tune = open_both (λ tune. is_master a) _ _ _ l.tune (inl tuned);

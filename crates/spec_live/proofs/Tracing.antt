@@ -2,20 +2,24 @@
 use Rattle.std.proofs.Common.{◌≡◌, ℕ, List, [], ◌∷◌, ◌++◌, Option, Some, None, refl, ◌∙◌, ap, subst, sym, Bool, true, false, cond, eqb, length, map}
 use Rattle.std.proofs.lemmas.Option.{slice_get-map}
 use Rattle.std.specs.List.{slice_get}
-use Rattle.std.specs.Option.{option_map, option_and_then}
+use Rattle.std.specs.Option.{option_map, option_map_or, option_and_then}
 use Rattle.muck_model.specs.declared.dbref.Dbref.{Dbref}
 use Rattle.muck_model.specs.declared.dbref.Kind.{Kind}
 use Rattle.spec_live.specs.declared.object.Object.{Object}
 use Rattle.spec_live.specs.declared.saving.Saving.{Saving}
-use Rattle.spec_live.specs.Objects.{Entry, is_exit, object_in, list_in, kind_in, changed_at, on_object, with_object}
-use Rattle.spec_live.specs.Saving.{relinked, done, due_again, on_saving, all_saving}
+use Rattle.spec_live.specs.declared.saving.Saving.TheVariants.{Due}
+use Rattle.spec_live.specs.Objects.{Entry, is_exit, object_in, list_of, list_in, mark_in, kind_in, changed_at, on_object, with_object}
+use Rattle.spec_live.specs.Saving.{saving_in, is_due, relinked, done, due_again, on_saving, all_saving, Marked}
 use Rattle.spec_live.specs.Stood.{standing, stood_in, stands_in, still, stilled, IsStill, SameStood, Traced}
 use Rattle.spec_live.specs.Moving.{left_out, put_first, with_place, set_down, moved}
 use Rattle.spec_live.specs.Making.{blank_entry, grown, new_object, created}
 use Rattle.spec_live.specs.Setting.{with_lines, lines_set}
 use Rattle.spec_live.specs.Recycling.{untie, untied, way_home, sent_home, gone_entry, is_exit_of, exit_gone, without_exits, exits_gone, vanished, taken_away, recycled}
 use Rattle.spec_live.specs.Marks.{unmarked}
-use Rattle.spec_live.proofs.Lists.{kept_then, read_kept, read_more}
+use Rattle.spec_live.specs.Consistent.{IsConsistent}
+use Rattle.spec_live.proofs.Lists.{length_map, kept_then, read_kept, read_more}
+use Rattle.spec_live.proofs.Ties.{consistent_seen}
+use Rattle.spec_live.proofs.Dues.{links_alike}
 use Rattle.spec_live.proofs.Savings.{read_relinked}
 use Rattle.spec_live.proofs.Marking.{marked_itself, marked_both, marked_set, marked_lines, marked_told, marked_stored, marked_failed, marked_moved, marked_created, marked_recycled}
 
@@ -98,6 +102,9 @@ traced_moved d to es = record { marks = marked_moved d to es; stood = stood_move
 
 -- Making.
 
+pub stood_named : (n : ℕ) (o : Object) (es : List Entry) → SameStood es (changed_at n (with_object o) es)
+stood_named n o es = stood_changed n (with_object o) es (λ e. refl)
+
 pub stood_more : (es : List Entry) → SameStood es (es ++ blank_entry ∷ [])
 unfolding stood_in blank_entry
 stood_more es = λ k. read_more (λ o. option_and_then (λ (e : Entry). e.stood) o) es blank_entry k refl
@@ -115,7 +122,7 @@ unfolding created
 stood_created n kind name owner to es =
     let more : List Entry = grown n es in
     let made : List Entry = changed_at n (with_object (new_object n kind name owner)) more in
-    stood_both es made (moved n to made) (stood_both es more made (stood_grown n es) (stood_changed n (with_object (new_object n kind name owner)) more (λ e. refl))) (stood_moved n to made)
+    stood_both es made (moved n to made) (stood_both es more made (stood_grown n es) (stood_named n (new_object n kind name owner) more)) (stood_moved n to made)
 
 pub traced_created : (n : ℕ) (kind : Kind) (name : List ℕ) (owner : Dbref) (to : ℕ) (es : List Entry) → Traced es (created n kind name owner to es)
 traced_created n kind name owner to es = record { marks = marked_created n kind name owner to es; stood = stood_created n kind name owner to es }
@@ -176,6 +183,42 @@ read_stilled read es k h = ap read (slice_get-map still es k) ∙ by_cases (slic
     by_cases : (o : Option Entry) → read (option_map still o) ≡ read o
     by_cases None = refl
     by_cases (Some e) = h e
+
+pub length_stilled : (es : List Entry) → length (stilled es) ≡ length es
+unfolding stilled
+length_stilled es = length_map still es
+
+pub object_stilled : (es : List Entry) (k : ℕ) → object_in (stilled es) k ≡ object_in es k
+unfolding object_in
+object_stilled es k = read_stilled (λ o. option_map (λ (e : Entry). e.object) o) es k (λ e. refl)
+
+pub list_stilled : (v : Bool) (es : List Entry) (k : ℕ) → list_in v (stilled es) k ≡ list_in v es k
+unfolding list_in
+list_stilled true es k = read_stilled (λ o. option_map_or (list_of true) o []) es k (λ e. refl)
+list_stilled false es k = read_stilled (λ o. option_map_or (list_of false) o []) es k (λ e. refl)
+
+pub mark_stilled : (es : List Entry) (k : ℕ) → mark_in (stilled es) k ≡ mark_in es k
+unfolding mark_in
+mark_stilled es k = read_stilled (λ o. option_and_then (λ (e : Entry). e.mark) o) es k (λ e. refl)
+
+pub kind_stilled : (es : List Entry) (k : ℕ) → kind_in (stilled es) k ≡ kind_in es k
+unfolding kind_in
+kind_stilled es k = rw (object_stilled es k) refl
+
+pub saving_stilled : (es : List Entry) (k : ℕ) → saving_in (stilled es) k ≡ saving_in es k
+unfolding saving_in
+saving_stilled es k = read_stilled (λ o. option_map_or (λ (e : Entry). e.saving) o Due) es k (λ e. refl)
+
+-- so it hangs together as before, and what isn't due is as before
+pub consistent_stilled : (es : List Entry) → IsConsistent es → IsConsistent (stilled es)
+consistent_stilled es c = consistent_seen es (stilled es) (length_stilled es) (object_stilled es) (λ v k. list_stilled v es k) c
+
+pub marked_stilled : (es : List Entry) → Marked es (stilled es)
+marked_stilled es = λ k early. record {
+  early = ap (λ s. is_due s) (sym (saving_stilled es k)) ∙ early;
+  object = object_stilled es k;
+  links = links_alike es (stilled es) k (object_stilled es k) (λ v j. list_stilled v es j);
+}
 
 pub is_stilled : (es : List Entry) → IsStill (stilled es)
 unfolding stilled stood_in stands_in object_in

@@ -13,11 +13,11 @@ use Rattle.spec_live.specs.Connections.{Connection, told, told_where, is_of, hea
 use Rattle.spec_live.specs.Boards.{told_player, told_others, random_drawn}
 use Rattle.spec_live.specs.Lives.{Live, Change, tell_player, tell_but, tell_others, draw, place_of}
 use Rattle.spec_live.proofs.Keeping.{Order}
-use Rattle.spec_live.proofs.Marking.{marked_itself, marked_both}
+use Rattle.spec_live.proofs.Tracing.{traced_itself, traced_both}
 use Rattle.spec_rights.specs.declared.act.Act.TheVariants.{Write}
 use Rattle.spec_rights.specs.Verdict.{verdict}
 use Rattle.spec_rights.specs.Changing.{at_number, stored, unstored}
-use Rattle.spec_rights.proofs.Changes.{marked_found}
+use Rattle.spec_rights.proofs.Changes.{traced_found}
 use Rattle.mpi.specs.declared.fault.MpiFault.TheVariants.{BadValue, Denied}
 use Rattle.mpi.specs.declared.host.Deed.{Deed}
 use Rattle.mpi.specs.declared.host.Deed.TheVariants as deed
@@ -62,8 +62,8 @@ does_law R s same store unstore one others (deed.Otell text d) = others d s.acto
 
 pub touching_order : Order TouchesNotes
 touching_order = record {
-  itself = λ w. record { objects = refl; marked = marked_itself w.objects; connections = refl; tune = refl };
-  both = λ u v w r s. record { objects = s.objects ∙ r.objects; marked = marked_both u.objects v.objects w.objects r.marked s.marked; connections = s.connections ∙ r.connections; tune = s.tune ∙ r.tune };
+  itself = λ w. record { objects = refl; traced = traced_itself w.objects; connections = refl; tune = refl };
+  both = λ u v w r s. record { objects = s.objects ∙ r.objects; traced = traced_both u.objects v.objects w.objects r.traced s.traced; connections = s.connections ∙ r.connections; tune = s.tune ∙ r.tune };
 }
 
 -- a change at one place that the view g doesn't see
@@ -100,20 +100,20 @@ noted_at f h x es = at (number_in es x)
 
 pub touching_stored : (x : Dbref) (path : List (List ℕ)) (value : PropValue) (w : Live) → TouchesNotes w (stored x path value w)
 unfolding stored
-touching_stored x path value w = record { objects = noted_at (with_prop path value) (λ e. refl) x w.objects; marked = marked_found x (with_prop path value) w.objects; connections = refl; tune = refl }
+touching_stored x path value w = record { objects = noted_at (with_prop path value) (λ e. refl) x w.objects; traced = traced_found x (with_prop path value) w.objects; connections = refl; tune = refl }
 
 pub touching_unstored : (x : Dbref) (path : List (List ℕ)) (w : Live) → TouchesNotes w (unstored x path w)
 unfolding unstored
-touching_unstored x path w = record { objects = noted_at (without_prop path) (λ e. refl) x w.objects; marked = marked_found x (without_prop path) w.objects; connections = refl; tune = refl }
+touching_unstored x path w = record { objects = noted_at (without_prop path) (λ e. refl) x w.objects; traced = traced_found x (without_prop path) w.objects; connections = refl; tune = refl }
 
 pub touching_one : (player : Dbref) (text : List ℕ) (w : Live) → TouchesNotes w (tell_player player text w)
 unfolding tell_player told_player
-touching_one player text w = record { objects = refl; marked = marked_itself w.objects; connections = map_told (is_of player) text w.board.connections; tune = refl }
+touching_one player text w = record { objects = refl; traced = traced_itself w.objects; connections = map_told (is_of player) text w.board.connections; tune = refl }
 
 pub touching_others : (room but : Dbref) (text : List ℕ) (w : Live) → TouchesNotes w (tell_others room but text w)
 unfolding tell_others tell_but told_others
-touching_others room but text w = record { objects = refl; marked = marked_itself w.objects; connections = map_told (hears (λ p. place_of p w.objects) room (but ∷ [])) text w.board.connections; tune = refl }
+touching_others room but text w = record { objects = refl; traced = traced_itself w.objects; connections = map_told (hears (λ p. place_of p w.objects) room (but ∷ [])) text w.board.connections; tune = refl }
 
 pub touching_draw : (w : Live) → TouchesNotes w (draw w)
 unfolding draw random_drawn
-touching_draw w = record { objects = refl; marked = marked_itself w.objects; connections = refl; tune = refl }
+touching_draw w = record { objects = refl; traced = traced_itself w.objects; connections = refl; tune = refl }

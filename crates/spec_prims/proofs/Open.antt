@@ -23,7 +23,7 @@ pub ended_open : (a : Actor) (act : Option Act) (w v : Live) → Ended itself a 
 ended_open a act w v h given =
     let t = h.law w.objects (same_itself w.objects) given in
     record {
-      licensed = record { gone = None; recycled = λ x e. absurd (cc); vanished = λ x e. absurd (cc); objects = t.rows; no_fewer = t.no_fewer; marked = t.marked; lists = t.lists; connections = t.ties; tune = inl t.tune };
+      licensed = record { gone = None; recycled = λ x e. absurd (cc); vanished = λ x e. absurd (cc); objects = t.rows; no_fewer = t.no_fewer; traced = t.traced; lists = t.lists; connections = t.ties; tune = inl t.tune };
       marks = t.marks;
       told = t.told;
       tune = t.tune;

@@ -17,11 +17,11 @@ use Rattle.spec_live.specs.declared.object.Object.{Object}
 use Rattle.spec_live.specs.Flags.{has_flag, with_flag, without_flag, wizard}
 use Rattle.spec_live.specs.Objects.{Entry, dbref_of, object_in, list_in, mark_in, number_in, object_at, changed_at, on_object}
 use Rattle.spec_live.specs.Setting.{set_at, with_name, with_owner, with_link, with_flags, with_level, with_lines, lines_set, with_password, with_prop, without_prop}
-use Rattle.spec_live.specs.Saving.{Marked}
+use Rattle.spec_live.specs.Stood.{Traced}
 use Rattle.spec_live.specs.Boards.{Board}
 use Rattle.spec_live.specs.Lives.{Live}
 use Rattle.spec_live.proofs.Lists.{get_changed_same, length_changed}
-use Rattle.spec_live.proofs.Marking.{marked_itself, marked_set, marked_lines}
+use Rattle.spec_live.proofs.Tracing.{traced_itself, traced_set, traced_lines}
 use Rattle.spec_live.proofs.Readers.{object_changed, object_unchanged, object_elsewhere, list_change, list_changed, mark_changed, mark_elsewhere}
 use Rattle.spec_rights.specs.declared.act.Actor.{Actor}
 use Rattle.spec_rights.specs.declared.act.Act.TheVariants.{Write, Link, Edit, Change, Rename, Password, SetFlag, SetLevel, SetOwner}
@@ -63,11 +63,11 @@ rows_lined R same x lines h es n = rows_number R same x (λ o. record o { lines 
 
 -- Worlds in which the objects alone differ.
 
-pub stay_objects : (j : Judge) (w v : Live) → v.board ≡ w.board → ((n : ℕ) → Row (Kept j (dbref_of n)) (object_at (dbref_of n) w.objects) (object_at (dbref_of n) v.objects)) → SameLists j w.objects v.objects → TellsLines j w.objects v.objects → length w.objects ≤ length v.objects → Marked w.objects v.objects → Told w.objects v.objects → Stay j w v
-stay_objects j w v b rows lists marks many marked told =
+pub stay_objects : (j : Judge) (w v : Live) → v.board ≡ w.board → ((n : ℕ) → Row (Kept j (dbref_of n)) (object_at (dbref_of n) w.objects) (object_at (dbref_of n) v.objects)) → SameLists j w.objects v.objects → TellsLines j w.objects v.objects → length w.objects ≤ length v.objects → Traced w.objects v.objects → Told w.objects v.objects → Stay j w v
+stay_objects j w v b rows lists marks many traced told =
     let T : Board → Type 0 = λ t. SameTies j.actor w.board.connections t.connections in
     let U : Board → Type 0 = λ t. t.tune ≡ w.board.tune in
-    record { rows = rows; lists = lists; marks = marks; no_fewer = many; marked = marked; told = told; ties = subst T (sym b) (ties_itself j.actor w.board.connections); tune = subst U (sym b) refl }
+    record { rows = rows; lists = lists; marks = marks; no_fewer = many; traced = traced; told = told; ties = subst T (sym b) (ties_itself j.actor w.board.connections); tune = subst U (sym b) refl }
 
 pub differs_row : (j : Judge) (x : Dbref) (o p : Option Object) → Row (Changed j x) o p → Differs j x o p
 differs_row j x None None r = r
@@ -75,11 +75,11 @@ differs_row j x None (Some p) r = absurd r
 differs_row j x (Some o) None r = absurd r
 differs_row j x (Some o) (Some p) r = r
 
-pub end_objects : (j : Judge) (w v : Live) → v.board ≡ w.board → ((n : ℕ) → Differs j (dbref_of n) (object_at (dbref_of n) w.objects) (object_at (dbref_of n) v.objects)) → SameLists j w.objects v.objects → SameMarks j w.objects v.objects → length w.objects ≤ length v.objects → Marked w.objects v.objects → Told w.objects v.objects → End j w v
-end_objects j w v b rows lists marks many marked told =
+pub end_objects : (j : Judge) (w v : Live) → v.board ≡ w.board → ((n : ℕ) → Differs j (dbref_of n) (object_at (dbref_of n) w.objects) (object_at (dbref_of n) v.objects)) → SameLists j w.objects v.objects → SameMarks j w.objects v.objects → length w.objects ≤ length v.objects → Traced w.objects v.objects → Told w.objects v.objects → End j w v
+end_objects j w v b rows lists marks many traced told =
     let T : Board → Type 0 = λ t. SameTies j.actor w.board.connections t.connections in
     let U : Board → Type 0 = λ t. t.tune ≡ w.board.tune in
-    record { rows = rows; lists = lists; marks = marks; no_fewer = many; marked = marked; told = told; ties = subst T (sym b) (ties_itself j.actor w.board.connections); tune = subst U (sym b) refl }
+    record { rows = rows; lists = lists; marks = marks; no_fewer = many; traced = traced; told = told; ties = subst T (sym b) (ties_itself j.actor w.board.connections); tune = subst U (sym b) refl }
 
 -- there are as many
 many_number : (g : ℕ → List Entry → List Entry) (es : List Entry) → ((m : ℕ) → length (g m es) ≡ length es) → (q : Option ℕ) → length (option_map_or (λ m. g m es) q es) ≡ length es
@@ -93,15 +93,15 @@ many_lined : (x : Dbref) (lines : List (List ℕ)) (es : List Entry) → length 
 many_lined x lines es = as_many es (at_number (lines_set lines) x es) (many_number (lines_set lines) es (λ m. length_changed es m (with_lines lines)) (number_in es x))
 
 -- and what changed is due
-marked_number : (g : ℕ → List Entry → List Entry) (es : List Entry) → ((m : ℕ) → Marked es (g m es)) → (q : Option ℕ) → Marked es (option_map_or (λ m. g m es) q es)
-marked_number g es h None = marked_itself es
-marked_number g es h (Some m) = h m
+traced_number : (g : ℕ → List Entry → List Entry) (es : List Entry) → ((m : ℕ) → Traced es (g m es)) → (q : Option ℕ) → Traced es (option_map_or (λ m. g m es) q es)
+traced_number g es h None = traced_itself es
+traced_number g es h (Some m) = h m
 
-pub marked_found : (x : Dbref) (f : Object → Object) (es : List Entry) → Marked es (at_number (set_at f) x es)
-marked_found x f es = marked_number (set_at f) es (λ m. marked_set m f es) (number_in es x)
+pub traced_found : (x : Dbref) (f : Object → Object) (es : List Entry) → Traced es (at_number (set_at f) x es)
+traced_found x f es = traced_number (set_at f) es (λ m. traced_set m f es) (number_in es x)
 
-marked_lined : (x : Dbref) (lines : List (List ℕ)) (es : List Entry) → Marked es (at_number (lines_set lines) x es)
-marked_lined x lines es = marked_number (lines_set lines) es (λ m. marked_lines m lines es) (number_in es x)
+traced_lined : (x : Dbref) (lines : List (List ℕ)) (es : List Entry) → Traced es (at_number (lines_set lines) x es)
+traced_lined x lines es = traced_number (lines_set lines) es (λ m. traced_lines m lines es) (number_in es x)
 
 -- the lists of all are as they were
 lists_number : (j : Judge) (g : ℕ → List Entry → List Entry) (es : List Entry) → ((m : ℕ) (v : Bool) (k : ℕ) → list_in v (g m es) k ≡ list_in v es k) → (q : Option ℕ) → SameLists j es (option_map_or (λ m. g m es) q es)
@@ -120,11 +120,11 @@ marks_set n f es None = refl
 marks_set n f es (Some m) = mark_changed m n f es
 
 stay_found : (j : Judge) (x : Dbref) (f : Object → Object) → ((o : Object) → (f o).kind ≡ o.kind) → ((o : Object) → (f o).lines ≡ o.lines) → ((o : Object) → Kept j x o (f o)) → (w : Live) → Stay j w (set_object f x w)
-stay_found j x f kinds lines h w = stay_objects j w (set_object f x w) refl (rows_found (Kept j) (kept_same j) x f kinds h w.objects) (lists_set j x f w.objects) (λ n. inl (marks_set n f w.objects (number_in w.objects x))) (many_set x f w.objects) (marked_found x f w.objects) (told_found f w.objects kinds lines (number_in w.objects x))
+stay_found j x f kinds lines h w = stay_objects j w (set_object f x w) refl (rows_found (Kept j) (kept_same j) x f kinds h w.objects) (lists_set j x f w.objects) (λ n. inl (marks_set n f w.objects (number_in w.objects x))) (many_set x f w.objects) (traced_found x f w.objects) (told_found f w.objects kinds lines (number_in w.objects x))
 
 pub end_found : (j : Judge) (x : Dbref) (f : Object → Object) → ((o : Object) → (f o).kind ≡ o.kind) → ((o : Object) → (f o).lines ≡ o.lines) → ((o : Object) → Changed j x o (f o)) → (w : Live) → End j w (set_object f x w)
 end_found j x f kinds lines h w = end_objects j w (set_object f x w) refl (λ n. differs_row j (dbref_of n) _ _ (rows_found (Changed j) (changed_same j) x f kinds h w.objects n)) (lists_set j x f w.objects)
-    (λ n. mark_open j (dbref_of n) _ _ (object_at (dbref_of n) (set_object f x w).objects) (inl (marks_set n f w.objects (number_in w.objects x)))) (many_set x f w.objects) (marked_found x f w.objects) (told_found f w.objects kinds lines (number_in w.objects x))
+    (λ n. mark_open j (dbref_of n) _ _ (object_at (dbref_of n) (set_object f x w).objects) (inl (marks_set n f w.objects (number_in w.objects x)))) (many_set x f w.objects) (traced_found x f w.objects) (told_found f w.objects kinds lines (number_in w.objects x))
 
 -- Names.
 
@@ -229,7 +229,7 @@ stays_lines a free x lines h = stays_by _ (λ start w s g.
     let j = judge a free start in
     let may : lines_open j x ≡ true = edit_allowed a free start w.objects x h s g in
     stay_objects j w (lines_kept x lines w) refl (rows_lined (Kept j) (kept_same j) x lines (λ o. kept_lines j x lines o may) w.objects)
-    (lists_lined j x lines w.objects) (λ n. marks_lined j x lines w.objects may n (number_in w.objects x) refl) (many_lined x lines w.objects) (marked_lined x lines w.objects) (told_lined lines w.objects (number_in w.objects x)))
+    (lists_lined j x lines w.objects) (λ n. marks_lined j x lines w.objects may n (number_in w.objects x) refl) (many_lined x lines w.objects) (traced_lined x lines w.objects) (told_lined lines w.objects (number_in w.objects x)))
 
 -- Passwords.
 

@@ -9,7 +9,7 @@ use Rattle.spec_live.specs.Objects.{Entry, dbref_of, same, object_at}
 use Rattle.spec_live.specs.Connections.{Connection, has_number, changed_in, is_of, left}
 use Rattle.spec_live.specs.Boards.{leaving_one}
 use Rattle.spec_live.specs.Lives.{Live, leave}
-use Rattle.spec_live.proofs.Marking.{marked_itself}
+use Rattle.spec_live.proofs.Tracing.{traced_itself}
 use Rattle.spec_rights.specs.declared.act.Actor.{Actor}
 use Rattle.spec_rights.specs.declared.act.Act.TheVariants.{Shared, Wizard}
 use Rattle.spec_rights.specs.Verdict.{is_master}
@@ -42,7 +42,7 @@ whole_leave a d free given = whole_by _ (λ w c h. record {
     vanished = λ x e. absurd (cc);
     objects = λ n. differs_kept (judge a (free w.objects) w.objects) (dbref_of n) _ _ (row_same _ (kept_same (judge a (free w.objects) w.objects) (dbref_of n)) (object_at (dbref_of n) w.objects));
     no_fewer = as_many w.objects w.objects refl;
-    marked = marked_itself w.objects;
+    traced = traced_itself w.objects;
     lists = lists_itself (judge a (free w.objects) w.objects) w.objects;
     connections = ties_left a d w.board.connections c;
     tune = inl refl;
@@ -68,7 +68,7 @@ stays_left a free d = stays_by _ (λ start w s g. record {
   lists = lists_itself (judge a free start) w.objects;
   marks = λ n. inl refl;
   no_fewer = as_many w.objects w.objects refl;
-  marked = marked_itself w.objects;
+  traced = traced_itself w.objects;
   told = told_itself w.objects;
   ties = ties_master a d w.board.connections (master_allowed w.objects a g);
   tune = refl;
@@ -97,7 +97,7 @@ stays_booted a free player = stays_by _ (λ start w s g. record {
   lists = lists_itself (judge a free start) w.objects;
   marks = λ n. inl refl;
   no_fewer = as_many w.objects w.objects refl;
-  marked = marked_itself w.objects;
+  traced = traced_itself w.objects;
   told = told_itself w.objects;
   ties = ties_booted a player w.board.connections (wizard_allowed w.objects a g);
   tune = refl;

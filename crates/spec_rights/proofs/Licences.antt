@@ -11,8 +11,8 @@ use Rattle.spec_live.specs.Objects.{Entry, dbref_of, same, is_exit, mark_in, obj
 use Rattle.spec_live.specs.Connections.{Connection, has_number}
 use Rattle.spec_live.specs.Boards.{player_in}
 use Rattle.spec_live.specs.Lives.{Live, Change, followed, reading, unchanged}
-use Rattle.spec_live.specs.Saving.{Marked}
-use Rattle.spec_live.proofs.Marking.{marked_itself, marked_both, marked_as}
+use Rattle.spec_live.specs.Stood.{Traced}
+use Rattle.spec_live.proofs.Tracing.{traced_itself, traced_both, traced_as}
 use Rattle.spec_live.proofs.Keeping.{Keeps, Order, keeps_after, keeps_more, keeps_told, keeps_unchanged}
 use Rattle.spec_rights.specs.declared.act.Actor.{Actor}
 use Rattle.spec_rights.specs.declared.act.Act.{Act}
@@ -194,7 +194,7 @@ pub record Stay (j : Judge) (w v : Live) : Type 0 where
   pub lists : SameLists j w.objects v.objects
   pub marks : TellsLines j w.objects v.objects
   pub no_fewer : length w.objects ≤ length v.objects
-  pub marked : Marked w.objects v.objects
+  pub traced : Traced w.objects v.objects
   pub told : Told w.objects v.objects
   pub ties : SameTies j.actor w.board.connections v.board.connections
   pub tune : v.board.tune ≡ w.board.tune
@@ -205,7 +205,7 @@ pub record End (j : Judge) (w v : Live) : Type 0 where
   pub lists : SameLists j w.objects v.objects
   pub marks : SameMarks j w.objects v.objects
   pub no_fewer : length w.objects ≤ length v.objects
-  pub marked : Marked w.objects v.objects
+  pub traced : Traced w.objects v.objects
   pub told : Told w.objects v.objects
   pub ties : SameTies j.actor w.board.connections v.board.connections
   pub tune : v.board.tune ≡ w.board.tune
@@ -216,7 +216,7 @@ stay_itself j w = record {
   lists = lists_itself j w.objects;
   marks = λ n. inl refl;
   no_fewer = as_many w.objects w.objects refl;
-  marked = marked_itself w.objects;
+  traced = traced_itself w.objects;
   told = told_itself w.objects;
   ties = ties_itself j.actor w.board.connections;
   tune = refl;
@@ -228,7 +228,7 @@ stay_both j u v w s t = record {
   lists = lists_both j (λ n. Kept j (dbref_of n)) u.objects v.objects w.objects s.rows s.lists t.lists;
   marks = λ n. open_both (λ mark. lines_open j (dbref_of n)) _ _ _ (s.marks n) (t.marks n);
   no_fewer = no_fewer_both u.objects v.objects w.objects s.no_fewer t.no_fewer;
-  marked = marked_both u.objects v.objects w.objects s.marked t.marked;
+  traced = traced_both u.objects v.objects w.objects s.traced t.traced;
   told = told_both u.objects v.objects w.objects s.told t.told;
   ties = ties_both j.actor _ _ _ s.ties t.ties;
   tune = t.tune ∙ s.tune;
@@ -241,7 +241,7 @@ stay_quietly j u v w t q = record {
   lists = subst (SameLists j u.objects) (sym q.objects) t.lists;
   marks = subst (TellsLines j u.objects) (sym q.objects) t.marks;
   no_fewer = no_fewer_as u.objects v.objects w.objects q.objects t.no_fewer;
-  marked = marked_as u.objects v.objects w.objects q.objects t.marked;
+  traced = traced_as u.objects v.objects w.objects q.objects t.traced;
   told = told_as u.objects v.objects w.objects q.objects t.told;
   ties = ties_both j.actor _ _ _ t.ties (ties_same j.actor v.board.connections w.board.connections q.ties);
   tune = q.tune ∙ t.tune;
@@ -253,7 +253,7 @@ end_quietly j u v w t q = record {
   lists = subst (SameLists j u.objects) (sym q.objects) t.lists;
   marks = subst (SameMarks j u.objects) (sym q.objects) t.marks;
   no_fewer = no_fewer_as u.objects v.objects w.objects q.objects t.no_fewer;
-  marked = marked_as u.objects v.objects w.objects q.objects t.marked;
+  traced = traced_as u.objects v.objects w.objects q.objects t.traced;
   told = told_as u.objects v.objects w.objects q.objects t.told;
   ties = ties_both j.actor _ _ _ t.ties (ties_same j.actor v.board.connections w.board.connections q.ties);
   tune = q.tune ∙ t.tune;
@@ -389,7 +389,7 @@ stays_asked a free given act refuse go p q =
 
 pub ends_stays : (a : Actor) (free : Freedom) (given : Option Act) (f : Change) → Stays a free given f → Ends itself a free given f
 ends_stays a free given f p = keeps_more f (λ w v s. record {
-  law = λ start r h. let t = s.law start r h in record { rows = λ n. differs_kept _ (dbref_of n) _ _ (t.rows n); lists = t.lists; marks = marks_open (judge a free start) w.objects v.objects t.marks; no_fewer = t.no_fewer; marked = t.marked; told = t.told; ties = t.ties; tune = t.tune };
+  law = λ start r h. let t = s.law start r h in record { rows = λ n. differs_kept _ (dbref_of n) _ _ (t.rows n); lists = t.lists; marks = marks_open (judge a free start) w.objects v.objects t.marks; no_fewer = t.no_fewer; traced = t.traced; told = t.told; ties = t.ties; tune = t.tune };
 }) p
 
 pub ends_quiet : (a : Actor) (free : Freedom) (given : Option Act) (f : Change) → Quiet f → Ends itself a free given f
@@ -405,7 +405,7 @@ ends_followed out a free given f g p q = keeps_after f g (λ w v y s t. record {
         lists = lists_both (judge a free start) (λ n. Kept (judge a free start) (dbref_of n)) _ _ _ first.rows first.lists next.lists;
         marks = marks_both (judge a free start) _ _ _ first.marks next.marks;
         no_fewer = no_fewer_both _ _ _ first.no_fewer next.no_fewer;
-        marked = marked_both w.objects v.objects (out y).objects first.marked next.marked;
+        traced = traced_both w.objects v.objects (out y).objects first.traced next.traced;
         told = told_both w.objects v.objects (out y).objects first.told next.told;
         ties = ties_both a _ _ _ first.ties next.ties;
         tune = next.tune ∙ first.tune;
@@ -429,7 +429,7 @@ own_kept (Some d) w v a e c = player_kept d w.board.connections v.board.connecti
 pub whole_ends : {Y : Type 0} (out : Y → Live) (a : Actor) (own : Option ℕ) (free : List Entry → Freedom) (given : Live → Type 0) (f : Live → Y) → ((w : Live) → given w → Ends out a (free w.objects) None f) → Whole out a own free given f
 whole_ends out a own free given f p = whole_by f (λ w c h.
     let t = ((p w h).law w).law w.objects (same_itself w.objects) tt in
-    record { licensed = record { gone = None; recycled = λ x e. absurd (cc); vanished = λ x e. absurd (cc); objects = t.rows; no_fewer = t.no_fewer; marked = t.marked; lists = t.lists; connections = t.ties; tune = inl t.tune }; marks = t.marks; told = t.told; tune = t.tune })
+    record { licensed = record { gone = None; recycled = λ x e. absurd (cc); vanished = λ x e. absurd (cc); objects = t.rows; no_fewer = t.no_fewer; traced = t.traced; lists = t.lists; connections = t.ties; tune = inl t.tune }; marks = t.marks; told = t.told; tune = t.tune })
 
 pub whole_quiet : (a : Actor) (own : Option ℕ) (free : List Entry → Freedom) (given : Live → Type 0) (f : Change) → Quiet f → Whole itself a own free given f
 whole_quiet a own free given f q = whole_ends itself a own free given f (λ w h. ends_quiet a (free w.objects) None f q)
@@ -452,7 +452,7 @@ whole_followed out a own free given f g q p = keeps_after f g (λ w v y s t. rec
             vanished = l.vanished;
             objects = subst O s.objects l.objects;
             no_fewer = no_fewer_both w.objects v.objects u.objects (as_many w.objects v.objects (ap (λ (os : List Entry). length os) s.objects)) l.no_fewer;
-            marked = marked_both w.objects v.objects u.objects (marked_as w.objects w.objects v.objects s.objects (marked_itself w.objects)) l.marked;
+            traced = traced_both w.objects v.objects u.objects (traced_as w.objects w.objects v.objects s.objects (traced_itself w.objects)) l.traced;
             lists = subst L s.objects l.lists;
             connections = ties_both a _ _ _ (ties_same a w.board.connections v.board.connections s.ties) l.connections;
             tune = open_both (λ tune. is_master a) _ _ _ (inl s.tune) l.tune;
@@ -477,7 +477,7 @@ whole_quietly a own free given f g p q = keeps_after f g (λ w v u s t. record {
           vanished = λ x e. ap (object_at x) t.objects ∙ l.vanished x e;
           objects = subst O (sym t.objects) l.objects;
           no_fewer = no_fewer_as w.objects v.objects u.objects t.objects l.no_fewer;
-          marked = marked_as w.objects v.objects u.objects t.objects l.marked;
+          traced = traced_as w.objects v.objects u.objects t.objects l.traced;
           lists = subst (SameLists j w.objects) (sym t.objects) l.lists;
           connections = ties_both a _ _ _ l.connections (ties_same a v.board.connections u.board.connections t.ties);
           tune = open_both (λ tune. is_master a) _ _ _ l.tune (inl t.tune);

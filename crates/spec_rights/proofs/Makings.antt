@@ -16,9 +16,9 @@ use Rattle.spec_live.specs.Moving.{moved, with_place}
 use Rattle.spec_live.specs.Making.{free_in, blank_entry, grown, new_object, created, may_make, make_judged, objects_most, owner_judged, create_check}
 use Rattle.spec_live.specs.declared.fault.DbFault.TheVariants.{NoSuchObject, WrongKind, WorldFull}
 use Rattle.spec_live.specs.Setting.{set_at, with_home, with_link, with_level}
-use Rattle.spec_live.specs.Saving.{Marked}
+use Rattle.spec_live.specs.Stood.{Traced}
 use Rattle.spec_live.specs.Lives.{Live}
-use Rattle.spec_live.proofs.Marking.{marked_both, marked_set, marked_created}
+use Rattle.spec_live.proofs.Tracing.{traced_both, traced_set, traced_created}
 use Rattle.spec_live.proofs.Lists.{get_changed_same, read_more, length_changed}
 use Rattle.spec_live.proofs.Readers.{object_changed, object_unchanged, object_elsewhere, object_moved, object_unmoved, list_changed, list_named, mark_changed, mark_named, mark_moved, length_moved}
 use Rattle.spec_live.proofs.CreationLaws.{list_more}
@@ -174,10 +174,10 @@ many_made k kind name owner finished to es =
     omega (arith, same, many_grown k es)
 
 -- what changed is due
-marked_made : (k : ℕ) (kind : Kind) (name : List ℕ) (owner : Dbref) (finished : Object → Object) (to : ℕ) (es : List Entry) → Marked es (set_at finished k (created k kind name owner to es))
-marked_made k kind name owner finished to es =
+traced_made : (k : ℕ) (kind : Kind) (name : List ℕ) (owner : Dbref) (finished : Object → Object) (to : ℕ) (es : List Entry) → Traced es (set_at finished k (created k kind name owner to es))
+traced_made k kind name owner finished to es =
     let made : List Entry = created k kind name owner to es in
-    marked_both es made (set_at finished k made) (marked_created k kind name owner to es) (marked_set k finished made)
+    traced_both es made (set_at finished k made) (traced_created k kind name owner to es) (traced_set k finished made)
 
 -- what is new has no source and wasn't there, and of all else it stays
 told_made : (kind : Kind) (name : List ℕ) (owner : Dbref) (finished : Object → Object) (to : ℕ) (es : List Entry) → (new_in kind name owner finished (free_in es) to).lines ≡ [] → Told es (made_in kind name owner finished to es)
@@ -249,7 +249,7 @@ end_created j kind name owner place finished w p e h =
     let new = h (free_in w.objects) p.1 (number_is w.objects place p.1 k.1) in
     end_objects j w (created_so p.0 kind name owner p.1 finished w) refl (subst D (sym k.0) (differs_made j kind name owner finished p.1 w.objects new)) (subst L (sym k.0) (lists_made j kind name owner finished p.1 w.objects))
     (λ n. mark_open j (dbref_of n) _ _ _ (inl (mark_made p.0 kind name owner finished p.1 w.objects n))) (many_made p.0 kind name owner finished p.1 w.objects)
-    (marked_made p.0 kind name owner finished p.1 w.objects) (subst T (sym k.0) (told_made kind name owner finished p.1 w.objects new.lines))
+    (traced_made p.0 kind name owner finished p.1 w.objects) (subst T (sym k.0) (told_made kind name owner finished p.1 w.objects new.lines))
 
 -- The kinds.
 

@@ -6,10 +6,10 @@ use Rattle.muck_model.specs.declared.dbref.Dbref.{Dbref}
 use Rattle.spec_live.specs.declared.object.Object.{Object}
 use Rattle.spec_live.specs.Objects.{Entry, dbref_of, nothing, home, same, mark_in, number_in, object_at}
 use Rattle.spec_live.specs.Setting.{with_home}
-use Rattle.spec_live.specs.Saving.{Marked}
+use Rattle.spec_live.specs.Stood.{Traced}
 use Rattle.spec_live.specs.Moving.{moved, with_place}
 use Rattle.spec_live.specs.Lives.{Live}
-use Rattle.spec_live.proofs.Marking.{marked_itself, marked_moved}
+use Rattle.spec_live.proofs.Tracing.{traced_itself, traced_moved}
 use Rattle.spec_live.proofs.Readers.{object_moved, object_unmoved, mark_moved, length_moved}
 use Rattle.spec_rights.specs.declared.act.Actor.{Actor}
 use Rattle.spec_rights.specs.declared.act.Act.{Act}
@@ -63,10 +63,10 @@ many_moved es None q = refl
 many_moved es (Some m) None = refl
 many_moved es (Some m) (Some t) = length_moved es m t
 
-marked_came : (es : List Entry) (p q : Option ℕ) → Marked es (moved_at p q es)
-marked_came es None q = marked_itself es
-marked_came es (Some m) None = marked_itself es
-marked_came es (Some m) (Some t) = marked_moved m t es
+traced_came : (es : List Entry) (p q : Option ℕ) → Traced es (moved_at p q es)
+traced_came es None q = traced_itself es
+traced_came es (Some m) None = traced_itself es
+traced_came es (Some m) (Some t) = traced_moved m t es
 
 told_came : (es : List Entry) (p q : Option ℕ) → Told es (moved_at p q es)
 told_came es None q = told_itself es
@@ -79,7 +79,7 @@ unfolding moved_to
 stay_moved j x to w h = stay_objects j w (moved_to x to w) refl (λ n. rows_moved j x to w.objects h n (number_in w.objects x) (number_in w.objects to) refl refl) (lists_came j x to w.objects h (number_in w.objects x) (number_in w.objects to) refl refl)
     (λ n. inl (marks_came n w.objects (number_in w.objects x) (number_in w.objects to)))
     (as_many w.objects (moved_at (number_in w.objects x) (number_in w.objects to) w.objects) (many_moved w.objects (number_in w.objects x) (number_in w.objects to)))
-    (marked_came w.objects (number_in w.objects x) (number_in w.objects to))
+    (traced_came w.objects (number_in w.objects x) (number_in w.objects to))
     (told_came w.objects (number_in w.objects x) (number_in w.objects to))
 
 -- what may be moved freely

@@ -24,7 +24,7 @@ use Rattle.spec_live.specs.Lives.{Live}
 use Rattle.spec_live.specs.Seen.{listed_in}
 use Rattle.spec_live.proofs.Lists.{get_changed_same}
 use Rattle.spec_live.proofs.Readers.{object_elsewhere, object_left, object_moved, object_unmoved, kind_is, mark_elsewhere, mark_left, mark_moved}
-use Rattle.spec_live.proofs.Marking.{marked_itself, marked_recycled}
+use Rattle.spec_live.proofs.Tracing.{traced_itself, traced_recycled}
 use Rattle.spec_live.proofs.Savings.{object_relinked, list_relinked, mark_relinked, length_relinked}
 use Rattle.spec_rights.specs.declared.act.Actor.{Actor}
 use Rattle.spec_rights.specs.declared.act.Act.TheVariants.{Recycle}
@@ -434,7 +434,7 @@ nothing_recycled a free w = record {
     vanished = λ x e. absurd (cc);
     objects = λ n. same_differs n (object_at (dbref_of n) w.objects);
     no_fewer = as_many w.objects w.objects refl;
-    marked = marked_itself w.objects;
+    traced = traced_itself w.objects;
     lists = lists_itself (judge a free w.objects) w.objects;
     connections = ties_itself a w.board.connections;
     tune = inl refl;
@@ -481,7 +481,7 @@ there a free x w h d e t =
         vanished = λ y f. let same : y ≡ dbref_of d = cc in ap (λ z. object_at z (recycled d w.objects)) same ∙ lost_at d w.objects;
         objects = differs_recycled a free d w.objects (ap (number_in w.objects) (sym known) ∙ e) k.0;
         no_fewer = as_many w.objects (recycled d w.objects) (many_recycled d w.objects);
-        marked = marked_recycled d w.objects;
+        traced = traced_recycled d w.objects;
         lists = lists_recycled a free d w.objects (ap (number_in w.objects) (sym known) ∙ e);
         connections = ties_itself a w.board.connections;
         tune = inl refl;

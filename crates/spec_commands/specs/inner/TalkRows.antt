@@ -27,7 +27,7 @@ use Rattle.spec_commands.specs.inner.Company.{held, seats, player_two, queues}
 use Rattle.spec_commands.specs.inner.EditRows.{one}
 
 abbrev pub holding : List ℕ → Object → Entry
-holding contents o = record { object = o; contents = contents; exits = []; mark = None; saving = Done }
+holding contents o = record { object = o; contents = contents; exits = []; mark = None; saving = Done; stood = None }
 
 -- One and Two stand in Room Zero, and Three in Den `#3`; they are connected in this order, and Four, who is with Three, isn't
 abbrev town : Live

@@ -17,6 +17,7 @@ use Rattle.spec_live.specs.declared.saving.Saving.TheVariants.{Done}
 use Rattle.spec_live.specs.Objects.{Entry, dbref_of, plain, object_at, number_in, kind_in, object_in, place_in, list_in}
 use Rattle.spec_live.specs.Chain.{walk}
 use Rattle.spec_live.specs.Seen.{listed_in, places_of}
+use Rattle.spec_live.specs.Stood.{standing}
 use Rattle.spec_live.specs.Boards.{first_tune, early_board}
 use Rattle.spec_live.specs.Lives.{Live}
 use Rattle.spec_live.specs.Start.{room_zero, player_one}
@@ -78,7 +79,7 @@ abbrev pub player_two : Object
 player_two = record (plain Player (codes "Two") (dbref_of 5)) { place = dbref_of 0; home = dbref_of 0; level = 1 }
 
 abbrev pub stored_as : List ℕ → Object → Entry
-stored_as contents o = record { object = o; contents = contents; exits = []; mark = None; saving = Done }
+stored_as contents o = record { object = o; contents = contents; exits = []; mark = None; saving = Done; stood = standing o }
 
 abbrev pub scene : ℕ → List Entry
 scene place = stored_as (1 ∷ 5 ∷ 2 ∷ []) room_hooked ∷ stored_as (4 ∷ 3 ∷ []) (one_at place) ∷ stored_as [] den_hooked ∷ stored_as [] (program_of 1) ∷ stored_as [] (program_of 5) ∷ stored_as [] player_two ∷ []
