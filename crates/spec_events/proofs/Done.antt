@@ -29,7 +29,7 @@ use Rattle.spec_rights.proofs.Leaving.{whole_leave}
 use Rattle.spec_mpi.specs.Touching.{without_props}
 use Rattle.spec_rights.proofs.Shown.{quiet_one, quiet_tell}
 use Rattle.spec_commands.specs.declared.outcome.Outcome.{Outcome}
-use Rattle.spec_commands.specs.declared.outcome.Outcome.TheVariants.{Done, NotMine, Start, Edit, Leave, Dump, Stop, Retune}
+use Rattle.spec_commands.specs.declared.outcome.Outcome.TheVariants.{Done, Said, NotMine, Start, Edit, Leave, Dump, Stop, Retune}
 use Rattle.spec_commands.specs.declared.edit.EditStep.{EditStep}
 use Rattle.spec_commands.specs.declared.edit.EditStep.TheVariants.{Stay, Compile, Left}
 use Rattle.spec_commands.specs.Finding.{actor_of}
@@ -195,6 +195,7 @@ open_followed d player a free start state (Edit program) u own may p =
 open_followed d player a free start state (Start program trigger line arg) u own may p =
     open_quietly a free start state u _ p (quietly_launched d (actor_of u.live.objects player) (record { player = player; program = program; trigger = trigger; command = line; argument = arg }) u)
 open_followed d player a free start state Done u own may p = p
+open_followed d player a free start state (Said pose text) u own may p = p
 open_followed d player a free start state NotMine u own may p = p
 open_followed d player a free start state Dump u own may p = record { licensed = p.licensed; tuned = p.tuned; alive = p.alive; still = p.still }
 open_followed d player a free start state Stop u own may p = record { licensed = p.licensed; tuned = p.tuned; alive = p.alive; still = p.still }
@@ -220,6 +221,7 @@ objects_up d player Leave w = refl
 objects_up d player (Edit program) w = refl
 objects_up d player (Start program trigger line arg) w = (quietly_launched d (actor_of w.live.objects player) (record { player = player; program = program; trigger = trigger; command = line; argument = arg }) w).objects
 objects_up d player Done w = refl
+objects_up d player (Said pose text) w = refl
 objects_up d player NotMine w = refl
 objects_up d player Dump w = refl
 objects_up d player Stop w = refl

@@ -5,15 +5,15 @@ use Rattle.muck_model.specs.declared.event.Event.{Event}
 use Rattle.muck_model.specs.declared.event.Event.TheVariants.{Closed, Exec, Slice, Cut, Stored, DumpFailed}
 use Rattle.spec_live.specs.Objects.{Entry as Object}
 use Rattle.spec_live.specs.Saving.{pending, all_saving}
-use Rattle.spec_live.specs.Lives.{Live}
 use Rattle.spec_live.proofs.Savings.{length_resaved}
+use Rattle.spec_live.proofs.Tracing.{length_stilled}
 use Rattle.spec_commands.specs.Talk.{gone_away}
 use Rattle.spec_rights.proofs.Licences.{as_many, no_fewer_both}
 use Rattle.spec_events.specs.World.{World, connection}
 use Rattle.spec_events.specs.Steps.{effect, happened}
 use Rattle.spec_events.specs.Histories.{after}
 use Rattle.spec_events.proofs.Done.{done_going}
-use Rattle.spec_events.proofs.Happening.{effect-live}
+use Rattle.spec_events.proofs.Happening.{effect-seen}
 use Rattle.spec_events.proofs.Taken.{sliced_going}
 use Rattle.spec_events.proofs.Turns.{gone_away_untouched}
 use Rattle.spec_events.proofs.Reached.{stored-going, failed-going}
@@ -28,7 +28,7 @@ no_fewer_happened (DumpFailed k) w party = (failed-going w).no_fewer
 no_fewer_happened event w party = as_many w.live.objects w.live.objects refl
 
 no_fewer_effect : (w : World) (e : Entry) → length w.live.objects ≤ length (effect w e).live.objects
-no_fewer_effect w e = subst (λ (l : Live). length w.live.objects ≤ length l.objects) (sym (effect-live w e)) (no_fewer_happened e.event w e.party)
+no_fewer_effect w e = effect-seen (λ (os : List Object). length w.live.objects ≤ length os) (λ v le. omega (arith, le, length_stilled v.live.objects)) w e (no_fewer_happened e.event w e.party)
 
 -- behind any entries
 pub no_fewer_after : (w : World) (es : List Entry) → length w.live.objects ≤ length (after w es).live.objects

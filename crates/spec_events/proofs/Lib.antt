@@ -13,6 +13,7 @@ pub mod Modes
 mod Effects
 pub mod Sections
 pub mod Begun
+pub mod Hooking
 pub mod Happening
 pub mod Numbers
 pub mod Taken

@@ -309,8 +309,8 @@ known : (w : World) (entries : List Entry) → IsRising w.live.board.connections
     ((player_in d w.live.board ≡ Some p) × Stays d entries) ⊎ IsKnown w entries d p
 known w [] r l m d p h = inl (h, tt)
 known w (entry ∷ entries) r l m d p h =
-    elim (known (effect w entry) entries (rising_effect w entry l.0 r) l.1 m.1 d p h) [
-      | inl k ↦ elim (gained entry.event entry.party w r (subst (EventLicensed entry.event w) (effect-is w entry) m.0) d p (ap (player_in d) (sym (effect-board w entry)) ∙ k.0)) [
+    elim (known (effect w entry) entries (rising_effect w entry l.0 r) l.1 m.2 d p h) [
+      | inl k ↦ elim (gained entry.event entry.party w r m.0 d p (ap (player_in d) (sym (effect-board w entry)) ∙ k.0)) [
         | inl g ↦ inl (g.0, (g.1, k.1))
         | inr g ↦ inr (inl (g.0, g.1, k.1))
       ]

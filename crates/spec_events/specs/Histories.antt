@@ -27,7 +27,8 @@ AllLawful w (entry ∷ entries) = (is_lawful w entry ≡ true) × AllLawful (eff
 -- each entry changes only what is open where it stands
 abbrev pub AllLicensed : World → List Entry → Type 0
 AllLicensed w [] = Unit {0}
-AllLicensed w (entry ∷ entries) = EventLicensed entry.event w (effect w entry) × AllLicensed (effect w entry) entries
+AllLicensed w (entry ∷ entries) =
+    EventLicensed entry.event w (happened w entry.party entry.event) × OnlyStarts (resting entry.event (happened w entry.party entry.event)) (effect w entry) × AllLicensed (effect w entry) entries
 
 -- A history: how the world began, what happened since, the notes of the disks that stand between, and the note of the links: how
 -- many entries stand before it, and its counts.

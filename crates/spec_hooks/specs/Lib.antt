@@ -1,4 +1,3 @@
 pub mod inner
 pub mod Causes
 pub mod Firing
-pub mod Hooked

@@ -47,7 +47,7 @@ use Rattle.muck_queue.specs.declared.process.Process.{Process}
 use Rattle.muck_queue.specs.Queues.{Queue, empty_queue, has_pid, is_tied_to, on_process, without, told_line, woken, reader, claimed, released, ended_tied}
 use Rattle.spec_processes.specs.ProcessRows.{is_process}
 use Rattle.spec_commands.specs.declared.outcome.Outcome.{Outcome}
-use Rattle.spec_commands.specs.declared.outcome.Outcome.TheVariants.{Done, NotMine, Start, Edit, Leave, Dump, Stop, Retune}
+use Rattle.spec_commands.specs.declared.outcome.Outcome.TheVariants.{Done, Said, NotMine, Start, Edit, Leave, Dump, Stop, Retune}
 use Rattle.spec_commands.specs.declared.edit.EditCommand.{EditCommand}
 use Rattle.spec_commands.specs.declared.edit.EditCommand.TheVariants.{Insert, Delete, Show, Compile as CompileLine, Quit}
 use Rattle.spec_commands.specs.declared.edit.EditStep.{EditStep}
@@ -167,6 +167,7 @@ up_held d player (Edit program) w k h = record {
   editors = editors_put w.live.objects d (Some (editor_on program w.live)) (λ s e. editor_is w.live.objects (editor_on program w.live) s e k) w.live.board.connections h.editors;
 }
 up_held d player Done w k h = h
+up_held d player (Said pose text) w k h = h
 up_held d player NotMine w k h = h
 up_held d player Dump w k h = record { triggers = h.triggers; editors = h.editors }
 up_held d player Stop w k h = record { triggers = h.triggers; editors = h.editors }

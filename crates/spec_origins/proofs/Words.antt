@@ -1,5 +1,5 @@
 -- No line of a player changes the lines that wait, or an editor.
-use Rattle.std.proofs.Common.{◌==◌, ℕ, Bool, List, [], ◌∷◌, Option, Some, None}
+use Rattle.std.proofs.Common.{◌==◌, ℕ, Bool, true, false, List, [], ◌∷◌, Option, Some, None}
 use Rattle.std.specs.Prelude.{Result, Ok, Err, codes}
 use Rattle.std.proofs.lemmas.Bool.{cond_both}
 use Rattle.muck_model.specs.declared.dbref.Dbref.{Dbref}
@@ -18,7 +18,7 @@ use Rattle.spec_rights.proofs.Licences.{keeps_asked}
 use Rattle.spec_mpi.specs.Messages.{heard, variables_of, shown as shown_of, spoken as said_of}
 use Rattle.spec_mpi.proofs.Leave.{heard_touches}
 use Rattle.spec_commands.specs.declared.outcome.Outcome.{Outcome}
-use Rattle.spec_commands.specs.declared.outcome.Outcome.TheVariants.{Done, NotMine}
+use Rattle.spec_commands.specs.declared.outcome.Outcome.TheVariants.{Done, Said, NotMine}
 use Rattle.spec_commands.specs.declared.presence.Presence.{Presence}
 use Rattle.spec_commands.specs.declared.new.New.{New}
 use Rattle.spec_commands.specs.declared.typed.Typed.{Typed}
@@ -211,8 +211,8 @@ sits_inventory d player = search messaging
 plays_play : (d : ℕ) (a : Actor) (typed : Typed) (command : PlayWord) (args : Arguments) → Plays (play_done d a typed command args)
 unfolding play_done
 plays_play d a typed Look args = plays_ended Done _ (keeps_either _ _ _ (sits_looked d a typed) (sits_look d a typed _))
-plays_play d a typed Say args = plays_ended Done _ (sits_said d _ _)
-plays_play d a typed Pose args = plays_ended Done _ (sits_posed d _ _)
+plays_play d a typed Say args = plays_ended (Said false args.first.text) _ (sits_said d _ _)
+plays_play d a typed Pose args = plays_ended (Said true args.first.text) _ (sits_posed d _ _)
 plays_play d a typed Page args = plays_ended Done _ (sits_paged d _ _ _)
 plays_play d a typed Whisper args = plays_ended Done _ (sits_whispered d _ _ _)
 plays_play d a typed Go args = plays_went d a _
