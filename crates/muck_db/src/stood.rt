@@ -1,5 +1,5 @@
 // Where players stood when the event began, and who stands elsewhere now.
-ghost use Rattle.std.specs.Prelude.{◌≡◌, ◌<◌, ◌≤◌, ◌++◌, ℕ, false, Some, if◌then◌else◌, length, map, slice_get, IfOk, OnOk};
+ghost use Rattle.std.specs.Prelude.{◌≡◌, ◌<◌, ◌≤◌, ◌++◌, ℕ, false, Some, None, if◌then◌else◌, length, map, slice_get, IfOk, OnOk};
 ghost use Rattle.spec_live.specs.Objects.{changed_at, is_player};
 ghost use Rattle.spec_live.specs.Stood.{standing, move_of, moves_from};
 ghost use Rattle.muck_db.specs.declared.slot.Slot.{Slot as Entry};
@@ -34,7 +34,7 @@ pub fn none_moved() -> Moves
 
 // Where an object of that kind stands, where it is a player.
 pub fn standing(kind: Kind, place: Dbref) -> Option<Dbref>
-    ensures { result ≡ (if is_player kind then Some place else Option.None) }
+    ensures { result ≡ (if is_player kind then Some place else None) }
 {
     match kind {
         Kind::Player => Some(place),

@@ -1,9 +1,10 @@
 // The objects that a cause meets: a place or a player and its places upward, or a place and what is in it.
-ghost use Rattle.std.specs.Prelude.{◌≡◌, ◌++◌, ◌∷◌, [], not, MatchOption, OnOk};
+ghost use Rattle.std.specs.Prelude.{◌≡◌, ◌++◌, ◌∷◌, [], false, not, MatchOption, OnOk};
 ghost use Rattle.std.specs.List.{filter, flat_map};
 ghost use Rattle.spec_live.specs.Seen.{listed_in, places_of};
 ghost use Rattle.spec_rights.specs.Levels.{is_player_at};
 ghost use Rattle.spec_hooks.specs.Firing.{fired_by};
+ghost use Rattle.muck_hook.specs.Firing.{fired_unplayed};
 
 use crate::fires::push_fires;
 use muck_db::Db;
@@ -26,6 +27,7 @@ fn place_above(db: &Db, object: Dbref) -> Option<Dbref>
 }
 
 // By an object and the places upward from it.
+#[tactic(auto, using(crate::proofs::Listed::upward_more))]
 pub fn upward(
     alloc: Global,
     db: &Db,
@@ -44,14 +46,14 @@ pub fn upward(
 }
 
 // By one object, unless it is a player.
-fn push_thing(
+fn push_other(
     alloc: Global,
     db: &Db,
     cause: &Cause,
     object: Dbref,
     fires: &mut Vec<Fire>,
 ) -> Result<(), NoMemory>
-    ensures { OnOk result (fires.new.items ≡ fires.old.items ++ flat_map (fired_by db.now cause.now) (filter (λ d. not (is_player_at db.now d)) (object ∷ []))) }
+    ensures { OnOk result (fires.new.items ≡ fires.old.items ++ fired_unplayed db.now cause.now object) }
 {
     if is_player_at(db, object) {
         return Ok(());
@@ -59,7 +61,23 @@ fn push_thing(
     push_fires(alloc, db, cause, object, fires)
 }
 
+fn push_others(
+    alloc: Global,
+    db: &Db,
+    cause: &Cause,
+    things: &[Dbref],
+    fires: &mut Vec<Fire>,
+) -> Result<(), NoMemory>
+    ensures { OnOk result (fires.new.items ≡ fires.old.items ++ flat_map (fired_unplayed db.now cause.now) things.now) }
+{
+    for object in things {
+        push_other(alloc, db, cause, *object, fires)?;
+    }
+    Ok(())
+}
+
 // By a place and by what is in it but players.
+#[tactic(auto, using(crate::proofs::Listed::fired_others))]
 pub fn around(
     alloc: Global,
     db: &Db,
@@ -67,11 +85,9 @@ pub fn around(
     place: Dbref,
     fires: &mut Vec<Fire>,
 ) -> Result<(), NoMemory>
-    ensures { OnOk result (fires.new.items ≡ fires.old.items ++ flat_map (fired_by db.now cause.now) (place ∷ filter (λ d. not (is_player_at db.now d)) (listed_in Bool.false place db.now))) }
+    ensures { OnOk result (fires.new.items ≡ fires.old.items ++ flat_map (fired_by db.now cause.now) (place ∷ filter (λ d. not (is_player_at db.now d)) (listed_in false place db.now))) }
 {
+    let things = db.contents(place).collect(alloc)?;
     push_fires(alloc, db, cause, place, fires)?;
-    for object in db.contents(place) {
-        push_thing(alloc, db, cause, object, fires)?;
-    }
-    Ok(())
+    push_others(alloc, db, cause, &things, fires)
 }

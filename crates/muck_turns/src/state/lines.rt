@@ -120,7 +120,7 @@ impl State {
                 self.board.set_tune(tune);
                 Ok(())
             }
-            Outcome::Done | Outcome::NotMine => Ok(()),
+            Outcome::Done | Outcome::Said { .. } | Outcome::NotMine => Ok(()),
         }
     }
 
