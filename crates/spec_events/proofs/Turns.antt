@@ -27,7 +27,8 @@ use Rattle.spec_events.proofs.Endings.{IsTold, processes_remain, tied_remain}
 use Rattle.spec_events.proofs.Done.{none_ends, undisturbed_quietly, turn_licensed, told_by, told_done}
 use Rattle.spec_events.proofs.Taken.{told_sliced}
 use Rattle.spec_events.proofs.Chained.{slice_licensed}
-use Rattle.spec_events.proofs.Happening.{effect-is, effect-live}
+use Rattle.spec_events.proofs.Happening.{effect-seen, effect-starts}
+use Rattle.spec_live.proofs.Tracing.{mark_stilled}
 use Rattle.spec_events.proofs.Numbers.{numbered_effect, rising_starting, rising_booted}
 
 -- what a player does by a line is open to it, and at the login screen no object changes
@@ -90,7 +91,7 @@ told_effect w e h = effect-seen (λ (os : List Kept). (n : ℕ) → mark_in os n
 pub all_licensed : (w : World) (es : List Entry) → IsTold w.live → IsNumbered w.queue → AllLicensed w es
 all_licensed w [] told rising = tt
 all_licensed w (entry ∷ entries) told rising =
-    (event_licensed entry.event w entry.party told rising, effect-starts w entry, all_licensed (effect w entry) entries (told_effect w entry told) (numbered_effect w entry rising))
+    ((event_licensed entry.event w entry.party told rising, effect-starts w entry), all_licensed (effect w entry) entries (told_effect w entry told) (numbered_effect w entry rising))
 
 told_starting : IsTold starting.live
 unfolding starting booted first_objects mark_in

@@ -58,7 +58,7 @@ all_origins w [] told tied = tt
 all_origins w (entry ∷ entries) told tied =
     let c = event_comes entry.event w entry.party told in
     let t = tied_effect entry w c tied in
-    (record { processes = subst (EventOrigins entry.event w) (sym (effect-is w entry)) c; tied = t }, all_origins (effect w entry) entries (told_effect w entry told) t)
+    (record { processes = c; tied = t }, all_origins (effect w entry) entries (told_effect w entry told) t)
 
 -- from any world that was booted with objects of which nothing is to be told
 pub all_origins_booted : (objects : List Kept) (tune : Tune) (moment start : ℕ) → ((n : ℕ) → mark_in objects n ≡ None) → (es : List Entry) → AllOrigins (booted objects tune moment start) es

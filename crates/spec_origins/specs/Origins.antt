@@ -18,7 +18,7 @@ use Rattle.spec_events.specs.World.{World, connection}
 use Rattle.spec_events.specs.Slices.{Taken, queued_command, after_unit, units_of}
 use Rattle.spec_events.specs.Endings.{Lapsed}
 use Rattle.spec_events.specs.Sourced.{Each}
-use Rattle.spec_events.specs.Steps.{effect}
+use Rattle.spec_events.specs.Steps.{effect, happened}
 
 abbrev pub Among : {X : Type 0} → X → List X → Type 0
 Among x [] = ⊥
@@ -129,11 +129,12 @@ AreTied w = Each (λ p. option_map_or (is_connected w) p.descr true ≡ true) w.
 
 -- Histories.
 
-pub record Origins (event : Event) (w v : World) : Type 0 where
+-- from what happened; and then u, behind what is hooked to it, is so that each process has its connection
+pub record Origins (event : Event) (w v u : World) : Type 0 where
   pub processes : EventOrigins event w v
-  pub tied : AreTied v
+  pub tied : AreTied u
 
 -- it is so of each entry where it stands
 abbrev pub AllOrigins : World → List Entry → Type 0
 AllOrigins w [] = Unit {0}
-AllOrigins w (entry ∷ entries) = Origins entry.event w (effect w entry) × AllOrigins (effect w entry) entries
+AllOrigins w (entry ∷ entries) = Origins entry.event w (happened w entry.party entry.event) (effect w entry) × AllOrigins (effect w entry) entries
