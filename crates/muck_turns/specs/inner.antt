@@ -1,3 +1,4 @@
 pub mod Followed
 pub mod Deeds
+pub mod Hooks
 pub mod Limits

@@ -25,6 +25,7 @@ pub mod Living
 pub mod Reached
 pub mod Growing
 pub mod Marking
+pub mod Stilling
 pub mod Runs
 pub mod Logging
 pub mod Owning

@@ -1,3 +1,4 @@
 pub mod inner
 pub mod Causes
 pub mod Firing
+pub mod Told

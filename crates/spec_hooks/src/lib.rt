@@ -3,6 +3,8 @@
 
 mod cause;
 mod rows;
+mod turned;
 
 pub use cause::{Cause, Fire};
 pub use rows::rows_hold;
+pub use turned::Turned;

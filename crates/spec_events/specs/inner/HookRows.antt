@@ -3,6 +3,7 @@ use Rattle.std.specs.Prelude.{◌≡◌, ℕ, ℤ, pos, List, [], ◌∷◌, ◌
 use Rattle.std.proofs.Common.{ap, ◌∙◌}
 use Rattle.spec_live.specs.Objects.{object_at, number_in, kind_in, object_in, place_in}
 use Rattle.spec_live.specs.Boards.{first_tune, early_board}
+use Rattle.spec_live.specs.Stood.{stands_in}
 use Rattle.spec_live.specs.Start.{room_zero, player_one}
 use Rattle.spec_rights.specs.Levels.{is_player_at}
 use Rattle.muf_model.specs.declared.code.Offer.TheVariants.{All}
@@ -51,7 +52,7 @@ abbrev all_called : List Fire → List Fire → World
 all_called out came = started_all (map (call_of moved_out) out ++ (map (call_of moved_in) came ++ [])) (world_at 2 (1 ∷ []))
 
 pub hook_rows : HookRows
-unfolding HookRows causes hooked started_all begun booted starting first_tune early_board object_at number_in kind_in object_in place_in room_zero player_one is_player_at empty_queue number_most is_full added new_process form_at formed hook_command
+unfolding HookRows causes stands_in hooked started_all begun booted starting first_tune early_board object_at number_in kind_in object_in place_in room_zero player_one is_player_at empty_queue number_most is_full added new_process form_at formed hook_command
 hook_rows = (
   refl,
   refl,

@@ -17,7 +17,7 @@ use Rattle.spec_live.specs.declared.saving.Saving.TheVariants.{Done}
 use Rattle.spec_live.specs.Objects.{Entry, dbref_of, plain, object_at, number_in, kind_in, object_in, place_in, list_in}
 use Rattle.spec_live.specs.Chain.{walk}
 use Rattle.spec_live.specs.Seen.{listed_in, places_of}
-use Rattle.spec_live.specs.Stood.{standing}
+use Rattle.spec_live.specs.Stood.{standing, stands_in}
 use Rattle.spec_live.specs.Boards.{first_tune, early_board}
 use Rattle.spec_live.specs.Lives.{Live}
 use Rattle.spec_live.specs.Start.{room_zero, player_one}
@@ -170,7 +170,7 @@ unfolding firing listed_in places_of walk object_at number_in kind_in object_in 
 heard_fires = ap (λ fs. fs ++ (fired_by (scene 0) spoke (dbref_of 2) ++ [])) (zero_fires 0 spoke) ∙ ap (λ fs. by_hooks (scene 0) spoke 0 zero_hooks ++ (fs ++ [])) (den_fires 0 spoke)
 
 pub worked_rows : WorkedRows
-unfolding WorkedRows causes first_tune early_board object_at number_in kind_in object_in place_in room_zero player_one is_player_at
+unfolding WorkedRows causes stands_in first_tune early_board object_at number_in kind_in object_in place_in room_zero player_one is_player_at
 worked_rows = (
   refl,
   refl,

@@ -1,0 +1,191 @@
+// What is hooked to an event: causes, what they fire, and the programs that start.
+ghost use Rattle.std.specs.Prelude.{◌≡◌, ◌++◌, [], ◌∷◌, map, IfOk, OnOk};
+ghost use Rattle.std.specs.List.{flat_map};
+ghost use Rattle.std.specs.Option.{option_map};
+ghost use Rattle.spec_live.specs.Stood.{moves_from};
+ghost use Rattle.spec_hooks.specs.Causes.{heard};
+ghost use Rattle.spec_hooks.specs.Firing.{firing};
+ghost use Rattle.spec_hooks.specs.Told.{of_move, of_moves, told};
+ghost use Rattle.spec_events.specs.Hooked.{call_of, calls_of, started_all};
+ghost use Rattle.spec_events.specs.Starting.{by_hook};
+ghost use Rattle.muck_turns.specs.inner.Hooks.{hooked_told, said_of};
+
+use crate::state::State;
+use crate::state::deeds::DeedFault;
+use muck_hook::fires;
+use muck_model::{Dbref, Line, NoMemory};
+use muck_queue::Mode;
+use muf_model::MufFault;
+use spec_events::{Call, Manner};
+use spec_hooks::{Cause, Fire, Turned};
+use spec_live::Move;
+use std::alloc::Global;
+
+/// What a player said, as others hear it.
+#[derive(Drop)]
+pub(crate) struct Speech {
+    pub player: Dbref,
+    pub text: Line,
+}
+
+fn push_move(causes: &mut Vec<Cause>, moved: &Move) -> Result<(), NoMemory>
+    ensures { OnOk result (causes.new.items ≡ causes.old.items ++ of_move moved) }
+{
+    causes.push(Cause::Depart {
+        player: moved.player,
+        place: moved.from,
+    })?;
+    causes.push(Cause::Arrive {
+        player: moved.player,
+        place: moved.to,
+    })?;
+    Ok(())
+}
+
+fn push_moves(causes: &mut Vec<Cause>, moves: &[Move]) -> Result<(), NoMemory>
+    ensures { OnOk result (causes.new.items ≡ causes.old.items ++ of_moves moves.now) }
+{
+    for moved in moves {
+        push_move(causes, moved)?;
+    }
+    Ok(())
+}
+
+// One whose last connection went is told of before it moved.
+fn push_went(causes: &mut Vec<Cause>, player: Dbref, moves: &[Move]) -> Result<(), NoMemory>
+    ensures { OnOk result (causes.new.items ≡ causes.old.items ++ told (Turned.Went player) moves.now) }
+{
+    let mut at = 0;
+    while at < moves.len() && moves[at].player.0 < player.0 {
+        push_move(causes, &moves[at])?;
+        at += 1;
+    }
+    causes.push(Cause::Disconnect { player })?;
+    push_moves(causes, &moves[at..])
+}
+
+// One whose first connection came is told of behind its move.
+fn push_came(causes: &mut Vec<Cause>, player: Dbref, moves: &[Move]) -> Result<(), NoMemory>
+    ensures { OnOk result (causes.new.items ≡ causes.old.items ++ told (Turned.Came player) moves.now) }
+{
+    let mut at = 0;
+    while at < moves.len() && moves[at].player.0 <= player.0 {
+        push_move(causes, &moves[at])?;
+        at += 1;
+    }
+    causes.push(Cause::Connect { player })?;
+    push_moves(causes, &moves[at..])
+}
+
+fn push_told(causes: &mut Vec<Cause>, turned: Turned, moves: &[Move]) -> Result<(), NoMemory>
+    ensures { OnOk result (causes.new.items ≡ causes.old.items ++ told turned moves.now) }
+{
+    match turned {
+        Turned::Nobody => push_moves(causes, moves),
+        Turned::Went(player) => push_went(causes, player, moves),
+        Turned::Came(player) => push_came(causes, player, moves),
+    }
+}
+
+fn player_of(cause: &Cause) -> Dbref {
+    match cause {
+        Cause::Arrive { player, .. }
+        | Cause::Depart { player, .. }
+        | Cause::Connect { player }
+        | Cause::Disconnect { player }
+        | Cause::Listen { player, .. } => *player,
+    }
+}
+
+// A program is started for the player of the cause.
+fn call_of(alloc: Global, cause: &Cause, fire: Fire) -> Result<Call, NoMemory>
+    ensures { IfOk result (λ call. call ≡ call_of cause.now fire) }
+{
+    let Fire {
+        program,
+        trigger,
+        arg,
+    } = fire;
+    Ok(Call {
+        player: player_of(cause),
+        program,
+        trigger,
+        command: Line::of_text(alloc, b"(hook)")?,
+        argument: arg,
+    })
+}
+
+impl State {
+    /// Behind an event: what is hooked to who moved, to whose connections came or went, and to what was said. Where nobody moved, came, went or spoke, nothing is looked at.
+    pub(crate) fn hook(&mut self, turned: Turned, said: Option<Speech>) -> Result<(), NoMemory>
+        ensures { OnOk result (self.new ≡ hooked_told turned (said_of said) self.old) }
+    {
+        let moves = self.db.moves(self.alloc)?;
+        self.db.settle();
+        let causes = self.causes(turned, said, &moves)?;
+        let calls = self.calls(&causes)?;
+        self.start_all(calls)
+    }
+
+    fn causes(
+        &self,
+        turned: Turned,
+        said: Option<Speech>,
+        moves: &[Move],
+    ) -> Result<Vec<Cause>, NoMemory>
+        ensures { IfOk result (λ causes. causes.items ≡ told turned moves.now ++ heard self.now.live (said_of said)) }
+    {
+        let mut causes = Vec::new(self.alloc);
+        push_told(&mut causes, turned, moves)?;
+        if let Some(Speech { player, text }) = said {
+            let place = self.place_of(player);
+            causes.push(Cause::Listen {
+                player,
+                place,
+                text,
+            })?;
+        }
+        Ok(causes)
+    }
+
+    // What causes fire, as calls.
+    fn calls(&self, causes: &[Cause]) -> Result<Vec<Call>, NoMemory>
+        ensures { IfOk result (λ calls. calls.items ≡ flat_map (calls_of self.now.live.objects) causes.now) }
+    {
+        let mut calls = Vec::new(self.alloc);
+        for cause in causes {
+            self.push_calls(cause, &mut calls)?;
+        }
+        Ok(calls)
+    }
+
+    fn push_calls(&self, cause: &Cause, calls: &mut Vec<Call>) -> Result<(), NoMemory>
+        ensures { OnOk result (calls.new.items ≡ calls.old.items ++ calls_of self.now.live.objects cause.now) }
+    {
+        let fires = fires(self.alloc, &self.db, cause)?;
+        for fire in fires {
+            calls.push(call_of(self.alloc, cause, fire)?)?;
+        }
+        Ok(())
+    }
+
+    // From the first process that a limit refuses, the rest is passed over.
+    fn start_all(&mut self, calls: Vec<Call>) -> Result<(), NoMemory>
+        ensures { OnOk result (self.new ≡ started_all calls.items self.old) }
+    {
+        for call in calls {
+            let manner = Manner {
+                descr: None,
+                mode: Mode::Background,
+                due: self.moment,
+            };
+            match self.begin(manner, call) {
+                Ok(_) => {}
+                Err(DeedFault::Fault(MufFault::ProcessLimit)) => return Ok(()),
+                Err(DeedFault::Fault(_)) => {}
+                Err(DeedFault::NoMemory) => return Err(NoMemory),
+            }
+        }
+        Ok(())
+    }
+}
