@@ -1,5 +1,5 @@
 // What is hooked to an event: causes, what they fire, and the programs that start.
-ghost use Rattle.std.specs.Prelude.{◌≡◌, ◌++◌, [], ◌∷◌, map, IfOk, OnOk};
+ghost use Rattle.std.specs.Prelude.{◌≡◌, ◌++◌, [], ◌∷◌, None, map, IfOk, OnOk};
 ghost use Rattle.std.specs.List.{flat_map};
 ghost use Rattle.std.specs.Option.{option_map};
 ghost use Rattle.spec_live.specs.Stood.{moves_from};
@@ -8,14 +8,18 @@ ghost use Rattle.spec_hooks.specs.Firing.{firing};
 ghost use Rattle.spec_hooks.specs.Told.{of_move, of_moves, told};
 ghost use Rattle.spec_events.specs.Hooked.{call_of, calls_of, started_all};
 ghost use Rattle.spec_events.specs.Starting.{by_hook};
-ghost use Rattle.muck_turns.specs.inner.Hooks.{hooked_told, said_of};
+ghost use Rattle.muck_model.specs.Bytes.{text_fault};
+ghost use Rattle.spec_commands.specs.Talking.{heard_as, pose_tail};
+ghost use Rattle.spec_events.specs.Lines.{spoken_by};
+ghost use Rattle.muck_turns.specs.inner.Hooks.{hooked_told, said_of, is_number, is_alone, came_on, went_of};
 
 use crate::state::State;
 use crate::state::deeds::DeedFault;
 use muck_hook::fires;
-use muck_model::{Dbref, Line, NoMemory};
+use muck_model::{Dbref, Line, NoMemory, TEXT_MOST};
 use muck_queue::Mode;
 use muf_model::MufFault;
+use spec_commands::Outcome;
 use spec_events::{Call, Manner};
 use spec_hooks::{Cause, Fire, Turned};
 use spec_live::Move;
@@ -26,6 +30,36 @@ use std::alloc::Global;
 pub(crate) struct Speech {
     pub player: Dbref,
     pub text: Line,
+}
+
+// What others hear of what was said or posed, who see the name of who spoke in front.
+fn heard_as(alloc: Global, pose: bool, name: &[u8], text: &Line) -> Result<Line, NoMemory>
+    requires { text_fault name.now ≡ None }
+    ensures { IfOk result (λ line. line ≡ heard_as pose name.now text.now) }
+{
+    let mut bytes = Vec::with_capacity(alloc, name.len() + text.as_slice().len() + 10)?;
+    bytes.extend_from_slice(name)?;
+    if pose {
+        push_pose(&mut bytes, text.as_slice())?;
+    } else {
+        bytes.extend_from_slice(b" says, \"")?;
+        bytes.extend_from_slice(text.as_slice())?;
+        bytes.extend_from_slice(b"\"")?;
+    }
+    bytes.truncate(TEXT_MOST);
+    Ok(Line::of_text_vec(bytes))
+}
+
+// What stands behind a player's name: a space comes first, but for an apostrophe.
+fn push_pose(bytes: &mut Vec<u8>, text: &[u8]) -> Result<(), NoMemory>
+    ensures { OnOk result (bytes.new.items ≡ bytes.old.items ++ pose_tail text.now) }
+{
+    match text.first() {
+        Some(first) if *first != b'\'' => bytes.extend_from_slice(b" ")?,
+        _ => {}
+    }
+    bytes.extend_from_slice(text)?;
+    Ok(())
 }
 
 fn push_move(causes: &mut Vec<Cause>, moved: &Move) -> Result<(), NoMemory>
@@ -125,6 +159,70 @@ impl State {
         let causes = self.causes(turned, said, &moves)?;
         let calls = self.calls(&causes)?;
         self.start_all(calls)
+    }
+
+    /// What was said by a line that ended so.
+    pub(crate) fn speech(
+        &self,
+        player: Dbref,
+        outcome: &Outcome,
+    ) -> Result<Option<Speech>, NoMemory>
+        ensures { IfOk result (λ said. said_of said ≡ spoken_by player (self.now.live, outcome.now)) }
+    {
+        let Outcome::Said { pose, text } = outcome else {
+            return Ok(None);
+        };
+        let name = match self.db.get(player) {
+            Some(object) => object.name().as_slice(),
+            None => b"",
+        };
+        Ok(Some(Speech {
+            player,
+            text: heard_as(self.alloc, *pose, name, text)?,
+        }))
+    }
+
+    // It is a number from 0 on, below that of the objects.
+    fn is_number(&self, player: Dbref) -> bool
+        ensures { result ≡ is_number player self.now.live }
+    {
+        player.0 >= 0 && (player.0 as u32) < self.db.count()
+    }
+
+    // No other connection than `d` is of this player.
+    fn is_alone(&self, d: u32, player: Dbref) -> bool
+        ensures { result ≡ is_alone d player self.now.live }
+    {
+        for c in self.board.connections() {
+            if c.is_of(player) && c.number() != d {
+                return false;
+            }
+        }
+        true
+    }
+
+    /// Of which player the first connection came by a line of the connection `d`, whose player was this one before.
+    pub(crate) fn came(&self, d: u32, before: Option<Dbref>) -> Turned
+        ensures { result ≡ came_on d before self.now.live }
+    {
+        match (before, self.player_of(d)) {
+            (None, Some(player)) if self.is_number(player) && self.is_alone(d, player) => {
+                Turned::Came(player)
+            }
+            _ => Turned::Nobody,
+        }
+    }
+
+    /// Of which player the last connection went, where one of it did.
+    pub(crate) fn went(&self, player: Option<Dbref>) -> Turned
+        ensures { result ≡ went_of player self.now.live }
+    {
+        match player {
+            Some(player) if self.is_number(player) && !self.board.is_in(player) => {
+                Turned::Went(player)
+            }
+            _ => Turned::Nobody,
+        }
     }
 
     fn causes(
