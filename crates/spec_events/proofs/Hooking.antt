@@ -3,13 +3,13 @@ use Rattle.std.proofs.Common.{◌≡◌, ◌⊎◌, ℕ, ℤ, pos, ◌+ℤ◌, B
 use Rattle.std.specs.Prelude.{is_some, Result, Ok, Err}
 use Rattle.std.specs.List.{filter_map, flat_map, cons_option}
 use Rattle.std.specs.Option.{option_map_or, option_and_then}
+use Rattle.std.proofs.lemmas.Bool.{cond_both}
 use Rattle.std.proofs.lemmas.Int.{ints}
 use Rattle.muck_model.specs.declared.dbref.Dbref.{Dbref}
 use Rattle.spec_live.specs.declared.object.Object.{Object}
 use Rattle.spec_live.specs.Objects.{Entry, object_at}
 use Rattle.spec_live.specs.Lives.{Live}
 use Rattle.muf_model.specs.declared.fault.MufFault.{MufFault}
-use Rattle.muf_model.specs.declared.fault.MufFault.TheVariants.{ProcessLimit}
 use Rattle.muf_model.specs.Tree.{Tree}
 use Rattle.muf_model.specs.Source.{Source}
 use Rattle.muck_library.specs.Library.{form_at, formed}
@@ -27,7 +27,7 @@ use Rattle.spec_hooks.specs.declared.cause.Cause.{Cause}
 use Rattle.spec_hooks.specs.declared.cause.Fire.{Fire}
 use Rattle.spec_hooks.specs.Causes.{causes}
 use Rattle.spec_hooks.specs.Firing.{directory, argument, values_in, named_program, may_fire, fire_by, fired, fired_by, carriers, firing}
-use Rattle.spec_events.specs.Hooked.{hook_command, call_of, calls_of, and_then, started_all, hooked}
+use Rattle.spec_events.specs.Hooked.{hook_command, call_of, calls_of, is_limit, and_then, started_all, hooked}
 use Rattle.spec_events.specs.OnlyStarts.{IsHooked, OnlyStarts}
 
 -- What is so of each item.
@@ -93,8 +93,8 @@ module _ (es : List Entry) (cause : Cause) where
 -- What stays so where one is started is so behind all.
 module _ (es : List Entry) (P : World → Type 0) (one : (c : Call) (w : World) → w.live.objects ≡ es → IsCall es c → P w → P (begun (by_hook w) c w).0) where
   stepped : (r : World × Result ℤ MufFault) (more : World → World) → P r.0 → (P r.0 → P (more r.0)) → P (and_then r more)
-  stepped (w, Err ProcessLimit) more p k = p
-  stepped (w, r) more p k = k p
+  stepped (w, Ok pid) more p k = k p
+  stepped (w, Err fault) more p k = cond_both (is_limit fault) w (more w) P (λ e. p) (λ e. k p)
 
   pub all_keep : (cs : List Call) → Each (IsCall es) cs → (w : World) → w.live.objects ≡ es → P w → P (started_all cs w)
   unfolding started_all

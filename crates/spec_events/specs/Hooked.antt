@@ -1,5 +1,5 @@
 -- What hooks do behind an event.
-use Rattle.std.specs.Prelude.{ℕ, ℤ, List, [], ◌∷◌, map, codes, Option, Result, Ok, Err}
+use Rattle.std.specs.Prelude.{ℕ, ℤ, Bool, true, false, if◌then◌else◌, List, [], ◌∷◌, map, codes, Option, Result, Ok, Err}
 use Rattle.std.specs.List.{flat_map}
 use Rattle.muck_model.specs.declared.dbref.Dbref.{Dbref}
 use Rattle.spec_live.specs.Objects.{Entry}
@@ -23,10 +23,15 @@ call_of cause f = record { player = player_of cause; program = f.program; trigge
 abbrev pub calls_of : List Entry → Cause → List Call
 calls_of es cause = map (call_of cause) (firing es cause)
 
+-- a limit refuses it
+abbrev pub is_limit : MufFault → Bool
+is_limit ProcessLimit = true
+is_limit fault = false
+
 -- From the first process that a limit refuses, the rest is passed over; of a program that doesn't compile, that one alone.
 abbrev pub and_then : World × Result ℤ MufFault → (World → World) → World
-and_then (w, Err ProcessLimit) more = w
-and_then (w, r) more = more w
+and_then (w, Ok pid) more = more w
+and_then (w, Err fault) more = if is_limit fault then w else more w
 
 -- these are started, one after the other
 unfoldable pub started_all : List Call → World → World

@@ -1,13 +1,14 @@
 // What is hooked to an event: causes, what they fire, and the programs that start.
-ghost use Rattle.std.specs.Prelude.{◌≡◌, ◌++◌, [], ◌∷◌, None, map, IfOk, OnOk};
+ghost use Rattle.std.specs.Prelude.{◌≡◌, ◌++◌, [], ◌∷◌, None, if◌then◌else◌, map, IfOk, OnOk};
 ghost use Rattle.std.specs.List.{flat_map};
 ghost use Rattle.std.specs.Option.{option_map};
 ghost use Rattle.spec_live.specs.Stood.{moves_from};
 ghost use Rattle.spec_hooks.specs.Causes.{heard};
-ghost use Rattle.spec_hooks.specs.Firing.{firing};
+ghost use Rattle.spec_hooks.specs.Firing.{player_of, firing};
 ghost use Rattle.spec_hooks.specs.Told.{of_move, of_moves, told};
-ghost use Rattle.spec_events.specs.Hooked.{call_of, calls_of, started_all};
-ghost use Rattle.spec_events.specs.Starting.{by_hook};
+ghost use Rattle.spec_events.specs.Hooked.{call_of, calls_of, is_limit, and_then, started_all};
+ghost use Rattle.spec_events.specs.Starting.{by_hook, begun};
+ghost use Rattle.spec_events.specs.World.{World};
 ghost use Rattle.muck_model.specs.Bytes.{text_fault};
 ghost use Rattle.spec_commands.specs.Talking.{heard_as, pose_tail};
 ghost use Rattle.spec_events.specs.Lines.{spoken_by};
@@ -121,7 +122,9 @@ fn push_told(causes: &mut Vec<Cause>, turned: Turned, moves: &[Move]) -> Result<
     }
 }
 
-fn player_of(cause: &Cause) -> Dbref {
+fn player_of(cause: &Cause) -> Dbref
+    ensures { result ≡ player_of cause.now }
+{
     match cause {
         Cause::Arrive { player, .. }
         | Cause::Depart { player, .. }
@@ -132,21 +135,50 @@ fn player_of(cause: &Cause) -> Dbref {
 }
 
 // A program is started for the player of the cause.
-fn call_of(alloc: Global, cause: &Cause, fire: Fire) -> Result<Call, NoMemory>
-    ensures { IfOk result (λ call. call ≡ call_of cause.now fire) }
+#[tactic(auto, unfolding(spec_events::specs::Hooked::hook_command))]
+fn call_of(alloc: Global, cause: &Cause, fire: &Fire) -> Result<Call, NoMemory>
+    ensures { IfOk result (λ call. call ≡ call_of cause.now fire.now) }
 {
-    let Fire {
-        program,
-        trigger,
-        arg,
-    } = fire;
     Ok(Call {
         player: player_of(cause),
-        program,
-        trigger,
+        program: fire.program,
+        trigger: fire.trigger,
         command: Line::of_text(alloc, b"(hook)")?,
-        argument: arg,
+        argument: fire.arg.copy(alloc)?,
     })
+}
+
+fn copy_call(alloc: Global, call: &Call) -> Result<Call, NoMemory>
+    ensures { IfOk result (λ copy. copy ≡ call.now) }
+{
+    Ok(Call {
+        player: call.player,
+        program: call.program,
+        trigger: call.trigger,
+        command: call.command.copy(alloc)?,
+        argument: call.argument.copy(alloc)?,
+    })
+}
+
+// Whether a limit refused it.
+fn is_limit(fault: &MufFault) -> bool
+    ensures { result ≡ is_limit fault.now }
+{
+    matches!(fault, MufFault::ProcessLimit)
+}
+
+fn push_calls(
+    alloc: Global,
+    cause: &Cause,
+    fires: &[Fire],
+    calls: &mut Vec<Call>,
+) -> Result<(), NoMemory>
+    ensures { OnOk result (calls.new.items ≡ calls.old.items ++ map (call_of cause.now) fires.now) }
+{
+    for fire in fires {
+        calls.push(call_of(alloc, cause, fire)?)?;
+    }
+    Ok(())
 }
 
 impl State {
@@ -158,7 +190,7 @@ impl State {
         self.db.settle();
         let causes = self.causes(turned, said, &moves)?;
         let calls = self.calls(&causes)?;
-        self.start_all(calls)
+        self.start_all(&calls)
     }
 
     /// What was said by a line that ended so.
@@ -252,36 +284,41 @@ impl State {
     {
         let mut calls = Vec::new(self.alloc);
         for cause in causes {
-            self.push_calls(cause, &mut calls)?;
+            self.fire(cause, &mut calls)?;
         }
         Ok(calls)
     }
 
-    fn push_calls(&self, cause: &Cause, calls: &mut Vec<Call>) -> Result<(), NoMemory>
+    fn fire(&self, cause: &Cause, calls: &mut Vec<Call>) -> Result<(), NoMemory>
         ensures { OnOk result (calls.new.items ≡ calls.old.items ++ calls_of self.now.live.objects cause.now) }
     {
         let fires = fires(self.alloc, &self.db, cause)?;
-        for fire in fires {
-            calls.push(call_of(self.alloc, cause, fire)?)?;
+        push_calls(self.alloc, cause, &fires, calls)
+    }
+
+    // A program is started; whether others may be behind it.
+    fn start_one(&mut self, call: &Call) -> Result<bool, NoMemory>
+        ensures { IfOk result (λ more. (rest : World → World) → and_then (begun (by_hook self.old) call.now self.old) rest ≡ (if more then rest self.new else self.new)) }
+    {
+        let manner = Manner {
+            descr: None,
+            mode: Mode::Background,
+            due: self.moment,
+        };
+        match self.begin(manner, copy_call(self.alloc, call)?) {
+            Ok(_) => Ok(true),
+            Err(DeedFault::Fault(fault)) => Ok(!is_limit(&fault)),
+            Err(DeedFault::NoMemory) => Err(NoMemory),
         }
-        Ok(())
     }
 
     // From the first process that a limit refuses, the rest is passed over.
-    fn start_all(&mut self, calls: Vec<Call>) -> Result<(), NoMemory>
-        ensures { OnOk result (self.new ≡ started_all calls.items self.old) }
+    fn start_all(&mut self, calls: &[Call]) -> Result<(), NoMemory>
+        ensures { OnOk result (self.new ≡ started_all calls.now self.old) }
     {
         for call in calls {
-            let manner = Manner {
-                descr: None,
-                mode: Mode::Background,
-                due: self.moment,
-            };
-            match self.begin(manner, call) {
-                Ok(_) => {}
-                Err(DeedFault::Fault(MufFault::ProcessLimit)) => return Ok(()),
-                Err(DeedFault::Fault(_)) => {}
-                Err(DeedFault::NoMemory) => return Err(NoMemory),
+            if !self.start_one(call)? {
+                return Ok(());
             }
         }
         Ok(())
