@@ -26,6 +26,7 @@ pub mod Reached
 pub mod Growing
 pub mod Marking
 pub mod Stilling
+pub mod Turning
 pub mod Runs
 pub mod Logging
 pub mod Owning

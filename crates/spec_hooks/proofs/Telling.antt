@@ -1,6 +1,7 @@
 -- What is told by who moved and by whose connections came or went is what the worlds say.
 use Rattle.std.proofs.Common.{◌≡◌, ℕ, ◌+◌, ◌<◌, ◌≤◌, zero, suc, pos, Bool, true, false, cond, ltb, int_lt, List, [], ◌∷◌, ◌++◌, length, Option, Some, None, inl, inr, refl, sym, ◌∙◌, ap, subst, arith, append_assoc, append-nil}
-use Rattle.std.proofs.lemmas.Bool.{cases_eq, cases_lt, lt-ltb, le-ltb, false≢true}
+use Rattle.std.proofs.lemmas.Bool.{cases_eq, cases_lt, lt-ltb, le-ltb}
+use Rattle.std.proofs.lemmas.Option.{slice_get_past}
 use Rattle.std.specs.List.{slice_get, flat_map}
 use Rattle.std.specs.Option.{option_map, option_and_then}
 use Rattle.muck_model.specs.declared.dbref.Dbref.{Dbref}
@@ -106,6 +107,9 @@ module _ (turned : Turned) (before after : Live) (t : Turns turned before after)
   rest_here : (n : ℕ) (e : Entry) (es : List Entry) → Rest n (e ∷ es) → slice_get after.objects n ≡ Some e
   rest_here n e es h = ap (slice_get after.objects) (let q : n ≡ n + 0 = omega arith in q) ∙ sym (h 0)
 
+  inside : (n : ℕ) (e : Entry) (es : List Entry) → Rest n (e ∷ es) → n < length after.objects
+  inside n e es h = elim (cases_lt n (length after.objects)) [ inl lt ↦ lt | inr le ↦ absurd (cc (rest_here n e es h, slice_get_past after.objects n le)) ]
+
   -- what is told of one
   here : (n : ℕ) (e : Entry) (es : List Entry) → Rest n (e ∷ es) → moves (dbref_of n) (stands_in before.objects n) (stands_in after.objects n) ≡ of_moves (move_of n e.stood (standing e.object))
   here n e es h =
@@ -125,8 +129,8 @@ module _ (turned : Turned) (before after : Live) (t : Turns turned before after)
 
   one_is : (n : ℕ) (e : Entry) (es : List Entry) → Rest n (e ∷ es) → causes_of before after n ≡ one_told n (is_gone turned (dbref_of n)) (is_come turned (dbref_of n)) (of_moves (move_of n e.stood (standing e.object)))
   one_is n e es h =
-      ap (λ b. one_told n b (has_come before after (dbref_of n)) (moves (dbref_of n) (stands_in before.objects n) (stands_in after.objects n))) (t.gone n)
-      ∙ ap (λ b. one_told n (is_gone turned (dbref_of n)) b (moves (dbref_of n) (stands_in before.objects n) (stands_in after.objects n))) (t.come n)
+      ap (λ b. one_told n b (has_come before after (dbref_of n)) (moves (dbref_of n) (stands_in before.objects n) (stands_in after.objects n))) (t.gone n (inside n e es h))
+      ∙ ap (λ b. one_told n (is_gone turned (dbref_of n)) b (moves (dbref_of n) (stands_in before.objects n) (stands_in after.objects n))) (t.come n (inside n e es h))
       ∙ ap (λ ms. one_told n (is_gone turned (dbref_of n)) (is_come turned (dbref_of n)) ms) (here n e es h)
 
 other_numbers : (k n : ℕ) (p : Dbref) → p ≡ dbref_of k → (k ≡ n → ⊥) → same p (dbref_of n) ≡ false

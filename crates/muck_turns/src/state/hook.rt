@@ -5,14 +5,14 @@ ghost use Rattle.std.specs.Option.{option_map};
 ghost use Rattle.spec_live.specs.Stood.{moves_from};
 ghost use Rattle.spec_hooks.specs.Causes.{heard};
 ghost use Rattle.spec_hooks.specs.Firing.{player_of, firing};
-ghost use Rattle.spec_hooks.specs.Told.{of_move, of_moves, told};
+ghost use Rattle.spec_hooks.specs.Told.{of_move, of_moves, told, is_number, is_alone, came_on, went_of};
 ghost use Rattle.spec_events.specs.Hooked.{call_of, calls_of, is_limit, and_then, started_all};
 ghost use Rattle.spec_events.specs.Starting.{by_hook, begun};
 ghost use Rattle.spec_events.specs.World.{World};
 ghost use Rattle.muck_model.specs.Bytes.{text_fault};
 ghost use Rattle.spec_commands.specs.Talking.{heard_as, pose_tail};
 ghost use Rattle.spec_events.specs.Lines.{spoken_by};
-ghost use Rattle.muck_turns.specs.inner.Hooks.{hooked_told, said_of, is_number, is_alone, came_on, went_of};
+ghost use Rattle.muck_turns.specs.inner.Hooks.{hooked_told, said_of};
 
 use crate::state::State;
 use crate::state::deeds::DeedFault;
