@@ -131,7 +131,12 @@ pub fn settle(slots: &mut Slots)
     slots.all_rest();
 }
 
-fn push_move(moves: &mut Vec<Move>, k: u32, from: Option<Dbref>, to: Option<Dbref>) -> Result<(), NoMemory>
+fn push_move(
+    moves: &mut Vec<Move>,
+    k: u32,
+    from: Option<Dbref>,
+    to: Option<Dbref>,
+) -> Result<(), NoMemory>
     requires { k < 100000 }
     ensures { OnOk result (moves.new.items ≡ moves.old.items ++ move_of k from to) }
 {

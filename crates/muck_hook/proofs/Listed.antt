@@ -26,14 +26,15 @@ joined : {X : Type 0} (o : Option X) (xs : List X) → cons_option o [] ++ xs �
 joined None xs = refl
 joined (Some x) xs = refl
 
+-- the value of what stands directly in a directory
+abbrev direct : List (List ℕ) → List (List ℕ) × PropValue → Option PropValue
+direct dir p = cond (is_below dir p.0 && eqb (length p.0) (length dir + 1)) (Some p.1) None
+
 pub fired_below : (es : List Entry) (cause : Cause) (carrier : Dbref) (dir : List (List ℕ)) (m : PropMap) →
     flat_map (fired_listed es cause carrier) (listed_below dir m) ≡ filter_map (fired es cause carrier) (values_in dir m)
 unfolding listed_below
 fired_below es cause carrier dir m = by_entries (entries m)
   where
-    abbrev one : List (List ℕ) × PropValue → Option PropValue
-    one p = cond (is_below dir p.0 && eqb (length p.0) (length dir + 1)) (Some p.1) None
-
     step : (p : List (List ℕ) × PropValue) (b c : Bool) (ps : List (List (List ℕ) × PropValue)) (vs : List PropValue) → eqb (length (drop (length dir) p.0)) 1 ≡ c →
         flat_map (fired_listed es cause carrier) (map (behind (length dir)) ps) ≡ filter_map (fired es cause carrier) vs →
         flat_map (fired_listed es cause carrier) (map (behind (length dir)) (cond b (p ∷ ps) ps)) ≡ filter_map (fired es cause carrier) (cons_option (cond (b && c) (Some p.1) None) vs)
@@ -44,9 +45,9 @@ fired_below es cause carrier dir m = by_entries (entries m)
     step p true false ps vs e rest =
         ap (λ x. cond x (cons_option (fired es cause carrier p.1) []) [] ++ flat_map (fired_listed es cause carrier) (map (behind (length dir)) ps)) e ∙ rest
 
-    by_entries : (ps : List (List (List ℕ) × PropValue)) → flat_map (fired_listed es cause carrier) (map (behind (length dir)) (filter (λ p. is_below dir p.0) ps)) ≡ filter_map (fired es cause carrier) (filter_map one ps)
+    by_entries : (ps : List (List (List ℕ) × PropValue)) → flat_map (fired_listed es cause carrier) (map (behind (length dir)) (filter (λ p. is_below dir p.0) ps)) ≡ filter_map (fired es cause carrier) (filter_map (direct dir) ps)
     by_entries [] = refl
-    by_entries (p ∷ ps) = step p (is_below dir p.0) (eqb (length p.0) (length dir + 1)) (filter (λ q. is_below dir q.0) ps) (filter_map one ps) (one_longer (length dir) p.0) (by_entries ps)
+    by_entries (p ∷ ps) = step p (is_below dir p.0) (eqb (length p.0) (length dir + 1)) (filter (λ q. is_below dir q.0) ps) (filter_map (direct dir) ps) (one_longer (length dir) p.0) (by_entries ps)
 
 -- those that aren't players, one by one
 pub fired_others : (es : List Entry) (cause : Cause) (ds : List Dbref) → flat_map (fired_unplayed es cause) ds ≡ flat_map (fired_by es cause) (filter (λ d. not (is_player_at es d)) ds)

@@ -112,16 +112,15 @@ module _ (turned : Turned) (before after : Live) (t : Turns turned before after)
 
   -- what is told of one
   here : (n : ℕ) (e : Entry) (es : List Entry) → Rest n (e ∷ es) → moves (dbref_of n) (stands_in before.objects n) (stands_in after.objects n) ≡ of_moves (move_of n e.stood (standing e.object))
+  unfolding stood_in stands_in object_in
   here n e es h =
       ap (λ x. moves (dbref_of n) x (stands_in after.objects n)) (sym (t.stood n) ∙ stood_there (slice_get after.objects n) (rest_here n e es h))
       ∙ ap (λ x. moves (dbref_of n) e.stood x) (stands_there (slice_get after.objects n) (rest_here n e es h)) ∙ moves_same n e.stood (standing e.object)
     where
       stood_there : (o : Option Entry) → slice_get after.objects n ≡ Some e → stood_in after.objects n ≡ e.stood
-      unfolding stood_in
       stood_there o at = ap (λ (q : Option Entry). option_and_then (λ (x : Entry). x.stood) q) at
 
       stands_there : (o : Option Entry) → slice_get after.objects n ≡ Some e → stands_in after.objects n ≡ standing e.object
-      unfolding stands_in object_in
       stands_there o at = ap (λ (q : Option Entry). option_and_then standing (option_map (λ (x : Entry). x.object) q)) at
 
   abbrev one_told : ℕ → Bool → Bool → List Cause → List Cause
@@ -187,7 +186,6 @@ module _ (p : Dbref) (k : ℕ) (is : p ≡ dbref_of k) (before after : Live) whe
   ]
     where
       moves_here : (n : ℕ) (e : Entry) (es : List Entry) → From n (move_of n e.stood (standing e.object) ++ moves_from (suc n) es)
-      unfolding moves_from
       moves_here n e es = moves_later n (e ∷ es)
 
   came_from : (t : Turns (Came p) before after) (n : ℕ) (es : List Entry) → Rest (Came p) before after t n es → n ≤ k → k < n + length es → causes_from before after n es ≡ told (Came p) (moves_from n es)

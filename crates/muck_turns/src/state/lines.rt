@@ -93,12 +93,7 @@ impl State {
 
     // A command of a player is done, with what follows from the objects that it changed and what is to follow it.
     #[tactic(auto, unfolding(spec_events::specs::Lines::in_world))]
-    fn in_world(
-        &mut self,
-        d: u32,
-        player: Dbref,
-        line: &Line,
-    ) -> Result<Option<Speech>, NoMemory>
+    fn in_world(&mut self, d: u32, player: Dbref, line: &Line) -> Result<Option<Speech>, NoMemory>
         ensures world { OnOk result (self.new ≡ in_world d player line.now self.old) }
         ensures said { IfOk result (λ said. said_of said ≡ spoken_by player (typed self.old.queue d (actor_of self.old.live.objects player) line.now self.old.live)) }
     {
