@@ -9,7 +9,7 @@ use Rattle.std.specs.Option.{option_map}
 use Rattle.muck_model.specs.declared.dbref.Dbref.{Dbref}
 use Rattle.muck_model.proofs.Dbrefs.{same_eq, eq_same}
 use Rattle.spec_live.specs.declared.moved.Move.{Move}
-use Rattle.spec_live.specs.Objects.{Entry, dbref_of, is_player}
+use Rattle.spec_live.specs.Objects.{Entry, dbref_of, is_player, kind_in}
 use Rattle.spec_live.specs.Consistent.{IsConsistent}
 use Rattle.spec_live.specs.Stood.{standing, still, stilled, move_of, moves_from}
 use Rattle.spec_live.proofs.Tracing.{mark_stilled, kind_stilled, consistent_stilled}
@@ -64,11 +64,11 @@ noted_pushed m slots w is within k s at moved = elim (cases_eq k (length slots))
 pub pushed_as : (m r : Moves) (slots : List Slot) (n : ℕ) (w : Slot) → r ≡ record m { last = Some n } → n ≡ length slots → AreWithin m.low m.high slots → AreNoted r (slots ++ w ∷ [])
 pushed_as m r slots n w is many within = subst (λ (x : Moves). AreNoted x (slots ++ w ∷ [])) (sym (is ∙ ap (λ z. record m { last = Some z }) many)) (noted_pushed (record m { last = Some (length slots) }) slots w refl within)
 
-pub kept_as : (m r : Moves) (slots : List Slot) (n : ℕ) → r ≡ record m { last = Some n } → AreWithin m.low m.high slots → AreNoted r slots
-kept_as m r slots n is within = subst (λ (x : Moves). AreNoted x slots) (sym is) (noted_within (record m { last = Some n }) slots within)
-
 pub noted_within : (m : Moves) (slots : List Slot) → AreWithin m.low m.high slots → AreNoted m slots
 noted_within m slots within k s at moved = inr (within k s at moved)
+
+pub kept_as : (m r : Moves) (slots : List Slot) (n : ℕ) → r ≡ record m { last = Some n } → AreWithin m.low m.high slots → AreNoted r slots
+kept_as m r slots n is within = subst (λ (x : Moves). AreNoted x slots) (sym is) (noted_within (record m { last = Some n }) slots within)
 
 pub noted_rest : (slots : List Slot) → NoneMoved slots → AreNoted none_moved slots
 noted_rest slots none k s at moved = absurd (false≢true (sym (none k s at) ∙ moved))
@@ -222,11 +222,13 @@ entry_move n slots s = refl
 unmoved_at : (low end m : ℕ) (slots : List Slot) (k : ℕ) (e : Entry) → AreBefore low end slots → slice_get (entries_of slots) k ≡ Some e → (k < low) ⊎ (end ≤ k) → move_at m e ≡ []
 unmoved_at low end m slots k e before at out =
     let found = entry_at slots k e at in
-    ap (λ (x : Entry). move_at m x) found.1.1 ∙ entry_move m slots found.0 ∙ no_move m found.0 (stays_out low end slots k found.0 before found.1.0 out)
+    ap (λ (x : Entry). move_at m x) found.2 ∙ entry_move m slots found.0 ∙ no_move m found.0 (stays_out low end slots k found.0 before found.1 out)
 
 -- none below the first number, and none from the end on
-pub moves_first : (low end : ℕ) (slots : List Slot) → AreBefore low end slots → [] ++ moves_from low (drop low (entries_of slots)) ≡ moves_from 0 (entries_of slots)
-moves_first low end slots before = sym (moves_over 0 low (entries_of slots) (λ k e lt at. unmoved_at low end (0 + k) slots k e before at (inl lt)))
+pub moves_first : (told : List Move) (low end : ℕ) (slots : List Slot) → told ≡ [] → AreBefore low end slots → told ++ moves_from low (drop low (entries_of slots)) ≡ moves_from 0 (entries_of slots)
+moves_first told low end slots none before =
+    ap (λ l. l ++ moves_from low (drop low (entries_of slots))) none ∙ ap (λ m. moves_from m (drop low (entries_of slots))) (let z : low ≡ 0 + low = omega arith in z)
+    ∙ sym (moves_over 0 low (entries_of slots) (λ k e lt at. unmoved_at low end (0 + k) slots k e before at (inl lt)))
 
 get-drop : (i k : ℕ) (es : List Entry) → slice_get es (i + k) ≡ slice_get (drop i es) k
 get-drop zero k es = ap (slice_get es) (let e : 0 + k ≡ k = omega arith in e)
@@ -239,21 +241,26 @@ moves_last told low end i slots before le so =
     ∙ ap (λ l. told ++ l) (sym (moves_past i (drop i (entries_of slots)) (λ k e at. unmoved_at low end (i + k) slots (i + k) e before (get-drop i k (entries_of slots) ∙ at) (inr (omega (arith, le))))))
     ∙ so
 
+there : (slots : List Slot) (i : ℕ) (s : Slot) → slice_get slots i ≡ Some s → slice_get (entries_of slots) i ≡ Some (entry_of slots s)
+unfolding entries_of
+there slots i s at = slice_get-map (entry_of slots) slots i ∙ ap (λ (o : Option Slot). option_map (entry_of slots) o) at
+
 pub moves_more : (told : List Move) (i : ℕ) (slots : List Slot) (s : Slot) → slice_get slots i ≡ Some s → told ++ moves_from i (drop i (entries_of slots)) ≡ moves_from 0 (entries_of slots)
     → (told ++ move_of i s.stood (standing (shown s))) ++ moves_from (i + 1) (drop (i + 1) (entries_of slots)) ≡ moves_from 0 (entries_of slots)
-unfolding moves_from
+unfolding moves_from entry_of
 moves_more told i slots s at so =
     let es : List Entry = entries_of slots in
     append_assoc told (move_of i s.stood (standing (shown s))) (moves_from (i + 1) (drop (i + 1) es))
-    ∙ ap (λ l. told ++ l) (ap (λ m. move_of i s.stood (standing (shown s)) ++ moves_from m (drop (i + 1) es)) (let z : i + 1 ≡ suc i = omega arith in z) ∙ sym (ap (moves_from i) (dropped i es (entry_of slots s) (there slots i s at))))
+    ∙ ap (λ l. told ++ l) (ap (λ m. move_of i s.stood (standing (shown s)) ++ moves_from m (drop m es)) (let z : i + 1 ≡ suc i = omega arith in z) ∙ sym (ap (moves_from i) (dropped i es (entry_of slots s) (there slots i s at))))
     ∙ so
   where
-    there : (slots : List Slot) (i : ℕ) (s : Slot) → slice_get slots i ≡ Some s → slice_get (entries_of slots) i ≡ Some (entry_of slots s)
-    unfolding entries_of
-    there slots i s at = slice_get-map (entry_of slots) slots i ∙ ap (λ (o : Option Slot). option_map (entry_of slots) o) at
-
-    dropped : (i : ℕ) (es : List Entry) (e : Entry) → slice_get es i ≡ Some e → drop i es ≡ e ∷ drop (i + 1) es
+    dropped : (i : ℕ) (es : List Entry) (e : Entry) → slice_get es i ≡ Some e → drop i es ≡ e ∷ drop (suc i) es
     dropped zero [] e h = absurd (cc h)
     dropped zero (x ∷ es) e h = ap (λ (z : Entry). z ∷ es) (same_Some x e h)
     dropped (suc i) [] e h = absurd (cc h)
     dropped (suc i) (x ∷ es) e h = dropped i es e h
+
+pub moves_on : (told new : List Move) (i : ℕ) (slots : List Slot) (s : Slot) (to : Option Dbref) → slice_get slots i ≡ Some s → new ≡ told ++ move_of i s.stood to → to ≡ standing (shown s) →
+    told ++ moves_from i (drop i (entries_of slots)) ≡ moves_from 0 (entries_of slots) → new ++ moves_from (i + 1) (drop (i + 1) (entries_of slots)) ≡ moves_from 0 (entries_of slots)
+moves_on told new i slots s to at is where_to so =
+    ap (λ l. l ++ moves_from (i + 1) (drop (i + 1) (entries_of slots))) (is ∙ ap (λ x. told ++ move_of i s.stood x) where_to) ∙ moves_more told i slots s at so

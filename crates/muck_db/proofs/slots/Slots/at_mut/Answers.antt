@@ -13,7 +13,7 @@ pub invariant_of-self-lent : goal.invariant_of-self-lent
 invariant_of-self-lent c = λ w.
     let P : List Block → Type 0 = λ z. IsCovered (slice_set c.self.inside.table.items c.args.k w) z in (
       subst P (rw (c.put_block.ensures, c.full.ensures) refl) (written c.self.inside.table.items c.self.inside.blocks.items c.args.k w c.self.invariant.0),
-      noted_as c.looked_at.result c.written.result c.self.inside.table.items c.args.k w c.written.ensures (c.looked_at.ensures c.self.invariant.1),
+      noted_as c.looked_at.result c.written-self-inside.result c.self.inside.table.items c.args.k w c.written-self-inside.ensures (c.looked_at.ensures c.self.invariant.1),
     )
 
 pub returns : goal.returns

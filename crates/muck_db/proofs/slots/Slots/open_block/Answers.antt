@@ -1,5 +1,5 @@
 use Rattle.std.proofs.Common.{subst, List, sym, ◌∙◌, ap, ◌++◌, ◌∷◌, []}
-use Rattle.muck_db.specs.inner.Blocks.{IsCovered, full}
+use Rattle.muck_db.specs.inner.Blocks.{IsCovered}
 use Rattle.muck_db.specs.declared.blocks.Block.{Block}
 use Rattle.muck_db.proofs.Blocked.{opened}
 use Rattle.muck_db.proofs.slots.Slots.open_block.Goals as goal

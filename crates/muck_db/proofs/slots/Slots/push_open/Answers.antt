@@ -11,10 +11,10 @@ use Rattle.muck_db.proofs.slots.Slots.push_open.Goals as goal
 pub invariant_of-self : goal.invariant_of-self
 invariant_of-self c =
     let blocks : List Block = c.self.inside.blocks.items in
-    let N : List Slot → Type 0 = λ z. AreNoted c.written.result z in (
+    let N : List Slot → Type 0 = λ z. AreNoted c.written-self-inside.result z in (
       covered_by _ _ (slice_set blocks (c.len.result / 16) full) _ (sym c.in_err-push.ensures.items) (sym (c.put_block.ensures ∙ ap (λ (b : Block). slice_set blocks (c.len.result / 16) b) c.full.ensures))
           (flagged_full c.self.inside.table.items blocks (c.len.result / 16) c.self.invariant.0),
-      subst N (sym c.in_err-push.ensures.items) (kept_as c.looked_at.result c.written.result c.self.inside.table.items _ c.written.ensures (c.looked_at.ensures c.self.invariant.1)),
+      subst N (sym c.in_err-push.ensures.items) (kept_as c.looked_at.result c.written-self-inside.result c.self.inside.table.items _ c.written-self-inside.ensures (c.looked_at.ensures c.self.invariant.1)),
     )
 
 pub invariant_of-self-2 : goal.invariant_of-self-2
@@ -23,8 +23,8 @@ invariant_of-self-2 c =
     let table : List Slot = c.self.inside.table.items in
     let many : c.len.result ≡ length table = c.len.ensures ∙ c.self.inside.table.ok.0 in
     let P : ℕ → Type 0 = λ n. IsCovered (table ++ c.args.slot ∷ []) (slice_set blocks (n / 16) full) in
-    let N : List Slot → Type 0 = λ z. AreNoted c.written.result z in (
+    let N : List Slot → Type 0 = λ z. AreNoted c.written-self-inside.result z in (
       covered_by _ _ (slice_set blocks (c.len.result / 16) full) _ (sym c.in_ok-push.ensures.items) (sym (c.put_block.ensures ∙ ap (λ (b : Block). slice_set blocks (c.len.result / 16) b) c.full.ensures))
           (subst P (sym many) (pushed table blocks c.args.slot c.self.invariant.0)),
-      subst N (sym c.in_ok-push.ensures.items) (pushed_as c.looked_at.result c.written.result table _ c.args.slot c.written.ensures many (c.looked_at.ensures c.self.invariant.1)),
+      subst N (sym c.in_ok-push.ensures.items) (pushed_as c.looked_at.result c.written-self-inside.result table _ c.args.slot c.written-self-inside.ensures many (c.looked_at.ensures c.self.invariant.1)),
     )
