@@ -3,7 +3,7 @@ use Rattle.muck_db.proofs.Moved.{moves_first, moves_on, moves_last}
 use Rattle.muck_db.proofs.stood.moves_of.Goals as goal
 
 pub loop-k-init : goal.loop-k-init
-loop-k-init c = moves_first _ _ _ c.args.slots.now.items c.new-moves.ensures c.moved_within-low.ensures.within
+loop-k-init c = moves_first _ _ _ c.args.slots.now.items c.new-moves.ensures.items c.moved_within-low.ensures.within
 
 pub loop-k-preserved : goal.loop-k-preserved
 loop-k-preserved c = moves_on _ _ c.loop-k.k c.args.slots.now.items _ _ c.at-slot.ensures c.in_ok-push_move.ensures c.stands.ensures c.loop-k.invariant
