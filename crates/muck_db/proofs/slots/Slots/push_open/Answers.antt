@@ -26,5 +26,5 @@ invariant_of-self-2 c =
     let N : List Slot → Type 0 = λ z. AreNoted c.written-self-inside.result z in (
       covered_by _ _ (slice_set blocks (c.len.result / 16) full) _ (sym c.in_ok-push.ensures.items) (sym (c.put_block.ensures ∙ ap (λ (b : Block). slice_set blocks (c.len.result / 16) b) c.full.ensures))
           (subst P (sym many) (pushed table blocks c.args.slot c.self.invariant.0)),
-      subst N (sym c.in_ok-push.ensures.items) (pushed_as c.looked_at.result c.written-self-inside.result table _ c.args.slot c.written-self-inside.ensures many (c.looked_at.ensures c.self.invariant.1)),
+      subst N (sym c.in_ok-push.ensures.items) (pushed_as c.looked_at.result c.written-self-inside.result table _ c.args.slot c.written-self-inside.ensures (c.len-2.ensures ∙ c.self.inside.table.ok.0) (c.looked_at.ensures c.self.invariant.1)),
     )
