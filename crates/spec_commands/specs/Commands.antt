@@ -1,5 +1,5 @@
 -- A line of a player.
-use Rattle.std.specs.Prelude.{ℕ, Bool, false, ◌||◌, ◌==◌, if◌then◌else◌, List, [], ◌∷◌, codes, Option, Some, None}
+use Rattle.std.specs.Prelude.{ℕ, Bool, false, true, ◌||◌, ◌==◌, if◌then◌else◌, List, [], ◌∷◌, codes, Option, Some, None}
 use Rattle.muck_match.specs.declared.exits.ExitHit.{ExitHit}
 use Rattle.muck_match.specs.Exits.{exit_for}
 use Rattle.spec_live.specs.Objects.{dbref_of, nothing}
