@@ -50,11 +50,11 @@ tells n (Some a) (Some b) = at (same a b)
 moves_later : (n : ℕ) (es : List Entry) → From n (moves_from n es)
 unfolding moves_from
 moves_later n [] = tt
-moves_later n (e ∷ es) = at (move_of n e.stood (standing e.object)) (tells n e.stood (standing e.object))
+moves_later n (e ∷ es) = at (move_of n e.stood (standing e.object)) (tells n e.stood (standing e.object)) (moves_later (suc n) es)
   where
-    at : (ms : List Move) → Tells n ms → From n (ms ++ moves_from (suc n) es)
-    at ms (none h) = subst (λ (xs : List Move). From n (xs ++ moves_from (suc n) es)) (sym h) (from_later n (moves_from (suc n) es) (moves_later (suc n) es))
-    at ms (one m p h) = subst (λ (xs : List Move). From n (xs ++ moves_from (suc n) es)) (sym h) (n, p, omega arith)
+    at : (ms : List Move) → Tells n ms → From (suc n) (moves_from (suc n) es) → From n (ms ++ moves_from (suc n) es)
+    at ms (none h) rest = subst (λ (xs : List Move). From n (xs ++ moves_from (suc n) es)) (sym h) (from_later n (moves_from (suc n) es) rest)
+    at ms (one m p h) rest = subst (λ (xs : List Move). From n (xs ++ moves_from (suc n) es)) (sym h) (n, p, omega arith)
 
 -- what one entry tells is what is so of its player
 moves_same : (n : ℕ) (a b : Option Dbref) → moves (dbref_of n) a b ≡ of_moves (move_of n a b)
@@ -132,15 +132,15 @@ module _ (turned : Turned) (before after : Live) (t : Turns turned before after)
       ∙ ap (λ b. one_told n (is_gone turned (dbref_of n)) b (moves (dbref_of n) (stands_in before.objects n) (stands_in after.objects n))) (t.come n (inside n e es h))
       ∙ ap (λ ms. one_told n (is_gone turned (dbref_of n)) (is_come turned (dbref_of n)) ms) (here n e es h)
 
+number_same : (k n : ℕ) → dbref_of k ≡ dbref_of n → k ≡ n
+number_same k n e = cc (ap (λ (x : Dbref). x.0) e)
+
 other_numbers : (k n : ℕ) (p : Dbref) → p ≡ dbref_of k → (k ≡ n → ⊥) → same p (dbref_of n) ≡ false
 other_numbers k n p is ne = at (same p (dbref_of n)) refl
   where
     at : (b : Bool) → same p (dbref_of n) ≡ b → same p (dbref_of n) ≡ false
     at false e = e
-    at true e = absurd (ne (number_same (sym is ∙ eq_same p (dbref_of n) e)))
-
-    number_same : dbref_of k ≡ dbref_of n → k ≡ n
-    number_same e = cc (ap (λ (x : Dbref). x.0) e)
+    at true e = absurd (ne (number_same k n (sym is ∙ eq_same p (dbref_of n) e)))
 
 this_number : (n : ℕ) (p : Dbref) → p ≡ dbref_of n → same p (dbref_of n) ≡ true
 this_number n p is = same_eq p (dbref_of n) is
@@ -213,7 +213,13 @@ module _ (p : Dbref) (k : ℕ) (is : p ≡ dbref_of k) (before after : Live) whe
 
 -- All of them.
 
+zero_first : (k : ℕ) → k ≡ 0 + k
+zero_first k = omega arith
+
+from_first : (es : List Entry) (k : ℕ) → slice_get es k ≡ slice_get es (0 + k)
+from_first es k = ap (λ (i : ℕ). slice_get es i) (zero_first k)
+
 pub told_causes : (turned : Turned) (before after : Live) → Turns turned before after → causes_from before after 0 after.objects ≡ told turned (moves_from 0 after.objects)
-told_causes Nobody before after t = nobody_from before after t 0 after.objects (λ k. refl)
-told_causes (Went p) before after t = went_from p t.below.0 t.below.1 before after t 0 after.objects (λ k. refl) (omega arith) (omega (arith, t.below.2))
-told_causes (Came p) before after t = came_from p t.below.0 t.below.1 before after t 0 after.objects (λ k. refl) (omega arith) (omega (arith, t.below.2))
+told_causes Nobody before after t = nobody_from before after t 0 after.objects (from_first after.objects)
+told_causes (Went p) before after t = went_from p t.below.0 t.below.1 before after t 0 after.objects (from_first after.objects) (omega arith) (omega (arith, t.below.2))
+told_causes (Came p) before after t = came_from p t.below.0 t.below.1 before after t 0 after.objects (from_first after.objects) (omega arith) (omega (arith, t.below.2))
