@@ -12,6 +12,7 @@ use muck_io::{Clock, Gate, Rest, place};
 use muck_links::{Accepted, Links};
 use muck_model::NoMemory;
 use muck_peer::Peer;
+use muck_work::{Job, gives};
 use std::sync::Wait;
 
 // The most links that are open at once.
@@ -112,7 +113,7 @@ impl<'a, W: Wait, L: Links, C: Clock, G: Gate, R: Rest> Desk<'a, W, L, C, G, R> 
                     let mut held = held;
                     let deed = Deed::Open(peer.number());
                     let did = does(&deed, &mut held.state, self.clock, &*self.peers, self.noted);
-                    self.turn.give(self.seat, held, self.rest);
+                    gives(self.turn, self.seat, held, self.rest);
                     match did {
                         Did::Done => {
                             self.peers.push_reserved(peer);
@@ -156,14 +157,17 @@ impl<'a, W: Wait, L: Links, C: Clock, G: Gate, R: Rest> Desk<'a, W, L, C, G, R> 
     {
         match self.works() {
             Ok(worked) => match worked {
-                Worked::Done => Ok(Work::Line),
-                Worked::Claimed(pid) => match self.does(&Deed::Slice(pid)) {
-                    Ok(_) => Ok(Work::Busy),
-                    Err(fault) => Err(fault),
+                Worked::Did(job) => match job {
+                    Job::Line => Ok(Work::Line),
+                    Job::Claim(pid) => match self.does(&Deed::Slice(pid)) {
+                        Ok(_) => Ok(Work::Busy),
+                        Err(fault) => Err(fault),
+                    },
+                    Job::Idle => Ok(Work::Idle),
+                    Job::Died => Err(Fault::NoMemory),
                 },
-                Worked::Idle => Ok(Work::Idle),
+                Worked::Waits => Ok(Work::Idle),
                 Worked::Ready => Ok(Work::Ready),
-                Worked::Dead => Err(Fault::NoMemory),
             },
             Err(fault) => Err(fault),
         }

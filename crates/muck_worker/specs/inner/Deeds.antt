@@ -1,23 +1,18 @@
 -- What a worker does in a turn, and what it knows between turns.
-use Rattle.std.specs.Prelude.{◌≡◌, ℕ, true, false, List, [], ◌∷◌, ◌++◌, Some}
+use Rattle.std.specs.Prelude.{◌≡◌, ℕ, true, false, Some}
 use Rattle.turn_lock.specs.Histories.{StartsWith}
-use Rattle.muck_model.specs.declared.event.Entry.{Entry}
 use Rattle.muck_model.specs.declared.event.Event.{Event}
 use Rattle.muck_model.specs.declared.event.Event.TheVariants.{Claim, StopSeen, Died}
-use Rattle.spec_events.specs.declared.logged.Logged.{Logged}
 use Rattle.spec_events.specs.World.{World}
 use Rattle.spec_events.specs.Steps.{has_claim}
-use Rattle.spec_events.specs.Logged.{is_dump, bare_item, events_of, NoNotes, NoCounts}
+use Rattle.spec_events.specs.Logged.{is_dump, events_of, NoNotes, NoCounts}
 use Rattle.spec_events.specs.Own.{Stage, next, stage_of}
 use Rattle.muck_machine.specs.inner.Seats.{Sight, Chair, Rests, SameLists}
+use Rattle.muck_work.specs.inner.Holds.{HasClaimed}
 use Rattle.muck_worker.specs.declared.deeds.Task.{Task}
 use Rattle.muck_worker.specs.declared.deeds.Task.TheVariants.{Work, Slice, End}
 use Rattle.muck_worker.specs.declared.deeds.Did.{Did}
 use Rattle.muck_worker.specs.declared.deeds.Did.TheVariants.{Went, Idled, Claimed, Stops, Over, Failed}
-
--- an event of a party
-abbrev pub by : ℕ → Event → Entry
-by party event = record { party = party; event = event }
 
 -- what a worker did last that has this to do
 abbrev pub stage_for : Task → Stage
@@ -61,7 +56,7 @@ IsOpen party End w = Unit {0}
 
 -- the claim is the last that the seat has seen
 abbrev pub IsHeld : ℕ → Task → Sight → Type 0
-IsHeld party (Slice pid) v = (front : List Logged) × (v.seen ≡ front ++ bare_item (by party (Claim pid)) ∷ [])
+IsHeld party (Slice pid) v = HasClaimed party pid v
 IsHeld party Work v = Unit {0}
 IsHeld party End v = Unit {0}
 
