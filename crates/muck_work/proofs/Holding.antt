@@ -90,4 +90,4 @@ claim_held whose pid me me' h t claimed =
     in
     ap (λ (es : List Entry). has_claim whose pid (after h.start es)) whole
     ∙ claim_stays h.start (entries_of claimed.0) whose pid (entries_of rest) (subst (AllLawful h.start) whole t.lawful)
-        (others_are whose rest (others_none whose me.0.seen rest (others_since whose me me' h t)))
+    (others_are whose rest (others_none whose me.0.seen rest (others_since whose me me' h t)))

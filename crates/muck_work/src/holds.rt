@@ -35,12 +35,7 @@ pub fn takes<W: Wait, R: Rest>(
 }
 
 /// The world is given back, with one entry more.
-pub fn gives<R: Rest>(
-    turn: &Turn<World>,
-    seat: &mut TurnSeat<World>,
-    held: Held<World>,
-    rest: &R,
-)
+pub fn gives<R: Rest>(turn: &Turn<World>, seat: &mut TurnSeat<World>, held: Held<World>, rest: &R)
     requires own { seat.old.table_id ≡ turn.now.table.shared.table_id }
     requires entered { (whose : ℕ) × (me : Chair) × (item : Logged) × HasEntered whose me seat.old.me held.state item }
     ensures own { (seat.new.table_id ≡ seat.old.table_id) × (seat.new.id ≡ seat.old.id) }

@@ -61,13 +61,7 @@ fn serves(world: &mut World, party: u8) -> Did
     match does_job(world, party) {
         Job::Line => Did::Went,
         Job::Claim(pid) => Did::Claimed(Task::Slice(pid)),
-        Job::Idle => {
-            if stops {
-                Did::Stops
-            } else {
-                Did::Idled
-            }
-        }
+        Job::Idle => { if stops { Did::Stops } else { Did::Idled } }
         Job::Died => Did::Failed,
     }
 }
