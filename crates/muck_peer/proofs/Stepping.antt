@@ -13,7 +13,8 @@ use Rattle.spec_serve.specs.Marks.{LinksNote}
 use Rattle.spec_serve.specs.inner.Keeping.{Peer}
 use Rattle.spec_serve.proofs.Accounting.{keeps_read, keeps_end, keeps_fault, keeps_written, keeps_refusal, agrees_read}
 use Rattle.spec_serve.proofs.Causes.{worked_done}
-use Rattle.muck_peer.specs.Moves.{LinkStep, LinkLoss, PeerStep, IsWorkedOff}
+use Rattle.muck_peer.specs.declared.steps.Want.{Want}
+use Rattle.muck_peer.specs.Moves.{LinkStep, LinkLoss, PeerStep, IsWorkedOff, IsWanted}
 
 -- Calls of the links.
 
@@ -108,6 +109,10 @@ took_count false n a b alive is some room = omega arith
 
 pub took_some : {A : Type 0} (n : ℕ) (old new : A) → 0 < n → (if nat_lt 0 n then new else old) ≡ new
 took_some n old new some = ap (λ (b : Bool). if b then new else old) (lt-ltb 0 n some)
+
+-- what is wanted, by another name
+pub wanted_as : (want other : Want) (p : Peer) (w : World) → want ≡ other → IsWanted want p w → IsWanted other p w
+wanted_as want other p w is i = subst (λ (x : Want). IsWanted x p w) is i
 
 -- what was done, as it is answered
 pub did_so : {A : Type 0} (answer : Bool) (old new : A) → answer ≡ true → (if answer then new else old) ≡ new

@@ -1,5 +1,6 @@
 // What is seen of a link and of the world: whether nothing is left to do, and whether there is a cause to close the connection.
-ghost use Rattle.std.specs.Prelude.{◌≡◌, true, false};
+ghost use Rattle.std.specs.Prelude.{◌≡◌, ◌<◌, [], length, true, false};
+ghost use Rattle.spec_events.specs.World.{queue_of};
 ghost use Rattle.spec_events.specs.Histories.{now};
 ghost use Rattle.muck_peer.specs.Moves.{IsWorkedOff, HasHeard, HasCause};
 
@@ -49,15 +50,28 @@ impl Peer {
         self.is_done(world)
     }
 
-    // Whether the connection is leaving and all output was written.
-    fn may_leave(&self, world: &World) -> bool
+    /// How many bytes wait that may be taken: none where some are kept.
+    pub(crate) fn takeable(&self, world: &World) -> usize
         requires { (now world.now).dead ≡ false }
+        ensures count { self.now.unsent ≡ [] → result ≡ length (queue_of self.now.number (now world.now)) }
+        ensures none { 0 < result → self.now.unsent ≡ [] }
+    {
+        if self.has_unsent() {
+            return 0;
+        }
+        world.queued(self.number)
+    }
+
+    // Whether the connection is leaving and all output was written.
+    fn may_leave(&self, world: &World, takeable: usize) -> bool
+        requires alive { (now world.now).dead ≡ false }
+        requires count { self.now.unsent ≡ [] → takeable ≡ length (queue_of self.now.number (now world.now)) }
         ensures { result ≡ true → HasCause self.now (now world.now) }
     {
         if self.has_unsent() {
             return false;
         }
-        if world.queued(self.number) > 0 {
+        if takeable > 0 {
             return false;
         }
         world.leaving(self.number)
@@ -90,15 +104,16 @@ impl Peer {
         self.is_worked_off(world)
     }
 
-    /// Whether there is a cause to close the connection in this world.
-    pub(crate) fn may_close(&self, world: &World) -> bool
-        requires { (now world.now).dead ≡ false }
+    /// Whether there is a cause to close the connection in this world, for which so many bytes wait that may be taken.
+    pub(crate) fn may_close(&self, world: &World, takeable: usize) -> bool
+        requires alive { (now world.now).dead ≡ false }
+        requires count { self.now.unsent ≡ [] → takeable ≡ length (queue_of self.now.number (now world.now)) }
         ensures { result ≡ true → HasCause self.now (now world.now) }
     {
         if self.faulted {
             return true;
         }
-        if self.may_leave(world) {
+        if self.may_leave(world, takeable) {
             return true;
         }
         self.may_end(world)

@@ -1,10 +1,10 @@
 // Which entry a connection wants next.
-ghost use Rattle.std.specs.Prelude.{◌≡◌, ◌≢◌, ◌<◌, [], ℕ, List, length, true, false};
+ghost use Rattle.std.specs.Prelude.{◌≡◌, ◌≢◌, ◌<◌, [], ℕ, List, IfSome, length, true, false};
 ghost use Rattle.muck_model.specs.declared.event.Event.{Event};
 ghost use Rattle.spec_events.specs.World.{queue_of};
 ghost use Rattle.spec_events.specs.Steps.{is_lawful};
 ghost use Rattle.spec_events.specs.Histories.{now, entered, by_porter};
-ghost use Rattle.muck_peer.specs.Moves.{HasCause, ChoseAs, Clocked, IsUntimed};
+ghost use Rattle.muck_peer.specs.Moves.{HasCause, IsWanted, ChoseAs, Clocked, IsUntimed};
 
 use crate::{Peer, tells_time};
 use muck_io::Clock;
@@ -15,6 +15,19 @@ use muck_model::NoMemory;
 const BYTES_MANY: usize = 4096;
 
 const LINES_MANY: usize = 16;
+
+/// What is to be done for a connection.
+#[derive(Drop)]
+pub enum Want {
+    /// It is closed: there is a cause.
+    Close,
+    /// Of the bytes that wait for it, so many, some are taken.
+    Bytes(usize),
+    /// A line is entered.
+    Line,
+    /// There is a cause to close it, and it isn't there: a moment is entered.
+    Time,
+}
 
 /// What was entered for a connection.
 #[derive(Drop)]
@@ -28,22 +41,49 @@ pub enum Chose {
 }
 
 impl Peer {
-    // Whether so many bytes that wait are taken now.
-    fn takes_now(&self, queued: usize) -> bool {
-        queued > 0 && (!self.waits || queued >= BYTES_MANY)
+    // Whether of so many bytes that wait some are taken now: where they are many; where many lines were entered since, or none may be entered and they aren't held
+    // back. So what comes of many lines goes out in one write.
+    fn takes_now(&self, queued: usize, hears: bool) -> bool
+        ensures { result ≡ true → 0 < queued }
+    {
+        if queued == 0 {
+            return false;
+        }
+        if hears {
+            return queued >= BYTES_MANY || self.entered >= LINES_MANY;
+        }
+        queued >= BYTES_MANY || !self.waits
     }
 
-    /// Whether something is to be done for the connection in this world. Nothing depends on the answer but when it is done.
-    pub fn wants(&self, world: &World) -> bool
-        requires { (now world.now).dead ≡ false }
+    // A cause to close it: where it is there it may be closed.
+    fn wants_end(&self, world: &World) -> Want
+        requires cause { HasCause self.now (now world.now) }
+        ensures { IsWanted result self.now (now world.now) }
     {
-        if self.may_close(world) {
-            return true;
+        if world.may_close(self.number) {
+            return Want::Close;
         }
-        if !self.has_unsent() && self.takes_now(world.queued(self.number)) {
-            return true;
+        Want::Time
+    }
+
+    /// What is to be done for the connection in this world, if anything: it is closed where there is a cause, bytes are taken where none are kept, or a line
+    /// is entered.
+    pub fn wants(&self, world: &World) -> Option<Want>
+        requires { (now world.now).dead ≡ false }
+        ensures { IfSome result (λ want. IsWanted want self.now (now world.now)) }
+    {
+        let queued = self.takeable(world);
+        if self.may_close(world, queued) {
+            return Some(self.wants_end(world));
         }
-        self.cutter.has_line() && world.may_hear(self.number)
+        let hears = self.cutter.has_line() && world.may_hear(self.number);
+        if self.takes_now(queued, hears) {
+            return Some(Want::Bytes(queued));
+        }
+        if hears {
+            return Some(Want::Line);
+        }
+        None
     }
 
     // It is closed.
@@ -73,14 +113,13 @@ impl Peer {
         Chose::Went
     }
 
-    // Bytes are taken.
-    fn takes(&mut self, world: &mut World) -> Chose
+    // Bytes are taken, of so many.
+    fn takes(&mut self, world: &mut World, queued: usize) -> Chose
         requires alive { (now world.old).dead ≡ false }
         requires none { self.old.unsent ≡ [] }
         requires some { 0 < length (queue_of self.old.number (now world.old)) }
         ensures { (event : Event) × (world.new ≡ entered world.old (by_porter event)) × ChoseAs result self.old self.new (now world.old) event × IsUntimed event }
     {
-        let queued = world.queued(self.number);
         self.widens(queued);
         self.takes_some(world)
     }
@@ -106,35 +145,20 @@ impl Peer {
         }
     }
 
-    // Whether bytes are taken before a line is entered: where many wait, or no line may be entered. So what comes of many lines goes out in one write.
-    fn takes_first(&self, world: &World, may_hear: bool) -> bool
-        requires { (now world.now).dead ≡ false }
-        ensures { result ≡ true → (self.now.unsent ≡ []) × (0 < length (queue_of self.now.number (now world.now))) }
-    {
-        if self.has_unsent() {
-            return false;
-        }
-        let queued = world.queued(self.number);
-        queued > 0 && (!may_hear || queued >= BYTES_MANY || self.entered >= LINES_MANY)
-    }
-
-    /// Makes one entry for the connection: it is closed where there is a cause, bytes are taken where none are kept, a line is
-    /// entered, or else a moment.
-    pub fn chooses<C: Clock>(&mut self, world: &mut World, clock: &mut C) -> Chose
-        requires { (now world.old).dead ≡ false }
+    /// Makes one entry for the connection: what it wants.
+    pub fn chooses<C: Clock>(&mut self, want: Want, world: &mut World, clock: &mut C) -> Chose
+        requires alive { (now world.old).dead ≡ false }
+        requires wanted { IsWanted want self.old (now world.old) }
         ensures { (event : Event) × (world.new ≡ entered world.old (by_porter event)) × ChoseAs result self.old self.new (now world.old) event × Clocked (C.answers clock.old) (C.answers clock.new) (now world.old) event }
     {
-        if self.may_close(world) && world.may_close(self.number) {
-            return self.closes(world);
+        match want {
+            Want::Close => self.closes(world),
+            Want::Bytes(queued) => self.takes(world, queued),
+            Want::Line => self.enters(world),
+            Want::Time => {
+                tells_time(world, clock);
+                Chose::Went
+            }
         }
-        let may_hear = self.cutter.has_line() && world.may_hear(self.number);
-        if self.takes_first(world, may_hear) {
-            return self.takes(world);
-        }
-        if may_hear {
-            return self.enters(world);
-        }
-        tells_time(world, clock);
-        Chose::Went
     }
 }
