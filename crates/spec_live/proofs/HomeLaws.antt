@@ -11,7 +11,7 @@ use Rattle.muck_model.specs.declared.dbref.Kind.TheVariants.{Room, Thing, Player
 use Rattle.spec_live.specs.declared.object.Object.{Object}
 use Rattle.spec_live.specs.Flags.{no_flags}
 use Rattle.spec_live.specs.Chain.{Member, IsApart, has, without}
-use Rattle.spec_live.specs.Objects.{Entry, dbref_of, nothing, home, same, index_of, is_exit, is_player, is_garbage, may_stand, garbage, object_in, list_of, list_in, mark_in, kind_in, flags_in, place_in, owner_in, home_in, is_vehicle_in, fits_in, path_in}
+use Rattle.spec_live.specs.Objects.{Entry, dbref_of, nothing, same, index_of, is_exit, is_player, is_garbage, may_stand, garbage, object_in, list_of, list_in, mark_in, kind_in, flags_in, place_in, owner_in, home_in, is_vehicle_in, fits_in, path_in}
 use Rattle.spec_live.specs.Moving.{moved}
 use Rattle.spec_live.specs.Setting.{may_link, may_live}
 use Rattle.spec_live.specs.Recycling.{without_ties, untie, untied, wished_home, may_go, way_home, sent_home}
