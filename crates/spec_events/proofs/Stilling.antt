@@ -1,5 +1,5 @@
 -- Between entries nobody has moved; and behind what happened, where a player stood is where it stands before the entry.
-use Rattle.std.proofs.Common.{◌≡◌, ◌∙◌, ℕ, Bool, true, false, List, Option, Some, None, refl, sym, ap, subst}
+use Rattle.std.proofs.Common.{◌≡◌, ◌∙◌, ℕ, List, Option, sym, ap, subst}
 use Rattle.std.specs.Option.{option_and_then}
 use Rattle.muck_model.specs.declared.event.Entry.{Entry}
 use Rattle.muck_model.specs.declared.event.Event.{Event}
@@ -8,11 +8,11 @@ use Rattle.spec_live.specs.declared.object.Object.{Object}
 use Rattle.spec_live.specs.declared.saving.Saving.{Saving}
 use Rattle.spec_live.specs.Objects.{Entry as Kept, object_in}
 use Rattle.spec_live.specs.Saving.{pending, done, due_again, all_saving}
-use Rattle.spec_live.specs.Stood.{standing, stood_in, stands_in, stilled, IsStill, SameStood}
+use Rattle.spec_live.specs.Stood.{standing, stood_in, stands_in, IsStill, SameStood}
 use Rattle.spec_live.specs.Lives.{Live}
 use Rattle.spec_live.proofs.Savings.{object_resaved}
 use Rattle.spec_live.proofs.Tracing.{stood_resaved, is_stilled, stood_before}
-use Rattle.spec_events.specs.World.{World, on_live, askers_of}
+use Rattle.spec_events.specs.World.{World, askers_of}
 use Rattle.spec_events.specs.Dumping.{resaved, dump_stored, dump_failed, told_each}
 use Rattle.spec_events.specs.Steps.{happened, resting, effect}
 use Rattle.spec_events.proofs.Quietly.{quiet_told_each}

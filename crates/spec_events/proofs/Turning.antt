@@ -17,7 +17,8 @@ use Rattle.spec_live.specs.Boards.{player_in, closed, leaving_one, seated_one}
 use Rattle.spec_live.specs.Lives.{Live, Change, followed, reading, either, tell, leave, enter, on_board}
 use Rattle.spec_rights.specs.declared.act.Actor.{Actor}
 use Rattle.spec_rights.specs.Licence.{SameTies}
-use Rattle.spec_rights.proofs.Licences.{Quiet, ties_same}
+use Rattle.spec_live.proofs.Lives.{Quiet, Loose, loose_quiet}
+use Rattle.spec_rights.proofs.Licences.{ties_same}
 use Rattle.spec_rights.proofs.Shown.{quiet_tell}
 use Rattle.spec_commands.specs.Texts.{first_word, other_words, trimmed, is_alike}
 use Rattle.spec_commands.specs.Replies.{goodbye}
@@ -25,7 +26,7 @@ use Rattle.spec_commands.specs.Finding.{actor_of}
 use Rattle.spec_commands.specs.Talking.{is_connected, who_shown}
 use Rattle.spec_commands.specs.Talk.{welcome, refused_login, proved, let_in, logged_in, connecting, quit, at_login, waits, parted, gone_away}
 use Rattle.spec_commands.specs.inner.Rising.{IsAbove, IsRising}
-use Rattle.spec_commands.proofs.Showing.{quiet_who_shown, quiet_waits}
+use Rattle.spec_commands.proofs.Showing.{quiet_who_shown, loose_waits}
 use Rattle.spec_commands.proofs.Lines.{quiet_parted}
 use Rattle.spec_hooks.specs.declared.turned.Turned.{Turned}
 use Rattle.spec_hooks.specs.declared.turned.Turned.TheVariants.{Nobody, Came, Went}
@@ -82,10 +83,13 @@ seats_ties a (c ∷ cs) [] h = absurd h
 seats_ties a (c ∷ cs) (d ∷ ds) h =
     ap (λ n. (n, d.player) ∷ seats_of ds) h.0 ∙ ap (λ p. (c.number, p) ∷ seats_of ds) h.1 ∙ ap (λ xs. (c.number, c.player) ∷ xs) (seats_ties a cs ds h.3)
 
-seats_quiet : (f : Change) → Quiet f → (w : Live) → seats (f w) ≡ seats w
-seats_quiet f q w =
+seats_loose : (f : Change) → Loose f → (w : Live) → seats (f w) ≡ seats w
+seats_loose f q w =
     let a : Actor = record { level = 0; user = nothing; player = nothing } in
     seats_ties a w.board.connections (f w).board.connections (ties_same a w.board.connections (f w).board.connections (q.law w).ties)
+
+seats_quiet : (f : Change) → Quiet f → (w : Live) → seats (f w) ≡ seats w
+seats_quiet f q w = seats_loose f (loose_quiet f q) w
 
 seats_changed : (d : ℕ) (f : Connection → Connection) → ((c : Connection) → (f c).number ≡ c.number) → ((c : Connection) → (f c).player ≡ c.player) → (cs : List Connection) → seats_of (changed_in d f cs) ≡ seats_of cs
 seats_changed d f number player [] = refl
@@ -454,7 +458,7 @@ unfolding given_line
 sits_given d pid line lines w = at (is_abort line)
   where
     waited : seats (waits d lines w.live) ≡ seats w.live
-    waited = seats_quiet (waits d lines) (quiet_waits d lines) w.live
+    waited = seats_loose (waits d lines) (loose_waits d lines) w.live
 
     at : (b : Bool) → Sits d w.live (cond b (on_live (tell d program_aborted) (on_queue (process_without pid) (on_live (waits d lines) w))) (on_queue (on_process pid (told_line w.moment line)) (on_live (waits d lines) w))).live
     at true = inl (seats_quiet (tell d program_aborted) (quiet_tell d program_aborted) (waits d lines w.live) ∙ waited)
@@ -470,7 +474,7 @@ sits_line : (d : ℕ) (r : Option ℤ) (player : Option Dbref) (editor : Option 
 sits_line d (Some pid) player editor line lines w free l = sits_given d pid line lines w
 sits_line d None (Some player) editor line lines w free l = inl (seats_ties (actor_of w.live.objects player) w.live.board.connections _ l.0.connections)
 sits_line d None None editor line lines w free l =
-    let waited : seats (waits d lines w.live) ≡ seats w.live = seats_quiet (waits d lines) (quiet_waits d lines) w.live in
+    let waited : seats (waits d lines w.live) ≡ seats w.live = seats_loose (waits d lines) (loose_waits d lines) w.live in
     sits_behind d w.live (waits d lines w.live) _ waited (sits_at_login d line (waits d lines w.live) (subst (IsFree d) (sym waited) (free refl)))
 
 sits_lines : (d : ℕ) (player : Option Dbref) (editor : Option EditState) (lines : List (List ℕ)) (w : World) → (player ≡ None → IsFree d (seats w.live)) →

@@ -34,6 +34,7 @@ impl State {
     }
 
     // That alone.
+    #[tactic(auto, unfolding(spec_events::specs::Slices::sliced))]
     fn take_slice(&mut self, pid: i32) -> Result<(), NoMemory>
         ensures { OnOk result (self.new ≡ happened self.old 0 (Event.Slice pid)) }
     {

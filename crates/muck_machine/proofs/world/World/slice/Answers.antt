@@ -55,4 +55,4 @@ returns-clause-licensed c =
     (told_licensed c.self.inside.past c.conclude.new.self _ _ _ c.self.invariant c.self.view_is c.in_ok-conclude.ensures.past)
 
 pub returns-clause-whole : goal.returns-clause-whole
-returns-clause-whole c = λ ran. (returns-clause-licensed c).whole
+returns-clause-whole c = λ ran. (returns-clause-licensed c).0.whole

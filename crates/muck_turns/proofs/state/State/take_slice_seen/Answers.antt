@@ -5,7 +5,7 @@ use Rattle.spec_events.specs.World.{World, on_queue}
 use Rattle.muck_turns.specs.contracts.state.State as state
 use Rattle.muck_turns.proofs.Slices.{slice_so}
 use Rattle.muck_turns.proofs.Seeing.{slice_told}
-use Rattle.muck_turns.proofs.state.State.slice_seen.Goals as goal
+use Rattle.muck_turns.proofs.state.State.take_slice_seen.Goals as goal
 
 pub returns-clause-same : goal.returns-clause-same
 returns-clause-same g c =
