@@ -4,7 +4,7 @@ use Rattle.muck_queue.specs.Queues.{released, on_process, woken}
 use Rattle.spec_events.specs.World.{World, on_queue}
 use Rattle.muck_turns.specs.contracts.state.State as state
 use Rattle.muck_turns.proofs.Slices.{slice_so}
-use Rattle.muck_turns.proofs.state.State.slice.Goals as goal
+use Rattle.muck_turns.proofs.state.State.take_slice.Goals as goal
 
 pub returns : goal.returns
 returns c =
