@@ -4,6 +4,7 @@ ghost use Rattle.std.specs.List.{list_all};
 ghost use Rattle.muck_store.specs.Limits.{is_digit, is_digest, fits};
 
 use muck_codec::Stored;
+use muck_model::LINES_MOST;
 
 fn are_digits(bytes: &[u8]) -> bool
     ensures { result ≡ list_all is_digit bytes.now }
@@ -30,6 +31,6 @@ pub fn fits(record: &Stored) -> bool
         && name <= 80
         && record.level <= 3
         && record.flags.0 < 16_384
-        && record.lines.len() <= 4_096
+        && record.lines.len() <= LINES_MOST
         && is_digest(record.digest.as_slice())
 }

@@ -9,7 +9,7 @@ use Rattle.muck_prop.specs.declared.path.PropFault.{PropFault}
 use Rattle.muck_prop.specs.Paths.{class_of, path_fault, segments_of}
 use Rattle.spec_live.specs.declared.fault.DbFault.{DbFault}
 use Rattle.spec_live.specs.declared.object.Object.{Object}
-use Rattle.spec_live.specs.Objects.{Entry, dbref_of, nothing, home, same}
+use Rattle.spec_live.specs.Objects.{Entry, dbref_of, nothing, home, same, on_object}
 use Rattle.spec_live.specs.Making.{create_check}
 use Rattle.spec_live.specs.Lives.{Live, Change, followed, ◌▸◌, reading, tell}
 use Rattle.spec_rights.specs.declared.act.Actor.{Actor}
@@ -18,7 +18,9 @@ use Rattle.spec_rights.specs.declared.act.Act.TheVariants.{Move, Link, NewRoom, 
 use Rattle.spec_rights.specs.Verdict.{verdict, is_master, is_guarded}
 use Rattle.spec_rights.specs.Changing.{moved_to, created_so}
 use Rattle.spec_rights.specs.Licence.{Freedom, IsNew}
+use Rattle.spec_live.proofs.Steps.{kept as bare, homed, linked, Touches}
 use Rattle.spec_rights.proofs.Rights.{SameRights}
+use Rattle.spec_rights.proofs.Walking.{silent, finishes}
 use Rattle.spec_rights.proofs.Licences.{judge, Quiet, Stay, End, Ends, itself, ends_quiet, ends_stays, ends_by, stays_by}
 use Rattle.spec_rights.proofs.Makings.{new_in, end_created, room_open, thing_open, exit_open, player_open}
 use Rattle.spec_rights.proofs.Behind.{Trailing, trailing_quiet}
@@ -49,37 +51,37 @@ unfolding created_shown
 quiet_created_shown d n = search shown
 
 -- where the world allows it an object is made, and what comes behind it ends as is open too
-pub ends_founded : (a : Actor) (free : Freedom) (act : Act) (d : ℕ) (kind : Kind) (name : List ℕ) (place : Dbref) (f : Object → Object) (after : ℕ → Change) →
+pub ends_founded : (a : Actor) (free : Freedom) (act : Act) (d : ℕ) (kind : Kind) (name : List ℕ) (place : Dbref) (f : Object → Object) (after : ℕ → Change) → ((e : Entry) → Touches silent false e (on_object f e)) →
     ((start es : List Entry) (k t : ℕ) → SameRights start es → verdict es a act ≡ None → place ≡ dbref_of t → IsNew (judge a free start) (dbref_of k) (new_in kind name a.user f k t)) →
     ((start es : List Entry) (n : ℕ) → verdict es a act ≡ None → Trailing (judge a free start) (after n)) →
     Ends itself a free (Some act) (reading (λ w. create_check kind a.user place w.objects) (λ check. made_at check (λ n to. created_so n kind name a.user to f ▸ after n) (tell d cant_be_done)))
 unfolding reading followed
-ends_founded a free act d kind name place f after new behind = ends_by _ (λ start w s g. at start w s g (create_check kind a.user place w.objects) refl)
+ends_founded a free act d kind name place f after touch new behind = ends_by _ (λ start w s g. at start w s g (create_check kind a.user place w.objects) refl)
   where
     at : (start : List Entry) (w : Live) → SameRights start w.objects → verdict w.objects a act ≡ None → (check : Result (ℕ × ℕ) DbFault) → create_check kind a.user place w.objects ≡ check →
         End (judge a free start) w (made_at check (λ n to. created_so n kind name a.user to f ▸ after n) (tell d cant_be_done) w)
     at start w s g (Ok p) e =
         let v : Live = created_so p.0 kind name a.user p.1 f w in
-        ((behind start w.objects p.0 g).law v).law w (end_created (judge a free start) kind name a.user place f w p e (λ k t q. new start w.objects k t s g q))
+        ((behind start w.objects p.0 g).law v).law w (end_created (judge a free start) kind name a.user place f w p e touch (λ k t q. new start w.objects k t s g q))
     at start w s g (Err fault) e = ((ends_quiet a free (Some act) (tell d cant_be_done) (quiet_tell d cant_be_done)).law w).law start s g
 
-ends_making : (a : Actor) (free : Freedom) (act : Act) (d : ℕ) (kind : Kind) (name : List ℕ) (place : Dbref) (f : Object → Object) →
+ends_making : (a : Actor) (free : Freedom) (act : Act) (d : ℕ) (kind : Kind) (name : List ℕ) (place : Dbref) (f : Object → Object) → ((e : Entry) → Touches silent false e (on_object f e)) →
     ((start es : List Entry) (k t : ℕ) → SameRights start es → verdict es a act ≡ None → place ≡ dbref_of t → IsNew (judge a free start) (dbref_of k) (new_in kind name a.user f k t)) →
     Ends itself a free (Some act) (making d a kind name place f)
 unfolding making
-ends_making a free act d kind name place f new =
-    ends_founded a free act d kind name place f (created_shown d) new (λ start es n g. trailing_quiet (judge a free start) (created_shown d n) (quiet_created_shown d n))
+ends_making a free act d kind name place f touch new =
+    ends_founded a free act d kind name place f (created_shown d) touch new (λ start es n g. trailing_quiet (judge a free start) (created_shown d n) (quiet_created_shown d n))
 
 -- a player, by leave for wizards alone
 pub player_founded : (a : Actor) (free : Freedom) (d : ℕ) (name : List ℕ) (place : Dbref) (after : ℕ → Change) → ((start : List Entry) (n : ℕ) → is_master a ≡ true → Trailing (judge a free start) (after n)) →
     Ends itself a free (Some Wizard) (reading (λ w. create_check PlayerKind a.user place w.objects) (λ check. made_at check (λ n to. created_so n PlayerKind name a.user to (λ o. o) ▸ after n) (tell d cant_be_done)))
 player_founded a free d name place after behind =
-    ends_founded a free Wizard d PlayerKind name place (λ o. o) after (λ start es k t s g e. player_open a free start es name a.user k t g) (λ start es n g. behind start n (wizard_allowed es a g))
+    ends_founded a free Wizard d PlayerKind name place (λ o. o) after (finishes bare) (λ start es k t s g e. player_open a free start es name a.user k t g) (λ start es n g. behind start n (wizard_allowed es a g))
 
 making_new : (a : Actor) (free : Freedom) (d : ℕ) (new : New) (name : List ℕ) (place : Dbref) → Ends itself a free (Some (act_in place new)) (making d a (kind_of new) name place (as_new new))
-making_new a free d Room name place = ends_making a free (NewRoom place) d RoomKind name place (as_new Room) (λ start es k t s g e. room_open a free start es name place k t s g e)
-making_new a free d (Thing at) name place = ends_making a free (NewThing place) d ThingKind name place (as_new (Thing at)) (λ start es k t s g e. thing_open a free start es name place at k t s g e)
-making_new a free d (Exit to) name place = ends_making a free (NewExit place to) d ExitKind name place (as_new (Exit to)) (λ start es k t s g e. exit_open a free start es name place to k t s g e)
+making_new a free d Room name place = ends_making a free (NewRoom place) d RoomKind name place (as_new Room) (finishes bare) (λ start es k t s g e. room_open a free start es name place k t s g e)
+making_new a free d (Thing at) name place = ends_making a free (NewThing place) d ThingKind name place (as_new (Thing at)) (finishes (homed at)) (λ start es k t s g e. thing_open a free start es name place at k t s g e)
+making_new a free d (Exit to) name place = ends_making a free (NewExit place to) d ExitKind name place (as_new (Exit to)) (finishes (linked to)) (λ start es k t s g e. exit_open a free start es name place to k t s g e)
 
 pub made_open : (a : Actor) (free : Freedom) (d : ℕ) (new : New) (name : List ℕ) (place : Dbref) → Ends itself a free None (made d a new name place)
 unfolding made

@@ -2,13 +2,14 @@
 use Rattle.std.proofs.Common.{ℕ, Bool, true, false, List, [], ◌∷◌, Option, Some, None}
 use Rattle.muck_model.specs.declared.dbref.Dbref.{Dbref}
 use Rattle.spec_live.specs.Lives.{tell}
-use Rattle.spec_rights.proofs.Licences.{Quiet, quiet_unchanged}
+use Rattle.spec_rights.specs.Licence.{nobody}
+use Rattle.spec_rights.proofs.Licences.{Quiet, stays_goes, quiet_unchanged}
 use Rattle.spec_rights.proofs.Shown.{quiet_tell}
 use Rattle.spec_commands.specs.Replies.{goodbye, has_disconnected}
 use Rattle.spec_live.proofs.Keeping.{keeps_followed, keeps_reading, keeps_either}
 use Rattle.spec_commands.specs.Talk.{welcome, refused_login, let_in, logged_in, connecting, quit, at_login, parting, parted}
 use Rattle.spec_commands.proofs.Numbered.{Seating, seating_order, seating_quiet, seating_notes, seating_leave, seating_enter}
-use Rattle.spec_commands.proofs.Showing.{quiet_shown_others, quiet_who_shown}
+use Rattle.spec_commands.proofs.Showing.{quiet_shown_others, quiet_who_shown, stays_looked}
 use Rattle.spec_commands.proofs.Noted.{notes_looked}
 
 -- The login screen.
@@ -22,7 +23,7 @@ seating_quit d = keeps_followed _ _ (seating_order d) (seating_tell d goodbye) (
 
 seating_let_in : (d : ℕ) (player : Option Dbref) → Seating d (let_in d player)
 seating_let_in d None = seating_tell d refused_login
-seating_let_in d (Some player) = keeps_followed _ _ (seating_order d) (seating_enter d player) (keeps_reading _ _ (λ a. keeps_followed _ _ (seating_order d) (seating_quiet d _ (quiet_shown_others player _)) (seating_notes d _ (notes_looked d a _))))
+seating_let_in d (Some player) = keeps_followed _ _ (seating_order d) (seating_enter d player) (keeps_reading _ _ (λ a. keeps_followed _ _ (seating_order d) (seating_quiet d _ (quiet_shown_others player _)) (seating_notes d _ (notes_looked d a _) (stays_goes a nobody _ (stays_looked a nobody None d _)))))
 
 seating_logged_in : (d : ℕ) (name word : List ℕ) → Seating d (logged_in d name word)
 unfolding logged_in

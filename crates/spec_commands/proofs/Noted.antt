@@ -1,5 +1,5 @@
 -- What players see by messages touches notes alone: properties, what waits to be sent and the state of the random numbers.
-use Rattle.std.proofs.Common.{◌≡◌, ℕ, zero, suc, true, false, cond, List, [], ◌∷◌, refl, sym, ◌∙◌, ap, Option, Some, None}
+use Rattle.std.proofs.Common.{◌≡◌, ℕ, zero, suc, cond, List, [], ◌∷◌, refl, sym, ◌∙◌, ap, Option, Some, None}
 use Rattle.std.specs.Prelude.{map, slice_get}
 use Rattle.std.specs.Option.{option_map, option_map_or, option_and_then}
 use Rattle.std.specs.FinMap as props
@@ -9,18 +9,17 @@ use Rattle.spec_live.specs.declared.object.Object.{Object}
 use Rattle.spec_live.specs.Objects.{Entry, nothing, is_garbage, index_of, object_in, kind_in, number_in, object_at}
 use Rattle.spec_rights.specs.Verdict.{place_of}
 use Rattle.muck_model.specs.declared.dbref.Dbref.{Dbref}
-use Rattle.spec_live.specs.Connections.{Connection, has_number, changed_in, told}
-use Rattle.spec_live.specs.Boards.{told_one}
 use Rattle.spec_live.specs.Lives.{Change, unchanged, tell, tell_others}
 use Rattle.spec_live.proofs.Keeping.{Keeps, keeping, keeps_followed, keeps_reading, keeps_unchanged}
 use Rattle.spec_rights.specs.declared.act.Actor.{Actor}
 use Rattle.spec_mpi.specs.Messages.{heard, variables_of, shown, spoken as said_of}
-use Rattle.spec_live.proofs.Marking.{marked_itself}
-use Rattle.spec_mpi.specs.Touching.{without_props, without_output, TouchesNotes}
+use Rattle.spec_mpi.specs.Touching.{without_props, TouchesNotes}
 use Rattle.spec_mpi.proofs.Leave.{heard_touches}
-use Rattle.spec_mpi.proofs.Deeds.{touching_order, touching_others}
+use Rattle.spec_rights.proofs.Shown.{quiet_tell, quiet_tell_others}
+use Rattle.spec_mpi.proofs.Deeds.{touching_order, notes_quiet}
 use Rattle.spec_commands.specs.declared.typed.Typed.{Typed}
 use Rattle.spec_commands.specs.declared.word.Message.{Message}
+use Rattle.spec_commands.proofs.Showing.{quiet_shown_others, quiet_listed}
 use Rattle.spec_commands.specs.Messages.{message_how, spoken, spoken_some, with_message}
 use Rattle.spec_commands.specs.Going.{both_shown}
 use Rattle.spec_commands.specs.Finding.{shown_others, message_shown, message_to_others, listed, listed_under, room_shown, looked}
@@ -28,23 +27,14 @@ use Rattle.spec_commands.specs.Finding.{shown_others, message_shown, message_to_
 abbrev pub Notes : Change → Type 0
 Notes f = Keeps TouchesNotes f
 
-mute-changed_in : (d : ℕ) (text : List ℕ) (cs : List Connection) → map without_output (changed_in d (told text) cs) ≡ map without_output cs
-mute-changed_in d text [] = refl
-mute-changed_in d text (c ∷ cs) =
-    elim (has_number d c) as (λ b. map without_output (cond b (told text c ∷ cs) (c ∷ changed_in d (told text) cs)) ≡ map without_output (c ∷ cs)) [
-      | true ↦ refl
-      | false ↦ ap (λ ds. without_output c ∷ ds) (mute-changed_in d text cs)
-    ]
-
 notes_unchanged : Notes unchanged
 notes_unchanged = keeps_unchanged touching_order
 
 notes_tell : (d : ℕ) (text : List ℕ) → Notes (tell d text)
-unfolding tell told_one
-notes_tell d text = record { law = λ w. record { objects = refl; marked = marked_itself w.objects; connections = mute-changed_in d text w.board.connections; tune = refl } }
+notes_tell d text = notes_quiet _ (quiet_tell d text)
 
 notes_tell_others : (room but : Dbref) (text : List ℕ) → Notes (tell_others room but text)
-notes_tell_others room but text = record { law = touching_others room but text }
+notes_tell_others room but text = notes_quiet _ (quiet_tell_others room but text)
 
 ruleset noting = (keeping, touching_order, notes_unchanged, notes_tell, notes_tell_others)
 
@@ -65,17 +55,14 @@ unfolding with_message
 notes_with_message a typed m x otherwise go p q = keeps_reading _ (spoken_some a typed m x otherwise go) (λ message. notes_spoken_some a typed m x otherwise go message p q)
 
 pub notes_shown_others : (player : Dbref) (tail : List ℕ) → Notes (shown_others player tail)
-unfolding shown_others
-notes_shown_others player tail = search noting
+notes_shown_others player tail = notes_quiet _ (quiet_shown_others player tail)
 
 notes_message_shown : (d : ℕ) (a : Actor) (typed : Typed) (m : Message) (x : Dbref) → Notes (message_shown d a typed m x)
 unfolding message_shown
 notes_message_shown d a typed m x = search (noting, notes_with_message)
 
 notes_listed : (d : ℕ) (player : Dbref) (xs : List Dbref) → Notes (listed d player xs)
-unfolding listed
-notes_listed d player [] = notes_unchanged
-notes_listed d player (x ∷ xs) = keeps_followed _ _ touching_order (search noting) (notes_listed d player xs)
+notes_listed d player xs = notes_quiet _ (quiet_listed d player xs)
 
 notes_listed_under : (d : ℕ) (player : Dbref) (head : List ℕ) (otherwise : Change) (xs : List Dbref) → Notes otherwise → Notes (listed_under d player head otherwise xs)
 unfolding listed_under

@@ -3,15 +3,15 @@ use Rattle.std.proofs.Common.{◌≡◌, ℕ, ◌<◌, Bool, true, false, cond, 
 use Rattle.std.specs.Prelude.{map, ◌==◌}
 use Rattle.muck_model.specs.declared.dbref.Dbref.{Dbref}
 use Rattle.spec_live.specs.Objects.{Entry}
-use Rattle.spec_live.specs.Saving.{Marked}
-use Rattle.spec_live.proofs.Marking.{marked_itself, marked_both, marked_as}
-use Rattle.spec_mpi.specs.Touching.{without_props, without_output, TouchesNotes}
+use Rattle.spec_mpi.specs.Touching.{without_props, TouchesNotes}
 use Rattle.spec_live.specs.Connections.{Connection, has_number, changed_in, left, seated}
 use Rattle.spec_live.specs.Boards.{on_connection, leaving_one, seated_one}
-use Rattle.spec_live.proofs.Keeping.{Keeps, Order, keeps_more}
+use Rattle.spec_live.proofs.Keeping.{Keeps, Order, stays, one, join, keeps_more}
+use Rattle.spec_live.proofs.Lives.{Goes, board, shows, leaves_one, seats, mute, readies, viewed_one, viewed_again}
 use Rattle.spec_live.specs.Lives.{Live, Change, on_board, leave, enter}
 use Rattle.spec_rights.specs.declared.act.Actor.{Actor}
 use Rattle.spec_rights.specs.Licence.{Open, SameTies, LeaversLicensed}
+use Rattle.spec_rights.proofs.Walking.{acts}
 use Rattle.spec_rights.proofs.Licences.{Quiet, open_both, tie, ties}
 use Rattle.spec_commands.specs.inner.Rising.{IsAbove, IsRising}
 
@@ -44,12 +44,7 @@ rising_by (c ∷ cs) (d ∷ ds) e h =
 
 pub numbers-changed_in : (d : ℕ) (f : Connection → Connection) → ((c : Connection) → (f c).number ≡ c.number) → (cs : List Connection) → numbers (changed_in d f cs) ≡ numbers cs
 unfolding numbers
-numbers-changed_in d f keeps [] = refl
-numbers-changed_in d f keeps (c ∷ cs) =
-    elim (has_number d c) as (λ b. numbers (cond b (f c ∷ cs) (c ∷ changed_in d f cs)) ≡ numbers (c ∷ cs)) [
-      | true ↦ ap (λ n. n ∷ numbers cs) (keeps c)
-      | false ↦ ap (λ ns. c.number ∷ ns) (numbers-changed_in d f keeps cs)
-    ]
+numbers-changed_in d f keeps cs = viewed_one (λ c. c.number) d f keeps cs
 
 -- connections that are tied alike have the same numbers
 pub numbers-ties : (cs ds : List Connection) → ties ds ≡ ties cs → numbers ds ≡ numbers cs
@@ -80,7 +75,7 @@ leavers_ties may (c ∷ cs) (d ∷ ds) e =
     let rest : ties ds ≡ ties cs = cc in
     (ap (λ (t : ℕ × Option Dbref × Bool). t.0) head, inl (ap (λ (t : ℕ × Option Dbref × Bool). t.2) head), leavers_ties may cs ds rest)
 
-leavers_both : (n : ℕ) (cs ds es : List Connection) → LeaversLicensed (has_number n) cs ds → LeaversLicensed (has_number n) ds es → LeaversLicensed (has_number n) cs es
+pub leavers_both : (n : ℕ) (cs ds es : List Connection) → LeaversLicensed (has_number n) cs ds → LeaversLicensed (has_number n) ds es → LeaversLicensed (has_number n) cs es
 leavers_both n [] [] [] r s = tt
 leavers_both n [] [] (e ∷ es) r s = absurd s
 leavers_both n [] (d ∷ ds) es r s = absurd r
@@ -102,7 +97,7 @@ leavers_changed_in d f keeps (c ∷ cs) = at (has_number d c) refl (leavers_chan
 -- changed is due for the next dump.
 pub record Seats (d : ℕ) (w v : Live) : Type 0 where
   pub objects : map without_props v.objects ≡ map without_props w.objects
-  pub marked : Marked w.objects v.objects
+  pub goes : Goes acts w v
   pub tune : v.board.tune ≡ w.board.tune
   pub numbers : numbers v.board.connections ≡ numbers w.board.connections
   pub leavers : LeaversLicensed (has_number d) w.board.connections v.board.connections
@@ -112,45 +107,36 @@ Seating d f = Keeps (Seats d) f
 
 pub seating_order : (d : ℕ) → Order (Seats d)
 seating_order d = record {
-  itself = λ w. record { objects = refl; marked = marked_itself w.objects; tune = refl; numbers = refl; leavers = leavers_ties (has_number d) w.board.connections w.board.connections refl };
-  both = λ u v w r s. record { objects = s.objects ∙ r.objects; marked = marked_both u.objects v.objects w.objects r.marked s.marked; tune = s.tune ∙ r.tune; numbers = s.numbers ∙ r.numbers; leavers = leavers_both d _ _ _ r.leavers s.leavers };
+  itself = λ w. record { objects = refl; goes = stays; tune = refl; numbers = refl; leavers = leavers_ties (has_number d) w.board.connections w.board.connections refl };
+  both = λ u v w r s. record { objects = s.objects ∙ r.objects; goes = join r.goes s.goes; tune = s.tune ∙ r.tune; numbers = s.numbers ∙ r.numbers; leavers = leavers_both d _ _ _ r.leavers s.leavers };
 }
 
 pub seating_quiet : (d : ℕ) (f : Change) → Quiet f → Seating d f
 seating_quiet d f q = keeps_more f (λ w v s. record {
   objects = ap (λ (es : List Entry). map without_props es) s.objects;
-  marked = marked_as w.objects w.objects v.objects s.objects (marked_itself w.objects);
+  goes = one (shows w v refl s);
   tune = s.tune;
-  numbers = numbers-ties w.board.connections v.board.connections s.ties;
-  leavers = leavers_ties (has_number d) w.board.connections v.board.connections s.ties;
+  numbers = numbers-ties w.board.connections v.board.connections (readies w v s).ties;
+  leavers = leavers_ties (has_number d) w.board.connections v.board.connections (readies w v s).ties;
 }) q
 
--- what differs in notes alone
-mute_ties : (cs ds : List Connection) → map without_output ds ≡ map without_output cs → ties ds ≡ ties cs
-mute_ties [] [] e = refl
-mute_ties [] (d ∷ ds) e = absurd cc
-mute_ties (c ∷ cs) [] e = absurd cc
-mute_ties (c ∷ cs) (d ∷ ds) e =
-    let head : without_output d ≡ without_output c = cc in
-    let rest : map without_output ds ≡ map without_output cs = cc in
-    ap (λ (x : Connection). tie x ∷ ties ds) head ∙ ap (λ ts. tie c ∷ ts) (mute_ties cs ds rest)
+pub seating_notes : (d : ℕ) (f : Change) → Keeps TouchesNotes f → Keeps (Goes acts) f → Seating d f
+seating_notes d f q g = record {
+  law = λ w.
+      let v : Live = f w in
+      let s = q.law w in
+      let same = viewed_again mute tie w.board.connections v.board.connections s.connections in
+      record { objects = s.objects; goes = g.law w; tune = s.tune; numbers = numbers-ties w.board.connections v.board.connections same; leavers = leavers_ties (has_number d) w.board.connections v.board.connections same };
+}
 
-pub seating_notes : (d : ℕ) (f : Change) → Keeps TouchesNotes f → Seating d f
-seating_notes d f q = keeps_more f (λ w v s. let same = mute_ties w.board.connections v.board.connections s.connections in record {
-  objects = s.objects;
-  marked = s.marked;
-  tune = s.tune;
-  numbers = numbers-ties w.board.connections v.board.connections same;
-  leavers = leavers_ties (has_number d) w.board.connections v.board.connections same;
-}) q
-
-pub seating_one : (d : ℕ) (f : Connection → Connection) → ((c : Connection) → (f c).number ≡ c.number) → Seating d (on_board (on_connection d f))
-seating_one d f keeps = record { law = λ w. record { objects = refl; marked = marked_itself w.objects; tune = refl; numbers = numbers-changed_in d f keeps w.board.connections; leavers = leavers_changed_in d f keeps w.board.connections } }
+seating_other : (d : ℕ) (f : Connection → Connection) → ((c : Connection) → (f c).number ≡ c.number) → Keeps (Goes acts) (on_board (on_connection d f)) → Seating d (on_board (on_connection d f))
+seating_other d f keeps g =
+    record { law = λ w. record { objects = refl; goes = g.law w; tune = refl; numbers = numbers-changed_in d f keeps w.board.connections; leavers = leavers_changed_in d f keeps w.board.connections } }
 
 pub seating_leave : (d : ℕ) → Seating d (leave d)
 unfolding leave leaving_one
-seating_leave d = seating_one d left (λ c. refl)
+seating_leave d = seating_other d left (λ c. refl) (record { law = λ w. one (board _ w (leaves_one d w.board refl)) })
 
 pub seating_enter : (d : ℕ) (player : Dbref) → Seating d (enter d player)
 unfolding enter seated_one
-seating_enter d player = seating_one d (seated player) (λ c. refl)
+seating_enter d player = seating_other d (seated player) (λ c. refl) (record { law = λ w. one (board _ w (seats d player w.board refl)) })

@@ -14,8 +14,10 @@ use Rattle.spec_rights.specs.declared.act.Act.TheVariants.{NewProgram}
 use Rattle.spec_rights.specs.Verdict.{verdict}
 use Rattle.spec_rights.specs.Changing.{created_so}
 use Rattle.spec_rights.specs.Licence.{Freedom}
+use Rattle.spec_live.proofs.Steps.{leveled}
 use Rattle.spec_rights.proofs.Rights.{SameRights}
 use Rattle.spec_rights.proofs.Licences.{judge, Quiet, End, Ends, end_quietly, ends_quiet, quiet_order, ends_by}
+use Rattle.spec_rights.proofs.Walking.{finishes}
 use Rattle.spec_rights.proofs.Makings.{end_created, program_open}
 use Rattle.spec_rights.proofs.Shown.{shown, quiet_tell}
 use Rattle.spec_commands.specs.Replies.{cant_be_done, entering_editor}
@@ -43,7 +45,7 @@ ends_program_new a free d name = ends_by _ (λ start w s g. at start w s g (crea
     at start w s g (Ok p) e =
         let v : Live = created_so p.0 Program name a.user p.1 (with_level (first_level a.user w)) w in
         end_quietly (judge a free start) w v ((created_shown d p.0 ▸ tell d entering_editor) v)
-        (end_created (judge a free start) Program name a.user a.player (with_level (first_level a.user w)) w p e (λ k t q. program_open a free start w.objects name (first_level a.user w) k t s g refl))
+        (end_created (judge a free start) Program name a.user a.player (with_level (first_level a.user w)) w p e (finishes (leveled (first_level a.user w))) (λ k t q. program_open a free start w.objects name (first_level a.user w) k t s g refl))
         ((keeps_followed _ _ quiet_order (quiet_created_shown d p.0) (quiet_tell d entering_editor)).law v)
     at start w s g (Err fault) e = ((ends_quiet a free (Some NewProgram) (tell d cant_be_done) (quiet_tell d cant_be_done)).law w).law start s g
 

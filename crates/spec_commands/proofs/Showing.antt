@@ -7,9 +7,10 @@ use Rattle.spec_live.specs.Objects.{Entry}
 use Rattle.spec_live.specs.Lives.{Live, Change, either, tell}
 use Rattle.spec_rights.specs.declared.act.Actor.{Actor}
 use Rattle.spec_rights.specs.Licence.{Freedom}
-use Rattle.spec_rights.proofs.Shown.{shown, quiet_one}
+use Rattle.spec_rights.proofs.Shown.{shown, loose_one}
 use Rattle.spec_rights.specs.declared.act.Act.{Act}
 use Rattle.spec_rights.proofs.Permitted.{staying}
+use Rattle.spec_live.proofs.Lives.{Loose}
 use Rattle.spec_rights.proofs.Licences.{Quiet, Stays, Whole, whole_told, quiet_unchanged, quiet_order, whole_by, stays_by, stays_quiet, stay_both, stay_rights}
 use Rattle.spec_mpi.specs.Messages.{heard, variables_of, shown as shown_of, spoken as said_of}
 use Rattle.spec_mpi.proofs.Leave.{stays_heard}
@@ -138,12 +139,12 @@ unfolding who_shown
 quiet_who_shown d = search (shown, quiet_each, quiet_presence_shown)
 
 -- the lines that wait
-pub quiet_waits : (d : ℕ) (lines : List (List ℕ)) → Quiet (waits d lines)
+pub loose_waits : (d : ℕ) (lines : List (List ℕ)) → Loose (waits d lines)
 unfolding waits
-quiet_waits d lines = quiet_one d (λ c. record c { waiting = lines }) (λ c. refl)
+loose_waits d lines = loose_one d (λ c. record c { waiting = lines }) (λ c. refl)
 
 -- whatever players see
-pub ruleset seeing = (shown, finds, quiet_shown_others, quiet_listed, quiet_listed_under, quiet_owner_shown, quiet_said_to, quiet_who_shown, quiet_waits)
+pub ruleset seeing = (shown, finds, quiet_shown_others, quiet_listed, quiet_listed_under, quiet_owner_shown, quiet_said_to, quiet_who_shown)
 
 -- and what they see by messages, which may change something
 pub ruleset hearing = (seeing, staying, stays_message_or, stays_message_shown, stays_message_to_others, stays_room_shown, stays_looked)

@@ -1,5 +1,5 @@
 -- Where a lock doesn't let a player through an exit, or take something, notes alone are touched.
-use Rattle.std.proofs.Common.{◌≡◌, ℕ, Bool, true, false, cond, List, [], ◌∷◌, map, Option, Some, None, refl, ap}
+use Rattle.std.proofs.Common.{◌≡◌, ℕ, Bool, true, false, cond, List, [], ◌∷◌, map, Option, Some, None, refl}
 use Rattle.std.specs.Prelude.{◌||◌, ◌==◌, option_map, codes}
 use Rattle.std.specs.Char.{to_ascii_lowercase}
 use Rattle.std.specs.Option.{option_or, option_and_then}
@@ -10,20 +10,18 @@ use Rattle.muck_match.specs.declared.naming.Found.{Found}
 use Rattle.muck_match.specs.declared.naming.Found.TheVariants.{One}
 use Rattle.muck_match.specs.Exits.{exit_for}
 use Rattle.muck_match.specs.Naming.{found}
-use Rattle.spec_live.specs.Boards.{told_one}
-use Rattle.spec_live.specs.Connections.{Connection, has_number, changed_in, told}
 use Rattle.spec_live.specs.Lives.{Live, Change, unchanged, tell, reading, either, where_so, followed, ◌▸◌}
 use Rattle.spec_live.specs.Objects.{nothing}
 use Rattle.spec_live.specs.Seen.{scenery_of}
 use Rattle.spec_live.proofs.Keeping.{keeps_followed, keeps_unchanged}
-use Rattle.spec_live.proofs.Marking.{marked_itself}
 use Rattle.spec_rights.specs.declared.act.Actor.{Actor}
 use Rattle.spec_rights.specs.declared.act.Act.{Act}
 use Rattle.spec_rights.specs.declared.act.Act.TheVariants.{Walk, Take}
 use Rattle.spec_rights.specs.Asking.{answered, asked, denied_text, refused}
 use Rattle.spec_rights.specs.Verdict.{verdict}
-use Rattle.spec_mpi.specs.Touching.{without_output, TouchesNotes}
-use Rattle.spec_mpi.proofs.Deeds.{touching_order}
+use Rattle.spec_rights.proofs.Shown.{quiet_tell}
+use Rattle.spec_mpi.specs.Touching.{TouchesNotes}
+use Rattle.spec_mpi.proofs.Deeds.{touching_order, notes_quiet}
 use Rattle.spec_commands.specs.declared.outcome.Outcome.{Outcome}
 use Rattle.spec_commands.specs.declared.outcome.Outcome.TheVariants.{Done}
 use Rattle.spec_commands.specs.declared.typed.Typed.{Typed}
@@ -42,17 +40,8 @@ use Rattle.spec_denials.specs.Walks.{walk_by, take_of, word_act, lock_verdict}
 
 -- What is shown.
 
-mute_told : (d : ℕ) (text : List ℕ) (cs : List Connection) → map without_output (changed_in d (told text) cs) ≡ map without_output cs
-mute_told d text [] = refl
-mute_told d text (c ∷ cs) = at (has_number d c) (mute_told d text cs)
-  where
-    at : (b : Bool) → map without_output (changed_in d (told text) cs) ≡ map without_output cs → map without_output (cond b (told text c ∷ cs) (c ∷ changed_in d (told text) cs)) ≡ map without_output (c ∷ cs)
-    at true h = refl
-    at false h = ap (λ ds. without_output c ∷ ds) h
-
 notes_tell : (d : ℕ) (text : List ℕ) → Notes (tell d text)
-unfolding tell told_one
-notes_tell d text = record { law = λ w. record { objects = refl; marked = marked_itself w.objects; connections = mute_told d text w.board.connections; tune = refl } }
+notes_tell d text = notes_quiet _ (quiet_tell d text)
 
 notes_failed : (d : ℕ) (a : Actor) (typed : Typed) (otherwise : List ℕ) (x : Dbref) → Notes (failed d a typed otherwise x)
 unfolding failed message_or message_to_others

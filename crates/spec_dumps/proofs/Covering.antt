@@ -7,7 +7,7 @@ use Rattle.muck_log.specs.Store.{Chosen}
 use Rattle.muck_log.specs.World.{World as Kept}
 use Rattle.spec_events.specs.World.{World}
 use Rattle.spec_events.specs.Histories.{after}
-use Rattle.spec_events.proofs.Growing.{no_fewer_front}
+use Rattle.spec_events.proofs.Walked.{no_fewer_front}
 use Rattle.spec_dumps.specs.Fronts.{last_cut, at_cut, IsFront}
 use Rattle.spec_dumps.proofs.Fronts.{last_cut_front}
 

@@ -12,7 +12,7 @@ use Rattle.spec_events.specs.World.{World}
 use Rattle.spec_events.specs.Steps.{effect}
 use Rattle.spec_events.specs.Histories.{after}
 use Rattle.spec_events.specs.Logged.{is_cut}
-use Rattle.spec_events.proofs.Marking.{marked_after}
+use Rattle.spec_events.proofs.Walked.{marked_after}
 use Rattle.spec_dumps.specs.Fronts.{cut_behind, last_cut, at_cut}
 
 -- Where no Cut stands last, none stands.

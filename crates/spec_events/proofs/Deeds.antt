@@ -2,6 +2,7 @@
 use Rattle.std.proofs.Common.{◌≡◌, ℕ, ℤ, pos, Bool, true, false, cond, List, refl, Option, Some, None}
 use Rattle.std.specs.Prelude.{nat_lt, Result, Ok, Err}
 use Rattle.spec_live.specs.Objects.{Entry, nothing}
+use Rattle.spec_live.proofs.Lives.{readies}
 use Rattle.spec_rights.specs.declared.act.Actor.{Actor}
 use Rattle.muf_model.specs.declared.fault.MufFault.{MufFault}
 use Rattle.muf_model.specs.declared.fault.MufFault.TheVariants.{CallsFull}
@@ -105,7 +106,7 @@ module _ (may : Process → Type 0) (w : World) where
   leads_effect : IsSteady may → (pid : ℤ) (x : Agent) (s : Source) → ((q : Process) → EndedBy (acting x s w.live.objects) w.live.objects q → may q) →
       (e : Effect) → Leaves (acting x s w.live.objects) w.live w.queue e → Leads (Left may w) (effected pid x s w e)
   leads_effect steady pid x s ends (gives stack live queue) h = record {
-    quietly = record { objects = h.shows.objects; ties = h.shows.ties; tune = h.shows.tune; dead = refl; still = refl };
+    quietly = record { objects = h.shows.objects; ties = (readies w.live live h.shows).ties; tune = h.shows.tune; dead = refl; still = refl };
     lasting = lasting_stays may (EndedBy (acting x s w.live.objects) w.live.objects) steady ends w.queue queue h.stays;
   }
   leads_effect steady pid x s ends (waits n stack queue) h = record {

@@ -1,10 +1,10 @@
 -- A line that is done: what it changes is open, it keeps the numbers of the connections, and the world lives on.
 use Rattle.std.proofs.Common.{◌≡◌, ℕ, ℤ, Bool, true, false, cond, List, [], ◌∷◌, refl, sym, ◌∙◌, ap, subst, Option, Some, None, inl, inr}
-use Rattle.spec_live.proofs.Keeping.{keeps_followed}
-use Rattle.spec_live.proofs.Lists.{length_map}
-use Rattle.spec_live.proofs.Savings.{length_resaved}
-use Rattle.spec_live.proofs.Marking.{marked_itself, marked_both, marked_as}
-use Rattle.std.specs.Prelude.{◌≤◌, length, map, find, ◌==◌}
+use Rattle.spec_live.proofs.Keeping.{stays, one, join, keeps_followed}
+use Rattle.spec_live.proofs.Steps.{Walk}
+use Rattle.spec_live.proofs.Walks.{walk_told}
+use Rattle.spec_live.proofs.Lives.{Loose, loose_order, Goes, board, hears, leaves_one, tunes, goes_objects}
+use Rattle.std.specs.Prelude.{find, ◌==◌}
 use Rattle.std.specs.Option.{option_and_then}
 use Rattle.std.proofs.lemmas.Option.{none-some}
 use Rattle.muck_model.specs.declared.dbref.Dbref.{Dbref}
@@ -14,19 +14,19 @@ use Rattle.muck_match.specs.declared.exits.ExitHit.{ExitHit}
 use Rattle.muck_match.specs.Exits.{exit_for}
 use Rattle.spec_live.specs.declared.saving.Saving.{Saving}
 use Rattle.spec_live.specs.Objects.{Entry, mark_in}
-use Rattle.spec_live.specs.Saving.{Marked, all_saving}
+use Rattle.spec_live.specs.Saving.{all_saving}
 use Rattle.spec_live.specs.Seen.{scenery_of}
 use Rattle.spec_live.specs.Connections.{Connection, has_number, edited as edited_connection}
+use Rattle.spec_live.specs.Boards as boards
 use Rattle.spec_live.specs.Boards.{connection_in, player_in, leaving_one, edited_one}
-use Rattle.spec_live.specs.Lives.{Live, Change, followed, ◌▸◌, tell, leave}
+use Rattle.spec_live.specs.Lives.{Live, Change, followed, ◌▸◌, unchanged, tell, leave}
 use Rattle.spec_rights.specs.declared.act.Actor.{Actor}
 use Rattle.spec_rights.specs.Verdict.{is_master}
 use Rattle.spec_rights.specs.Changing.{tuned}
 use Rattle.spec_rights.specs.Licence.{Freedom, SameTies, Licensed, editing}
-use Rattle.spec_rights.proofs.Licences.{as_many, no_fewer_both, Proper, judge, SameMarks, Quiet, Always, ties_same, ties_both, quiet_order, whole_quiet}
+use Rattle.spec_rights.proofs.Licences.{Proper, judge, SameMarks, Always, ties_both, own_kept, quiet_unchanged, licensed_as, licensed_from, whole_quiet}
 use Rattle.spec_rights.proofs.Leaving.{whole_leave}
-use Rattle.spec_mpi.specs.Touching.{without_props}
-use Rattle.spec_rights.proofs.Shown.{quiet_one, quiet_tell}
+use Rattle.spec_rights.proofs.Shown.{loose_one, quiet_tell}
 use Rattle.spec_commands.specs.declared.outcome.Outcome.{Outcome}
 use Rattle.spec_commands.specs.declared.outcome.Outcome.TheVariants.{Done, NotMine, Start, Edit, Leave, Dump, Stop, Retune}
 use Rattle.spec_commands.specs.declared.edit.EditStep.{EditStep}
@@ -36,12 +36,12 @@ use Rattle.spec_commands.specs.Free.{free_play, free_through, free_line}
 use Rattle.spec_commands.specs.Commands.{begins_with_sign}
 use Rattle.spec_commands.specs.Editing.{editor_exited, is_open, edited}
 use Rattle.spec_commands.specs.Talk.{at_login, waits}
-use Rattle.spec_commands.proofs.Showing.{quiet_waits}
+use Rattle.spec_commands.proofs.Showing.{loose_waits}
 use Rattle.spec_commands.proofs.Edited.{edited_proper}
 use Rattle.spec_commands.proofs.Sources.{edited_rewrites}
 use Rattle.muck_queue.specs.declared.process.Process.{Process}
 use Rattle.muck_queue.specs.Queues.{reader, on_process, told_line, without}
-use Rattle.spec_commands.proofs.Numbered.{numbers, numbers-ties, numbers-same_ties, leavers_ties, Seating, seating_quiet, seating_order}
+use Rattle.spec_commands.proofs.Numbered.{numbers, numbers-ties, numbers-same_ties, leavers_ties, leavers_both, Seating}
 use Rattle.spec_commands.proofs.Lines.{seating_at_login}
 use Rattle.spec_admin.specs.Parameters.{IsInRange}
 use Rattle.spec_events.specs.World.{World, on_live, on_queue}
@@ -50,9 +50,9 @@ use Rattle.spec_events.specs.Following.{swept, settled}
 use Rattle.spec_events.specs.Lines.{with_editor, next_editor, after_edit, edited_line, in_editor, editor_on, typed, left_by, followed_up, in_world, program_aborted, is_abort, given_line, line_for, line_done, done}
 use Rattle.spec_events.specs.Endings.{ProcessesLicensed, NoProcess, MayEnd, by_actor, EndsReading}
 use Rattle.spec_events.specs.Licences.{Undisturbed, LineLicensed, TurnLicensed}
-use Rattle.spec_events.proofs.Quietly.{Still, still_of, Quietly, quietly_both, quietly_live, quietly_queue, quietly_swept, quietly_launched, quietly_compiled}
-use Rattle.spec_events.proofs.Told.{licensed_told, licensed_as}
-use Rattle.spec_events.proofs.Typed.{MayRetune, typed_retunes, waited_open}
+use Rattle.spec_events.proofs.Quietly.{Still, still_of, lively, lively_acts, Quietly, quietly_readies, quietly_both, quietly_loose, quietly_live, quietly_queue, quietly_swept, quietly_launched, quietly_compiled}
+use Rattle.spec_events.proofs.Told.{licensed_told}
+use Rattle.spec_events.proofs.Typed.{MayRetune, typed_retunes, typed_open}
 use Rattle.spec_events.proofs.Endings.{Lasting, lasting_same, lasting_both, lasting_changed, lasting_without, lasting_up, lasting_after, process_number, IsTold, told_settled, processes_remain}
 use Rattle.spec_events.proofs.Lapses.{IsLapsing, marks_lapse, by_lapse, steady_may, lasting_lapse}
 use Rattle.spec_events.proofs.Killed.{lasting_left}
@@ -66,6 +66,7 @@ state_of w = (w.dead, still_of w)
 -- is as dead as before, the same dump runs, and it is the same second
 pub record Open (a : Actor) (free : Freedom) (start : Live) (state : Bool × Still) (v : World) : Type 0 where
   pub licensed : Licensed a free start v.live
+  pub goes : Goes lively start v.live
   pub tuned : IsInRange start.board.tune → IsInRange v.live.board.tune
   pub alive : v.dead ≡ state.0
   pub still : still_of v ≡ state.1
@@ -76,7 +77,8 @@ in_range_as w v e h = subst IsInRange (sym e) h
 
 pub open_quietly : (a : Actor) (free : Freedom) (start : Live) (state : Bool × Still) (u v : World) → Open a free start state u → Quietly u v → Open a free start state v
 open_quietly a free start state u v p q = record {
-  licensed = licensed_as a free start u.live v.live p.licensed q.objects q.ties q.tune;
+  licensed = licensed_as a free start u.live v.live p.licensed (quietly_readies u v q);
+  goes = join p.goes (one (hears u.live v.live refl (quietly_readies u v q)));
   tuned = λ h. in_range_as u.live v.live q.tune (p.tuned h);
   alive = q.dead ∙ p.alive;
   still = q.still ∙ p.still;
@@ -86,7 +88,8 @@ pub open_settled : (a : Actor) (free : Freedom) (start : Live) (state : Bool × 
 unfolding settled
 open_settled a free start state u p =
     let q = open_quietly a free start state u _ p (quietly_swept 0 u.live.objects u) in
-    record { licensed = licensed_told a free start (swept 0 u.live.objects u).live q.licensed; tuned = q.tuned; alive = q.alive; still = q.still }
+    let v : Live = (swept 0 u.live.objects u).live in
+    record { licensed = licensed_told a free start v q.licensed; goes = join q.goes (goes_objects lively v _ (walk_told lively v.objects refl)); tuned = q.tuned; alive = q.alive; still = q.still }
 
 -- Leaving.
 
@@ -106,42 +109,31 @@ left_licensed a d free w v own l =
     let left : Licensed a free v (leave d v) = (((whole_leave a d (λ es. free) Always).law v).law (player-same_ties a d w.board.connections v.board.connections l.connections ∙ own) tt).licensed in
     record { gone = l.gone; recycled = l.recycled; vanished = l.vanished; objects = l.objects; no_fewer = l.no_fewer; marked = l.marked; lists = l.lists; connections = ties_both a _ _ _ l.connections left.connections; tune = l.tune }
 
+left_goes : (d : ℕ) (w : Live) → Goes lively w (leave d w)
+unfolding leave
+left_goes d w = one (board _ w (leaves_one d w.board refl))
+
 left_tune : (d : ℕ) (w : Live) → (leave d w).board.tune ≡ w.board.tune
 unfolding leave leaving_one
 left_tune d w = refl
 
 -- The editor.
 
-quiet_with_editor : (d : ℕ) (editor : Option EditState) → Quiet (with_editor d editor)
+loose_with_editor : (d : ℕ) (editor : Option EditState) → Loose (with_editor d editor)
 unfolding edited_one
-quiet_with_editor d editor = quiet_one d (edited_connection editor) (λ c. refl)
+loose_with_editor d editor = loose_one d (edited_connection editor) (λ c. refl)
 
 -- the lines that wait, and an editor that is taken
 abbrev taken_out : ℕ → List (List ℕ) → Change
 taken_out d lines = waits d lines ▸ with_editor d None
 
-quiet_taken_out : (d : ℕ) (lines : List (List ℕ)) → Quiet (taken_out d lines)
-quiet_taken_out d lines = keeps_followed _ _ quiet_order (quiet_waits d lines) (quiet_with_editor d None)
+loose_taken_out : (d : ℕ) (lines : List (List ℕ)) → Loose (taken_out d lines)
+loose_taken_out d lines = keeps_followed _ _ loose_order (loose_waits d lines) (loose_with_editor d None)
 
 open_after : (a : Actor) (free : Freedom) (start : Live) (state : Bool × Still) (d : ℕ) (program : Dbref) (step : EditStep) (u : World) → Open a free start state u → Open a free start state (after_edit d program step u)
 open_after a free start state d program Compile u p = open_quietly a free start state u _ p (quietly_compiled d program u)
 open_after a free start state d program Stay u p = p
 open_after a free start state d program Left u p = p
-
--- from a world in which only what waits differs, and an editor
-licensed_from : (a : Actor) (free : Freedom) (d : ℕ) (lines : List (List ℕ)) (w v : Live) → Licensed a free (taken_out d lines w) v → Licensed a free w v
-unfolding waits followed edited_one
-licensed_from a free d lines w v l = record {
-  gone = l.gone;
-  recycled = l.recycled;
-  vanished = l.vanished;
-  objects = l.objects;
-  no_fewer = l.no_fewer;
-  marked = l.marked;
-  lists = l.lists;
-  connections = ties_both a _ _ _ (ties_same a w.board.connections (taken_out d lines w).board.connections (((quiet_taken_out d lines).law w).ties)) l.connections;
-  tune = l.tune;
-}
 
 open_edited : (d : ℕ) (player : Dbref) (s : EditState) (line : List ℕ) (lines : List (List ℕ)) (w : World) →
     Open (actor_of w.live.objects player) (editing s.program) w.live (state_of w) (edited_line d player s line (on_live (taken_out d lines) w))
@@ -151,19 +143,21 @@ open_edited d player s line lines w =
     let u : World = on_live (taken_out d lines) w in
     let r = edited d a s line u.live in
     let proper : Proper a (editing s.program) u.live r.0 = edited_proper d a s line u.live in
-    let l : Licensed a (editing s.program) w.live r.0 = licensed_from a (editing s.program) d lines w.live r.0 proper.licensed in
+    let taken = (loose_taken_out d lines).law w.live in
+    let l : Licensed a (editing s.program) w.live r.0 = licensed_from a (editing s.program) w.live u.live r.0 taken proper.licensed in
     let v : World = record u { live = r.0 } in
-    let e = open_quietly a (editing s.program) w.live (state_of w) v (on_live (with_editor d (next_editor r.2 r.1)) v) (record { licensed = l; tuned = in_range_as w.live r.0 proper.tune; alive = refl; still = refl }) (quietly_live _ (quiet_with_editor d (next_editor r.2 r.1)) v) in
+    let e = open_quietly a (editing s.program) w.live (state_of w) v (on_live (with_editor d (next_editor r.2 r.1)) v) (record { licensed = l; goes = join (one (hears w.live u.live refl taken)) (lively_acts u.live r.0 proper.goes); tuned = in_range_as w.live r.0 proper.tune; alive = refl; still = refl }) (quietly_loose _ (loose_with_editor d (next_editor r.2 r.1)) v) in
     open_after a (editing s.program) w.live (state_of w) d s.program r.2 _ (open_settled a (editing s.program) w.live (state_of w) _ e)
 
 left_open : (d : ℕ) (player : Dbref) (s : EditState) (lines : List (List ℕ)) (w : World) →
     Open (actor_of w.live.objects player) (editing s.program) w.live (state_of w) (on_live (tell d editor_exited) (on_live (taken_out d lines) w))
-unfolding followed
+unfolding unchanged
 left_open d player s lines w =
-    let f : Change = taken_out d lines ▸ tell d editor_exited in
-    let q : Quiet f = keeps_followed _ _ quiet_order (quiet_taken_out d lines) (quiet_tell d editor_exited) in
-    let proper : Proper (actor_of w.live.objects player) (editing s.program) w.live (f w.live) = ((whole_quiet (actor_of w.live.objects player) None (λ es. editing s.program) Always f q).law w.live).law tt tt in
-    record { licensed = proper.licensed; tuned = in_range_as w.live (f w.live) proper.tune; alive = refl; still = refl }
+    let a : Actor = actor_of w.live.objects player in
+    let u : World = on_live (taken_out d lines) w in
+    let whole : Proper a (editing s.program) w.live (unchanged w.live) = ((whole_quiet a None (λ es. editing s.program) Always unchanged quiet_unchanged).law w.live).law tt tt in
+    open_quietly a (editing s.program) w.live (state_of w) w _ (record { licensed = whole.licensed; goes = stays; tuned = λ h. h; alive = refl; still = refl })
+    (quietly_both w u _ (quietly_loose (taken_out d lines) (loose_taken_out d lines) w) (quietly_live (tell d editor_exited) (quiet_tell d editor_exited) u))
 
 open_in_editor : (d : ℕ) (player : Dbref) (s : EditState) (line : List ℕ) (lines : List (List ℕ)) (w : World) →
     Open (actor_of w.live.objects player) (editing s.program) w.live (state_of w) (in_editor d player s line (on_live (taken_out d lines) w))
@@ -182,22 +176,33 @@ unfolding tuned
 tuned_licensed a free w v tune l h =
     record { gone = l.gone; recycled = l.recycled; vanished = l.vanished; objects = l.objects; no_fewer = l.no_fewer; marked = l.marked; lists = l.lists; connections = l.connections; tune = inr h }
 
+tuned_goes : (tune : Tune) (w : Live) → Goes lively w (tuned tune w)
+unfolding tuned boards.tuned
+tuned_goes tune w = one (board _ w (tunes tune w.board refl))
+
 tuned_in_range : (w : Live) (tune : Tune) → IsInRange tune → IsInRange (tuned tune w).board.tune
 unfolding tuned
 tuned_in_range w tune h = h
 
 open_followed : (d : ℕ) (player : Dbref) (a : Actor) (free : Freedom) (start : Live) (state : Bool × Still) (outcome : Outcome) (u : World) → player_in d start.board ≡ Some a.player →
     ((tune : Tune) → outcome ≡ Retune tune → MayRetune a start tune) → Open a free start state u → Open a free start state (followed_up d player outcome u)
-open_followed d player a free start state Leave u own may p = record { licensed = left_licensed a d free start u.live own p.licensed; tuned = λ h. in_range_as u.live (leave d u.live) (left_tune d u.live) (p.tuned h); alive = p.alive; still = p.still }
+open_followed d player a free start state Leave u own may p = record { licensed = left_licensed a d free start u.live own p.licensed; goes = join p.goes (left_goes d u.live); tuned = λ h. in_range_as u.live (leave d u.live) (left_tune d u.live) (p.tuned h); alive = p.alive; still = p.still }
 open_followed d player a free start state (Edit program) u own may p =
-    open_quietly a free start state u _ p (quietly_live (with_editor d (Some (editor_on program u.live))) (quiet_with_editor d (Some (editor_on program u.live))) u)
+    open_quietly a free start state u _ p (quietly_loose (with_editor d (Some (editor_on program u.live))) (loose_with_editor d (Some (editor_on program u.live))) u)
 open_followed d player a free start state (Start program trigger line arg) u own may p =
     open_quietly a free start state u _ p (quietly_launched d (actor_of u.live.objects player) (record { player = player; program = program; trigger = trigger; command = line; argument = arg }) u)
 open_followed d player a free start state Done u own may p = p
 open_followed d player a free start state NotMine u own may p = p
-open_followed d player a free start state Dump u own may p = record { licensed = p.licensed; tuned = p.tuned; alive = p.alive; still = p.still }
-open_followed d player a free start state Stop u own may p = record { licensed = p.licensed; tuned = p.tuned; alive = p.alive; still = p.still }
-open_followed d player a free start state (Retune tune) u own may p = record { licensed = tuned_licensed a free start u.live tune p.licensed (may tune refl).0; tuned = λ h. tuned_in_range u.live tune ((may tune refl).1 h); alive = p.alive; still = p.still }
+open_followed d player a free start state Dump u own may p = record { licensed = p.licensed; goes = p.goes; tuned = p.tuned; alive = p.alive; still = p.still }
+open_followed d player a free start state Stop u own may p = record { licensed = p.licensed; goes = p.goes; tuned = p.tuned; alive = p.alive; still = p.still }
+open_followed d player a free start state (Retune tune) u own may p = record { licensed = tuned_licensed a free start u.live tune p.licensed (may tune refl).0; goes = join p.goes (tuned_goes tune u.live); tuned = λ h. tuned_in_range u.live tune ((may tune refl).1 h); alive = p.alive; still = p.still }
+
+-- what it does behind the lines that wait
+waited_proper : (d : ℕ) (a : Actor) (line : List ℕ) (lines : List (List ℕ)) (w : World) → player_in d w.live.board ≡ Some a.player →
+    let u = on_live (waits d lines) w in Proper a (free_line a line u.live.objects) u.live (typed u.queue d a line u.live).0
+waited_proper d a line lines w own =
+    let u : World = on_live (waits d lines) w in
+    ((typed_open a (Some d) u.queue d line).law u.live).law (own_kept (Some d) w.live u.live a ((loose_waits d lines).law w.live).ties own) tt
 
 open_in_world : (d : ℕ) (player : Dbref) (line : List ℕ) (lines : List (List ℕ)) (w : World) → player_in d w.live.board ≡ Some player →
     Open (actor_of w.live.objects player) (free_line (actor_of w.live.objects player) line w.live.objects) w.live (state_of w) (in_world d player line (on_live (waits d lines) w))
@@ -207,9 +212,10 @@ open_in_world d player line lines w own =
     let free : Freedom = free_line a line w.live.objects in
     let u : World = on_live (waits d lines) w in
     let r = typed u.queue d a line u.live in
-    let proper : Proper a free w.live r.0 = ((waited_open a u.queue d lines line).law w.live).law own tt in
+    let taken = (loose_waits d lines).law w.live in
+    let proper : Proper a free u.live r.0 = waited_proper d a line lines w own in
     open_followed d player a free w.live (state_of w) r.1 _ own (typed_retunes u.queue d a line u.live)
-    (open_settled a free w.live (state_of w) (record u { live = r.0; queue = left_by d a line u.live u.queue }) (record { licensed = proper.licensed; tuned = in_range_as w.live r.0 proper.tune; alive = refl; still = refl }))
+    (open_settled a free w.live (state_of w) (record u { live = r.0; queue = left_by d a line u.live u.queue }) (record { licensed = licensed_from a free w.live u.live r.0 taken proper.licensed; goes = join (one (hears w.live u.live refl taken)) (lively_acts u.live r.0 proper.goes); tuned = in_range_as w.live r.0 proper.tune; alive = refl; still = refl }))
 
 -- Processes.
 
@@ -257,7 +263,7 @@ ends_in_world d player line lines w own told =
     let x : World = record u { live = r.0; queue = left_by d a line u.live u.queue } in
     let v : World = followed_up d player r.1 (settled x) in
     let may : Process → Type 0 = MayEnd a w.live v.live in
-    let marks : SameMarks (judge a free w.live.objects) w.live.objects r.0.objects = (((waited_open a u.queue d lines line).law w.live).law own tt).marks in
+    let marks : SameMarks (judge a free w.live.objects) w.live.objects r.0.objects = (waited_proper d a line lines w own).marks in
     let cut : IsLapsing w.live x.live = marks_lapse a free w.live r.0 (nothing_edited a line w.live.objects) told marks in
     may_ends a w v
     (lasting_both may w.queue x.queue v.queue (lasting_left may a line u.live u.queue (λ p e. by_actor e) d)
@@ -301,19 +307,19 @@ pub undisturbed : (may : Connection → Bool) (w : World) → Undisturbed may w 
 undisturbed may w = (record { objects = refl; tune = refl }, none_ends w w refl, leavers_ties may w.live.board.connections w.live.board.connections refl)
 
 -- what only shows on the way disturbs nothing
-pub undisturbed_quietly : (may : Connection → Bool) (f : Change) (w : World) → Quiet f → Undisturbed may w (on_live f w)
+pub undisturbed_quietly : (may : Connection → Bool) (f : Change) (w : World) → Loose f → Undisturbed may w (on_live f w)
 undisturbed_quietly may f w q = let s = q.law w.live in (record { objects = s.objects; tune = s.tune }, none_ends w (on_live f w) refl, leavers_ties may w.live.board.connections (f w.live).board.connections s.ties)
-
-seating_line : (d : ℕ) (line : List ℕ) (lines : List (List ℕ)) → Seating d (waits d lines ▸ at_login d line)
-seating_line d line lines = keeps_followed (waits d lines) (at_login d line) (seating_order d) (seating_quiet d _ (quiet_waits d lines)) (seating_at_login d line)
 
 login_licensed : (d : ℕ) (editor : Option EditState) (line : List ℕ) (lines : List (List ℕ)) (w : World) →
     LineLicensed d None None editor (line ∷ lines) w (on_live (at_login d line) (on_live (waits d lines) w))
 unfolding waits followed
 login_licensed d editor line lines w =
-    let v : World = on_live (at_login d line) (on_live (waits d lines) w) in
+    let u : World = on_live (waits d lines) w in
+    let v : World = on_live (at_login d line) u in
+    let may : Connection → Bool = has_number d in
+    let before = leavers_ties may w.live.board.connections u.live.board.connections ((loose_waits d lines).law w.live).ties in
     elim (screen_at_login d line (waits d lines w.live)) [
-      | inl same ↦ inl (record { objects = same.objects; tune = same.tune }, none_ends w v refl, ((seating_line d line lines).law w.live).leavers)
+      | inl same ↦ inl (record { objects = same.objects; tune = same.tune }, none_ends w v refl, leavers_both d _ _ _ before ((seating_at_login d line).law u.live).leavers)
       | inr found ↦ inr (record { player = found.0; licensed = found.1; notes = found.2; processes = none_ends w v refl })
     ]
 
@@ -327,7 +333,7 @@ given_quietly d pid line lines w = either (is_abort line)
     u = on_live (waits d lines) w
 
     waiting : Quietly w u
-    waiting = quietly_live (waits d lines) (quiet_waits d lines) w
+    waiting = quietly_loose (waits d lines) (loose_waits d lines) w
 
     either : (b : Bool) → Quietly w (cond b (on_live (tell d program_aborted) (on_queue (without pid) u)) (on_queue (on_process pid (told_line u.moment line)) u))
     either true =
@@ -405,10 +411,10 @@ line_told : (d : ℕ) (w : World) (taker : Option ℤ) (player : Option Dbref) (
     IsTold (line_for taker player editor d line (on_live (waits d lines) w)).live
 unfolding followed
 line_told d w (Some pid) player editor line lines h = told_by w.live (given_line d pid line (on_live (waits d lines) w)).live (given_quietly d pid line lines w).objects h
-line_told d w None None editor line lines h = told_notes w.live (at_login d line (waits d lines w.live)) (((seating_line d line lines).law w.live).objects) h
+line_told d w None None editor line lines h = let u : Live = waits d lines w.live in told_notes u (at_login d line u) ((seating_at_login d line).law u).objects (told_by w.live u ((loose_waits d lines).law w.live).objects h)
 line_told d w None (Some player) None line lines h = told_in_world d player line (on_live (waits d lines) w)
 line_told d w None (Some player) (Some s) line lines h =
-    told_in_editor d player s line (on_live (taken_out d lines) w) (told_by w.live (taken_out d lines w.live) (((quiet_taken_out d lines).law w.live).objects) h)
+    told_in_editor d player s line (on_live (taken_out d lines) w) (told_by w.live (taken_out d lines w.live) (((loose_taken_out d lines).law w.live).objects) h)
 
 lines_told : (d : ℕ) (w : World) (player : Option Dbref) (editor : Option EditState) (lines : List (List ℕ)) → IsTold w.live → IsTold (line_done d player editor lines w).live
 lines_told d w player editor [] h = h
@@ -419,12 +425,10 @@ unfolding done
 told_done d w None h = h
 told_done d w (Some c) h = lines_told d w c.player c.editor c.waiting h
 
--- The numbers of the connections, that there are no fewer objects, that what changed is due, that what is tuned stays in its range, that the
--- world lives on, and that the same dump runs.
+-- The way that it goes, the numbers of the connections, that what is tuned stays in its range, that the world lives on, and that the same dump runs.
 
 pub record Going (w v : World) : Type 0 where
-  pub no_fewer : length w.live.objects ≤ length v.live.objects
-  pub marked : Marked w.live.objects v.live.objects
+  pub goes : Goes lively w.live v.live
   pub numbers : numbers v.live.board.connections ≡ numbers w.live.board.connections
   pub tuned : IsInRange w.live.board.tune → IsInRange v.live.board.tune
   pub dead : v.dead ≡ w.dead
@@ -432,15 +436,14 @@ pub record Going (w v : World) : Type 0 where
   pub moment : v.moment ≡ w.moment
 
 pub going_open : (a : Actor) (free : Freedom) (w v : World) → Open a free w.live (state_of w) v → Going w v
-going_open a free w v p = record { no_fewer = p.licensed.no_fewer; marked = p.licensed.marked; numbers = numbers-same_ties a w.live.board.connections v.live.board.connections p.licensed.connections; tuned = p.tuned; dead = p.alive; running = ap (λ (x : Still). x.0) p.still; moment = ap (λ (x : Still). x.1) p.still }
+going_open a free w v p = record { goes = p.goes; numbers = numbers-same_ties a w.live.board.connections v.live.board.connections p.licensed.connections; tuned = p.tuned; dead = p.alive; running = ap (λ (x : Still). x.0) p.still; moment = ap (λ (x : Still). x.1) p.still }
 
 pub going_same : (w : World) → Going w w
-going_same w = record { no_fewer = as_many w.live.objects w.live.objects refl; marked = marked_itself w.live.objects; numbers = refl; tuned = λ h. h; dead = refl; running = refl; moment = refl }
+going_same w = record { goes = stays; numbers = refl; tuned = λ h. h; dead = refl; running = refl; moment = refl }
 
 pub going_both : (u v w : World) → Going u v → Going v w → Going u w
 going_both u v w p q = record {
-  no_fewer = no_fewer_both u.live.objects v.live.objects w.live.objects p.no_fewer q.no_fewer;
-  marked = marked_both u.live.objects v.live.objects w.live.objects p.marked q.marked;
+  goes = join p.goes q.goes;
   numbers = q.numbers ∙ p.numbers;
   tuned = λ h. q.tuned (p.tuned h);
   dead = q.dead ∙ p.dead;
@@ -450,8 +453,7 @@ going_both u v w p q = record {
 
 pub going_quietly : (w v : World) → Quietly w v → Going w v
 going_quietly w v q = record {
-  no_fewer = as_many w.live.objects v.live.objects (ap (λ (os : List Entry). length os) q.objects);
-  marked = marked_as w.live.objects w.live.objects v.live.objects q.objects (marked_itself w.live.objects);
+  goes = one (hears w.live v.live refl (quietly_readies w v q));
   numbers = numbers-ties w.live.board.connections v.live.board.connections q.ties;
   tuned = in_range_as w.live v.live q.tune;
   dead = q.dead;
@@ -459,14 +461,9 @@ going_quietly w v q = record {
   moment = ap (λ (x : Still). x.1) q.still;
 }
 
--- as many where properties alone differ
-many_alike : (es fs : List Entry) → map without_props fs ≡ map without_props es → length fs ≡ length es
-many_alike es fs e = sym (length_map without_props fs) ∙ ap (λ (os : List Entry). length os) e ∙ length_map without_props es
-
 pub going_live : (d : ℕ) (f : Change) → Seating d f → (w : World) → Going w (on_live f w)
 going_live d f p w = record {
-  no_fewer = as_many w.live.objects (f w.live).objects (many_alike w.live.objects (f w.live).objects (p.law w.live).objects);
-  marked = (p.law w.live).marked;
+  goes = lively_acts w.live (f w.live) (p.law w.live).goes;
   numbers = (p.law w.live).numbers;
   tuned = in_range_as w.live (f w.live) (p.law w.live).tune;
   dead = refl;
@@ -474,11 +471,10 @@ going_live d f p w = record {
   moment = refl;
 }
 
--- where objects stand otherwise to the dumps, and what isn't due wasn't before
-pub going_resaved : (f : Saving → Saving) (w : World) → Marked w.live.objects (all_saving f w.live.objects) → Going w (on_live (resaved f) w)
-going_resaved f w marked = record {
-  no_fewer = as_many w.live.objects (all_saving f w.live.objects) (length_resaved f w.live.objects);
-  marked = marked;
+-- where objects stand otherwise to the dumps
+pub going_resaved : (f : Saving → Saving) (w : World) → Walk lively w.live.objects (all_saving f w.live.objects) → Going w (on_live (resaved f) w)
+going_resaved f w walk = record {
+  goes = goes_objects lively w.live (all_saving f w.live.objects) walk;
   numbers = refl;
   tuned = λ h. h;
   dead = refl;
@@ -490,7 +486,7 @@ line_going : (d : ℕ) (w : World) (taker : Option ℤ) (player : Option Dbref) 
     Going w (line_for taker player editor d line (on_live (waits d lines) w))
 unfolding followed
 line_going d w (Some pid) player editor line lines e = going_quietly w _ (given_quietly d pid line lines w)
-line_going d w None None editor line lines e = going_live d (waits d lines ▸ at_login d line) (seating_line d line lines) w
+line_going d w None None editor line lines e = let u : World = on_live (waits d lines) w in going_both w u _ (going_quietly w u (quietly_loose (waits d lines) (loose_waits d lines) w)) (going_live d (at_login d line) (seating_at_login d line) u)
 line_going d w None (Some player) None line lines e = going_open _ _ w _ (open_in_world d player line lines w e)
 line_going d w None (Some player) (Some s) line lines e = going_open _ _ w _ (open_in_editor d player s line lines w)
 

@@ -22,8 +22,7 @@ mod Judged
 mod Chained
 pub mod Living
 pub mod Reached
-pub mod Growing
-pub mod Marking
+pub mod Walked
 pub mod Runs
 pub mod Logging
 pub mod Owning

@@ -17,15 +17,16 @@ use Rattle.spec_live.specs.Saving as saving
 use Rattle.spec_live.specs.Boards.{Board, player_in, opened, closed, line_added, bytes_taken, seated_one, leaving_one, early_board}
 use Rattle.spec_live.specs.Lives.{Live, Change, followed, reading, either, tell, leave, enter, on_board}
 use Rattle.spec_rights.specs.declared.act.Actor.{Actor}
+use Rattle.spec_live.proofs.Lives.{Loose, loose_quiet}
 use Rattle.spec_rights.proofs.Licences.{Quiet, ties_same}
-use Rattle.spec_rights.proofs.Shown.{quiet_tell, quiet_one}
+use Rattle.spec_rights.proofs.Shown.{quiet_tell, quiet_one, loose_one}
 use Rattle.spec_commands.specs.Texts.{first_word, other_words, trimmed, is_alike}
 use Rattle.spec_commands.specs.Replies.{goodbye}
 use Rattle.spec_commands.specs.Finding.{actor_of}
 use Rattle.spec_commands.specs.Talking.{who_shown}
 use Rattle.spec_commands.specs.Talk.{welcome, refused_login, proved, let_in, logged_in, connecting, quit, at_login, waits, parted, gone_away}
 use Rattle.spec_commands.specs.inner.Rising.{IsAbove, IsRising}
-use Rattle.spec_commands.proofs.Showing.{quiet_who_shown, quiet_waits}
+use Rattle.spec_commands.proofs.Showing.{quiet_who_shown, loose_waits}
 use Rattle.spec_commands.proofs.Lines.{quiet_parted}
 use Rattle.muck_queue.specs.Queues.{reader, without as process_without, on_process, told_line}
 use Rattle.spec_events.specs.World.{World, connection, starting, booted, askers_of, on_live, on_queue}
@@ -49,10 +50,13 @@ player_found d cs = option_and_then (λ (c : Connection). c.player) (find (has_n
 
 -- What shows only keeps who is who.
 
-kept_quiet : (d : ℕ) (f : Change) → Quiet f → (w : Live) → player_in d (f w).board ≡ player_in d w.board
-kept_quiet d f q w =
+kept_loose : (d : ℕ) (f : Change) → Loose f → (w : Live) → player_in d (f w).board ≡ player_in d w.board
+kept_loose d f q w =
     let a : Actor = record { level = 0; user = nothing; player = nothing } in
     player-same_ties a d w.board.connections (f w).board.connections (ties_same a w.board.connections (f w).board.connections (q.law w).ties)
+
+kept_quiet : (d : ℕ) (f : Change) → Quiet f → (w : Live) → player_in d (f w).board ≡ player_in d w.board
+kept_quiet d f q w = kept_loose d f (loose_quiet f q) w
 
 kept_changed : (e d : ℕ) (f : Connection → Connection) → ((c : Connection) → (f c).number ≡ c.number) → ((c : Connection) → (f c).player ≡ c.player) → (cs : List Connection) → player_found e (changed_in d f cs) ≡ player_found e cs
 kept_changed e d f number player [] = refl
@@ -219,7 +223,7 @@ unfolding given_line
 gains_given d pid line lines w e p = at (is_abort line)
   where
     waited : player_in e (waits d lines w.live).board ≡ player_in e w.live.board
-    waited = kept_quiet e (waits d lines) (quiet_waits d lines) w.live
+    waited = kept_loose e (waits d lines) (loose_waits d lines) w.live
 
     at : (b : Bool) → player_in e (cond b (on_live (tell d program_aborted) (on_queue (process_without pid) (on_live (waits d lines) w))) (on_queue (on_process pid (told_line w.moment line)) (on_live (waits d lines) w))).live.board ≡ Some p →
         (player_in e w.live.board ≡ Some p) ⊎ ((d ≡ e) × Proves e p w)
@@ -230,7 +234,7 @@ gains_login : (d : ℕ) (line : List ℕ) (lines : List (List ℕ)) (w : World) 
 unfolding waits
 gains_login d line lines w first e p h =
     elim (gives_at_login d line (waits d lines w.live) e p h) [
-      | inl k ↦ inl (sym (kept_quiet e (waits d lines) (quiet_waits d lines) w.live) ∙ k)
+      | inl k ↦ inl (sym (kept_loose e (waits d lines) (loose_waits d lines) w.live) ∙ k)
       | inr k ↦ inr (sym k.0, subst (λ n. Proves n p w) (sym k.0) (record { line = line; lines = lines; waits = first; name = k.1.0; password = k.1.1; gives = k.2; proves = has_password k.1.0 k.1.1 w.live.objects p k.3 }))
     ]
 
@@ -288,7 +292,7 @@ gained (Exec d) party w r l = gained_exec d w (happened w party (Exec d)) (gains
 gained (Slice pid) party w r l = λ e p h. inl (sym (slice_kept pid e (units_of pid w) w (happened w party (Slice pid)) l) ∙ h, λ x. cc)
 gained (Closed d) party w r l = λ e p h. let k = closed_found e d p w.live r h in inl (k.0, λ x. k.1 cc)
 gained (Opened d) party w r l = λ e p h. inl (placed_found e d welcome p w.live.board.connections h, λ x. cc)
-gained (Input d line) party w r l = λ e p h. inl (sym (kept_quiet e (on_board (line_added d line)) (quiet_one d _ (λ c. refl)) w.live) ∙ h, λ x. cc)
+gained (Input d line) party w r l = λ e p h. inl (sym (kept_loose e (on_board (line_added d line)) (loose_one d _ (λ c. refl)) w.live) ∙ h, λ x. cc)
 gained (Take d n) party w r l = λ e p h. inl (sym (kept_quiet e (on_board (bytes_taken d n)) (quiet_one d _ (λ c. refl)) w.live) ∙ h, λ x. cc)
 gained (Stored k) party w r l = λ e p h. inl (sym (kept_quiet e (told_each (askers_of w.dumps) (dump_stored k)) (quiet_told_each (askers_of w.dumps) (dump_stored k)) (resaved saving.done w.live)) ∙ h, λ x. cc)
 gained (DumpFailed k) party w r l = λ e p h. inl (sym (kept_quiet e (told_each (askers_of w.dumps) dump_failed) (quiet_told_each (askers_of w.dumps) dump_failed) (resaved saving.due_again w.live)) ∙ h, λ x. cc)

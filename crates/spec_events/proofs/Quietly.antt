@@ -14,7 +14,10 @@ use Rattle.spec_rights.specs.declared.act.Actor.{Actor}
 use Rattle.spec_rights.specs.declared.act.Act.TheVariants.{Start}
 use Rattle.spec_rights.specs.Verdict.{verdict}
 use Rattle.spec_rights.specs.Asking.{refused}
-use Rattle.spec_rights.proofs.Licences.{Quiet, Shows, quiet_order, tie, ties}
+use Rattle.spec_live.proofs.Steps.{Name, Begun, May}
+use Rattle.spec_live.proofs.Lives.{Shows, Readies, Loose, loose_quiet, Goes, wider}
+use Rattle.spec_rights.proofs.Walking.{acts}
+use Rattle.spec_rights.proofs.Licences.{Quiet, quiet_order, tie, ties}
 use Rattle.spec_rights.proofs.Shown.{quiet_tell, quiet_refused}
 use Rattle.muf_model.specs.declared.fault.MufFault.{MufFault}
 use Rattle.muf_model.specs.declared.fault.MufFault.TheVariants.{ProcessLimit}
@@ -56,8 +59,26 @@ quietly_same w = record { objects = refl; ties = refl; tune = refl; dead = refl;
 pub quietly_both : (u v w : World) → Quietly u v → Quietly v w → Quietly u w
 quietly_both u v w p q = record { objects = q.objects ∙ p.objects; ties = q.ties ∙ p.ties; tune = q.tune ∙ p.tune; dead = q.dead ∙ p.dead; still = q.still ∙ p.still }
 
+-- What events may touch by which no dump begins.
+abbrev pub lively : May
+lively Begun = false
+lively _ = true
+
+pub lively_acts : (w v : Live) → Goes acts w v → Goes lively w v
+lively_acts w v p = wider acts lively up w v p
+  where
+    up : (name : Name) → acts name ≡ true → lively name ≡ true
+    up Begun h = h
+    up _ h = refl
+
+pub quietly_readies : (w v : World) → Quietly w v → Readies w.live v.live
+quietly_readies w v q = record { objects = q.objects; ties = q.ties; tune = q.tune }
+
+pub quietly_loose : (f : Change) → Loose f → (w : World) → Quietly w (on_live f w)
+quietly_loose f q w = let s = q.law w.live in record { objects = s.objects; ties = s.ties; tune = s.tune; dead = refl; still = refl }
+
 pub quietly_live : (f : Change) → Quiet f → (w : World) → Quietly w (on_live f w)
-quietly_live f q w = let s = q.law w.live in record { objects = s.objects; ties = s.ties; tune = s.tune; dead = refl; still = refl }
+quietly_live f q w = quietly_loose f (loose_quiet f q) w
 
 pub quietly_queue : (f : Queue → Queue) (w : World) → Quietly w (on_queue f w)
 quietly_queue f w = record { objects = refl; ties = refl; tune = refl; dead = refl; still = refl }

@@ -11,25 +11,27 @@ use Rattle.muck_model.specs.declared.tune.Tune.{Tune}
 use Rattle.spec_live.specs.Objects.{Entry as Kept}
 use Rattle.spec_live.specs.declared.saving.Saving.{Saving}
 use Rattle.spec_live.specs.Start.{first_objects}
-use Rattle.spec_live.specs.Saving.{Marked, done, due_again, all_saving}
+use Rattle.spec_live.specs.Saving.{done, due_again, all_saving}
 use Rattle.spec_live.specs.Output.{bytes_of}
 use Rattle.spec_live.specs.Connections.{Connection, has_number, placed, without, newcomer, connections_most, holds, lined}
 use Rattle.spec_live.specs.Boards.{Board, player_in, opened, closed, line_added, bytes_taken, first_tune, early_board}
 use Rattle.spec_live.specs.Lives.{Live, Change, followed, reading, on_board}
-use Rattle.spec_live.proofs.Marking.{marked_stored, marked_failed}
+use Rattle.spec_live.proofs.Steps.{Walk}
+use Rattle.spec_live.proofs.Walks.{walk_stored, walk_failed}
 use Rattle.spec_admin.specs.declared.word.Parameter.TheVariants.{InstrSlice, PreemptUnits, M1Units, M2Units, ProcessLimit, PlayerProcesses, MpiCommands, DumpInterval}
 use Rattle.spec_admin.specs.Parameters.{IsInRange}
 use Rattle.spec_commands.specs.Talk.{welcome, parted, gone_away}
 use Rattle.spec_commands.specs.inner.Rising.{IsAbove, IsRising}
-use Rattle.spec_commands.proofs.Numbered.{rising_by, seating_quiet, seating_one}
+use Rattle.spec_rights.proofs.Shown.{loose_one}
+use Rattle.spec_commands.proofs.Numbered.{rising_by, seating_quiet}
 use Rattle.spec_commands.proofs.Lines.{quiet_parted}
 use Rattle.spec_events.specs.World.{World, connection, queue_of, is_leaving, askers_of, on_live, booted, starting}
 use Rattle.spec_events.specs.Dumping.{resaved, dump_stored, dump_failed, told_each}
 use Rattle.spec_events.specs.Steps.{is_free, may_idle, is_allowed, is_lawful, is_died, happened, effect, next_ready}
 use Rattle.spec_events.specs.Histories.{by_porter}
 use Rattle.spec_events.specs.inner.Sound.{IsSound}
-use Rattle.spec_events.proofs.Quietly.{quietly_live, quiet_told_each}
-use Rattle.spec_events.proofs.Done.{Going, in_range_as, going_both, going_quietly, going_live, going_resaved, done_going}
+use Rattle.spec_events.proofs.Quietly.{lively, quietly_loose, quietly_live, quiet_told_each}
+use Rattle.spec_events.proofs.Done.{Going, in_range_as, going_both, going_quietly, going_resaved, done_going}
 use Rattle.spec_events.proofs.Taken.{sliced_going}
 use Rattle.spec_events.proofs.Happening.{effect-board}
 use Rattle.spec_events.proofs.Living.{dead-effect}
@@ -99,16 +101,16 @@ no_connection d w first stop few e = none_of (connection d w) (and_parts first _
 
 -- What the end of a dump makes of objects, and what is told of it, keeps the world as it was before.
 
-ended-going : (f : Saving → Saving) (ds : List ℕ) (text : List ℕ) (w : World) → Marked w.live.objects (all_saving f w.live.objects) → Going w (on_live (told_each ds text) (on_live (resaved f) w))
-ended-going f ds text w marked =
+ended-going : (f : Saving → Saving) (ds : List ℕ) (text : List ℕ) (w : World) → Walk lively w.live.objects (all_saving f w.live.objects) → Going w (on_live (told_each ds text) (on_live (resaved f) w))
+ended-going f ds text w walk =
     let u : World = on_live (resaved f) w in
-    going_both w u (on_live (told_each ds text) u) (going_resaved f w marked) (going_quietly u _ (quietly_live (told_each ds text) (quiet_told_each ds text) u))
+    going_both w u (on_live (told_each ds text) u) (going_resaved f w walk) (going_quietly u _ (quietly_live (told_each ds text) (quiet_told_each ds text) u))
 
 pub stored-going : (k : ℕ) (w : World) → Going w (on_live (told_each (askers_of w.dumps) (dump_stored k)) (on_live (resaved done) w))
-stored-going k w = ended-going done (askers_of w.dumps) (dump_stored k) w (marked_stored w.live.objects)
+stored-going k w = ended-going done (askers_of w.dumps) (dump_stored k) w (walk_stored lively w.live.objects refl)
 
 pub failed-going : (w : World) → Going w (on_live (told_each (askers_of w.dumps) dump_failed) (on_live (resaved due_again) w))
-failed-going w = ended-going due_again (askers_of w.dumps) dump_failed w (marked_failed w.live.objects)
+failed-going w = ended-going due_again (askers_of w.dumps) dump_failed w (walk_failed lively w.live.objects refl)
 
 going-rises : (w v : World) → Going w v → IsRising w.live.board.connections → IsRising v.live.board.connections
 going-rises w v g h = rising_by w.live.board.connections v.live.board.connections g.numbers h
@@ -125,11 +127,11 @@ pub rising-happened : (event : Event) (party : ℕ) (w : World) → is_allowed w
 unfolding opened line_added bytes_taken
 rising-happened (Opened d) party w l h =
     rising-placed (newcomer d welcome) w.live.board.connections (no_connection d w (party == 0) w.stopping (nat_lt (length w.live.board.connections) connections_most) l) h
-rising-happened (Input d line) party w l h = going-rises w _ (going_live d (on_board (line_added d line)) (seating_one d (lined line) (λ c. refl)) w) h
+rising-happened (Input d line) party w l h = going-rises w _ (going_quietly w _ (quietly_loose (on_board (line_added d line)) (loose_one d (lined line) (λ c. refl)) w)) h
 rising-happened (Closed d) party w l h = rising-gone_away d w.live h
 rising-happened (Exec d) party w l h = going-rises w _ (done_going d w (connection d w) refl) h
 rising-happened (Slice pid) party w l h = going-rises w _ (sliced_going pid w) h
-rising-happened (Take d n) party w l h = going-rises w _ (going_live d (on_board (bytes_taken d n)) (seating_one d _ (λ c. refl)) w) h
+rising-happened (Take d n) party w l h = going-rises w _ (going_quietly w _ (quietly_loose (on_board (bytes_taken d n)) (loose_one d _ (λ c. refl)) w)) h
 rising-happened (Stored k) party w l h = going-rises w _ (stored-going k w) h
 rising-happened (DumpFailed k) party w l h = going-rises w _ (failed-going w) h
 rising-happened event party w l h = h

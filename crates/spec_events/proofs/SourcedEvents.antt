@@ -43,6 +43,7 @@ use Rattle.spec_commands.specs.Editing.{editor_exited, is_open, edited}
 use Rattle.spec_commands.specs.Finding.{actor_of}
 use Rattle.spec_commands.specs.Talk.{at_login, waits, gone_away}
 use Rattle.spec_commands.specs.Commands.{played}
+use Rattle.spec_rights.proofs.Telling.{told_along}
 use Rattle.spec_commands.proofs.Edited.{edited_proper}
 use Rattle.spec_commands.proofs.Lines.{seating_at_login}
 use Rattle.spec_admin.specs.Lines.{line_ends, after_line}
@@ -108,7 +109,7 @@ module _ (B : Dbref → List (List ℕ) → Tree → Type 0) where
       let a : Actor = actor_of w.live.objects player in
       let r = edited d a s line w.live in
       let u : World = record w { live = with_editor d (next_editor r.2 r.1) r.0 } in
-      after_sourced d s.program r.2 (settled u) now (settles w u (lined_told w.live.objects r.0.objects (edited_proper d a s line w.live).told) refl h.processes h)
+      after_sourced d s.program r.2 (settled u) now (settles w u (lined_told w.live.objects r.0.objects (told_along w.live r.0 (edited_proper d a s line w.live).goes)) refl h.processes h)
 
   editor_sourced : (d : ℕ) (player : Dbref) (s : EditState) (line : List ℕ) (w : World) → units.Moment B (in_editor d player s line w).live.objects → Sourced B w → Sourced B (in_editor d player s line w)
   unfolding in_editor
@@ -177,7 +178,7 @@ module _ (B : Dbref → List (List ℕ) → Tree → Type 0) where
       let r = typed w.queue d a line w.live in
       let u : World = record w { live = r.0; queue = left_by d a line w.live w.queue } in
       up_sourced d player r.1 (settled u) now
-      (settles w u (lined_told w.live.objects r.0.objects (((typed_open a None w.queue d line).law w.live).law tt tt).told) refl (left_stand (λ p. Standing (OfSource B w.live.objects) p.running) d a line w.live w.queue h.processes) h)
+      (settles w u (lined_told w.live.objects r.0.objects (told_along w.live r.0 (((typed_open a None w.queue d line).law w.live).law tt tt).goes)) refl (left_stand (λ p. Standing (OfSource B w.live.objects) p.running) d a line w.live w.queue h.processes) h)
 
   command_sourced : (player : Option Dbref) (editor : Option EditState) (d : ℕ) (line : List ℕ) (w : World) → units.Moment B (command player editor d line w).live.objects → Sourced B w → Sourced B (command player editor d line w)
   command_sourced None editor d line w now h = as_sources w (on_live (at_login d line) w) (notes_sources w.live.objects (at_login d line w.live).objects ((seating_at_login d line).law w.live).objects) refl refl h

@@ -18,6 +18,7 @@ use Rattle.muf_model.specs.Source.{Program, Source, locked_of, calls_of, handed,
 use Rattle.muf_model.specs.Unit.{calls_most, Outcome, goes, faulted, asks, unit, fault}
 use Rattle.muf_model.specs.Chains.{programs_of, Keeps as Keep}
 use Rattle.muf_model.proofs.Chains.{unit_keeps, fault_keeps}
+use Rattle.spec_rights.proofs.Telling.{told_along}
 use Rattle.spec_prims.specs.Asking.{numbered}
 use Rattle.spec_prims.specs.Row.{Row, gives, refuses, breaks}
 use Rattle.spec_prims.specs.Shared.{shared}
@@ -207,7 +208,7 @@ module _ (B : Dbref → List (List ℕ) → Tree → Type 0) where
   RowLined w (breaks f v) = SameSources w.objects v.objects
 
   row_lined : (a : Actor) (w : Live) (row : Row) → RowOpen a w row → RowLined w row
-  row_lined a w (gives items v) h = lined_told w.objects v.objects h.told
+  row_lined a w (gives items v) h = lined_told w.objects v.objects (told_along w v h.goes)
   row_lined a w (refuses f) h = tt
   row_lined a w (breaks f v) h = notes_sources w.objects v.objects h.1.objects
 

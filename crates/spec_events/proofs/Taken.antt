@@ -3,6 +3,7 @@ use Rattle.std.proofs.Common.{◌≡◌, ℕ, ℤ, Bool, true, false, cond, List
 use Rattle.muck_model.specs.declared.dbref.Dbref.{Dbref}
 use Rattle.muck_model.specs.declared.tune.Tune.{Tune}
 use Rattle.spec_live.specs.Lives.{Live, tell_player}
+use Rattle.spec_live.proofs.Keeping.{stays}
 use Rattle.spec_rights.specs.declared.act.Actor.{Actor}
 use Rattle.spec_rights.specs.Licence.{nobody}
 use Rattle.spec_rights.proofs.Shown.{quiet_tell_player}
@@ -26,7 +27,7 @@ use Rattle.spec_events.specs.declared.starting.Agent.{Agent}
 use Rattle.spec_events.specs.World.{World}
 use Rattle.spec_events.specs.Licences.{answers_at}
 use Rattle.spec_events.specs.Slices.{acting, Deed, does, rests, fails, lifted, row_done, process_done, deed, stands_at, ended_one, out, one_counted, broken, program_error, went, after_deed, unit_done, limit_fault, within_limit, turn, world_of, slice_most, run_of, last_world, awake, sliced}
-use Rattle.spec_events.proofs.Quietly.{Quietly, quietly_live, quietly_queue}
+use Rattle.spec_events.proofs.Quietly.{lively_acts, Quietly, quietly_live, quietly_queue}
 use Rattle.spec_events.proofs.Endings.{IsTold, told_settled}
 use Rattle.spec_events.proofs.Login.{told_notes}
 use Rattle.spec_events.proofs.Done.{state_of, told_by, in_range_as, Open, open_quietly, open_settled, Going, going_same, going_both, going_open}
@@ -40,12 +41,12 @@ module _ (a : Actor) (w : World) where
   Opens v = Open a nobody w.live (state_of w) v
 
   opens_itself : Opens w
-  opens_itself = record { licensed = (same_open a w.live).licensed; tuned = λ h. h; alive = refl; still = refl }
+  opens_itself = record { licensed = (same_open a w.live).licensed; goes = stays; tuned = λ h. h; alive = refl; still = refl }
 
   opens_row : (s : Source) (row : Row) → RowOpen a w.live row → Leads Opens (lifted s w row)
-  opens_row s (gives stack live) h = record { licensed = h.licensed; tuned = in_range_as w.live live h.tune; alive = refl; still = refl }
+  opens_row s (gives stack live) h = record { licensed = h.licensed; goes = lively_acts w.live live h.goes; tuned = in_range_as w.live live h.tune; alive = refl; still = refl }
   opens_row s (refuses f) h = opens_itself
-  opens_row s (breaks f live) h = record { licensed = h.0.licensed; tuned = in_range_as w.live live h.0.tune; alive = refl; still = refl }
+  opens_row s (breaks f live) h = record { licensed = h.0.licensed; goes = lively_acts w.live live h.0.goes; tuned = in_range_as w.live live h.0.tune; alive = refl; still = refl }
 
   opens_quietly : (v : World) → Quietly w v → Opens v
   opens_quietly v q = open_quietly a nobody w.live (state_of w) w v opens_itself q
@@ -194,7 +195,7 @@ going_run : (tune : Tune) (pid : ℤ) (n : ℕ) (w : World) → Going w (last_wo
 going_run tune pid n w = run_holds tune pid (λ v ts. Going v (last_world v ts)) going_same (λ v x s ts e rest. going_both v _ _ (going_turn tune pid x s v) rest) n w
 
 going_awake : (pid : ℤ) (w : World) → Going w (awake pid w)
-going_awake pid w = record { no_fewer = (going_same w).no_fewer; marked = (going_same w).marked; numbers = refl; tuned = λ h. h; dead = refl; running = refl; moment = refl }
+going_awake pid w = record { goes = stays; numbers = refl; tuned = λ h. h; dead = refl; running = refl; moment = refl }
 
 pub sliced_going : (pid : ℤ) (w : World) → Going w (sliced pid w)
 unfolding sliced

@@ -12,7 +12,8 @@ use Rattle.spec_live.specs.Boards.{player_in, opened, closed, line_added, bytes_
 use Rattle.spec_live.specs.Lives.{Live, followed, reading, on_board}
 use Rattle.spec_live.proofs.Savings.{mark_resaved}
 use Rattle.spec_commands.specs.Talk.{gone_away}
-use Rattle.spec_rights.proofs.Shown.{quiet_one}
+use Rattle.spec_live.proofs.Lives.{readies}
+use Rattle.spec_rights.proofs.Shown.{loose_one}
 use Rattle.spec_commands.proofs.Numbered.{leavers_ties}
 use Rattle.spec_commands.proofs.Lines.{quiet_parted}
 use Rattle.muck_queue.specs.Queues.{is_tied_to, claimed, released}
@@ -49,7 +50,7 @@ dump_licensed f ds text w =
     let s = (quiet_told_each ds text).law u.live in (
       record { objects = s.objects; tune = s.tune },
       none_ends w (on_live (told_each ds text) u) refl,
-      leavers_ties (λ c. false) w.live.board.connections (told_each ds text u.live).board.connections s.ties,
+      leavers_ties (λ c. false) w.live.board.connections (told_each ds text u.live).board.connections (readies u.live (told_each ds text u.live) s).ties,
     )
 
 event_licensed : (event : Event) (w : World) (party : ℕ) → IsTold w.live → IsNumbered w.queue → EventLicensed event w (happened w party event)
@@ -59,8 +60,8 @@ event_licensed (Slice pid) w party told rising = let s = slice_licensed pid w to
 event_licensed (Closed d) w party told rising =
     (gone_away_untouched d w.live, processes_remain (λ p. is_tied_to d p ≡ true) (λ p. is_tied_to d p ≡ true) w (happened w party (Closed d)) (λ p m. m) (tied_remain d w.queue))
 event_licensed (Opened d) w party told rising = (record { objects = refl; tune = refl }, none_ends w (happened w party (Opened d)) refl)
-event_licensed (Input d line) w party told rising = undisturbed_quietly (λ c. false) (on_board (line_added d line)) w (quiet_one d _ (λ c. refl))
-event_licensed (Take d n) w party told rising = undisturbed_quietly (λ c. false) (on_board (bytes_taken d n)) w (quiet_one d _ (λ c. refl))
+event_licensed (Input d line) w party told rising = undisturbed_quietly (λ c. false) (on_board (line_added d line)) w (loose_one d _ (λ c. refl))
+event_licensed (Take d n) w party told rising = undisturbed_quietly (λ c. false) (on_board (bytes_taken d n)) w (loose_one d _ (λ c. refl))
 event_licensed (Cut k) w party told rising =
     (record { objects = refl; tune = refl }, none_ends w (happened w party (Cut k)) refl, leavers_ties (λ c. false) w.live.board.connections w.live.board.connections refl)
 event_licensed (Stored k) w party told rising = dump_licensed done (askers_of w.dumps) (dump_stored k) w

@@ -1,23 +1,21 @@
 -- A line of a player: what it leaves to the keepers, who alone retune the world, and that what it does is open to who types it.
-use Rattle.std.proofs.Common.{◌≡◌, ℕ, true, List, subst, Option, Some, None}
+use Rattle.std.proofs.Common.{◌≡◌, ℕ, true, List, subst, Option, None}
 use Rattle.muck_model.specs.declared.tune.Tune.{Tune}
-use Rattle.spec_live.specs.Lives.{Live, ◌▸◌}
+use Rattle.spec_live.specs.Lives.{Live}
 use Rattle.spec_live.proofs.Keeping.{Keeps, keeps_more}
 use Rattle.spec_rights.specs.declared.act.Actor.{Actor}
 use Rattle.spec_rights.specs.Verdict.{is_master}
-use Rattle.spec_rights.proofs.Licences.{Whole, Always, whole_followed}
+use Rattle.spec_rights.proofs.Licences.{Whole, Always}
 use Rattle.spec_rights.proofs.Shown.{quiet_tell}
 use Rattle.spec_commands.specs.declared.outcome.Outcome.{Outcome}
 use Rattle.spec_commands.specs.declared.outcome.Outcome.TheVariants.{NotMine, Retune}
 use Rattle.spec_commands.specs.Free.{free_line}
-use Rattle.spec_commands.specs.Talk.{waits}
 use Rattle.spec_commands.specs.Commands.{played}
 use Rattle.spec_commands.specs.Going.{ended}
 use Rattle.spec_commands.proofs.Gone.{world_of}
 use Rattle.spec_commands.proofs.Plain.{Untuned}
 use Rattle.spec_commands.proofs.Lawful.{open_quiet}
 use Rattle.spec_commands.proofs.Permitted.{Leaves, keeps_or, played_leading}
-use Rattle.spec_commands.proofs.Showing.{quiet_waits}
 use Rattle.muck_queue.specs.Queues.{Queue}
 use Rattle.spec_admin.specs.Parameters.{IsInRange}
 use Rattle.spec_admin.proofs.Following.{AsFollows}
@@ -65,7 +63,3 @@ typed_open a own q d line =
     let keeper = admin_leading a own (free_line a line) q d line in
     keeps_or Untuned _ _ player.left player.licence
     (keeps_or (AsFollows a) _ _ keeper.left keeper.licence (open_quiet a own (free_line a line) _ _ (quiet_tell d _)))
-
--- with the lines that wait behind it
-pub waited_open : (a : Actor) (q : Queue) (d : ℕ) (lines : List (List ℕ)) (line : List ℕ) → Whole world_of a (Some d) (free_line a line) Always (waits d lines ▸ typed q d a line)
-waited_open a q d lines line = whole_followed world_of a (Some d) (free_line a line) Always (waits d lines) (typed q d a line) (quiet_waits d lines) (typed_open a (Some d) q d line)

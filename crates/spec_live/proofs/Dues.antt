@@ -13,9 +13,9 @@ use Rattle.spec_live.specs.Making.{blank_entry}
 use Rattle.spec_live.specs.Moving.{left_out, put_first, with_place, set_down}
 use Rattle.spec_live.specs.Recycling.{gone_entry, is_exit_of, exit_gone, without_exits, exits_gone, vanished}
 use Rattle.spec_live.specs.Saving.{Links, saving_in, links_in, next_in, front, is_number, same_links, relinked, all_saving}
-use Rattle.spec_live.proofs.Lists.{get_changed_same, get_changed_other, read_more}
+use Rattle.spec_live.proofs.Lists.{read_mapped, get_changed_same, get_changed_other, read_more}
 use Rattle.spec_live.proofs.Savings.{object_relinked, list_relinked, saving_relinked, object_resaved, list_resaved}
-use Rattle.spec_live.proofs.Readers.{kind_alike, place_alike}
+use Rattle.spec_live.proofs.Readers.{entry_change, kind_alike, place_alike}
 use Rattle.spec_live.proofs.RecyclingLaws.{is_exit_at}
 
 abbrev pub saving_seen : Option Entry → Saving
@@ -43,14 +43,7 @@ saving_here n f es h = rw (get_changed_same es n f) (by_cases (slice_get es n))
 -- that leaves the mark as it is
 pub saving_kept : (n k : ℕ) (f : Entry → Entry) (es : List Entry) → ((e : Entry) → (f e).saving ≡ e.saving) → saving_in (changed_at n f es) k ≡ saving_in es k
 unfolding saving_in
-saving_kept n k f es h = elim (cases_eq k n) [
-  | inl q ↦ rw (q, get_changed_same es n f) (by_cases (slice_get es n))
-  | inr q ↦ rw (get_changed_other es n k f q) refl
-]
-  where
-    by_cases : (o : Option Entry) → saving_seen (option_map f o) ≡ saving_seen o
-    by_cases None = refl
-    by_cases (Some e) = h e
+saving_kept n k f es h = entry_change saving_seen n k f es h
 
 -- seen at any number
 pub saving_changed : (n k : ℕ) (f : Entry → Entry) (es : List Entry) → ((e : Entry) → (f e).saving ≡ Due) → saving_in (changed_at n f es) k ≡ cond (eqb k n) Due (saving_in es k)
@@ -76,11 +69,8 @@ saving_mapped f b es k h = rw (slice_get-map f es k) (by_cases (slice_get es k))
     by_cases (Some e) = h e
 
 pub saving_left : (d k : ℕ) (es : List Entry) → saving_in (map (left_out d) es) k ≡ saving_in es k
-saving_left d k es = saving_mapped (left_out d) (λ o. false) es k (λ e. refl) ∙ by_cases (object_in es k)
-  where
-    by_cases : (o : Option Object) → cond (option_map_or (λ (x : Object). false) o false) Due (saving_in es k) ≡ saving_in es k
-    by_cases None = refl
-    by_cases (Some o) = refl
+unfolding saving_in
+saving_left d k es = read_mapped saving_seen (left_out d) es k (λ e. refl)
 
 -- A move.
 

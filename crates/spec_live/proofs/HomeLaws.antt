@@ -11,13 +11,13 @@ use Rattle.muck_model.specs.declared.dbref.Kind.TheVariants.{Room, Thing, Player
 use Rattle.spec_live.specs.declared.object.Object.{Object}
 use Rattle.spec_live.specs.Flags.{no_flags}
 use Rattle.spec_live.specs.Chain.{Member, IsApart, has, without}
-use Rattle.spec_live.specs.Objects.{Entry, dbref_of, nothing, home, same, index_of, is_exit, is_player, is_garbage, may_stand, garbage, object_in, list_of, list_in, mark_in, kind_in, flags_in, place_in, owner_in, home_in, is_vehicle_in, fits_in, path_in}
+use Rattle.spec_live.specs.Objects.{Entry, dbref_of, nothing, same, index_of, is_exit, is_player, is_garbage, may_stand, garbage, object_in, list_of, list_in, mark_in, kind_in, flags_in, place_in, owner_in, home_in, is_vehicle_in, fits_in, path_in}
 use Rattle.spec_live.specs.Moving.{moved}
 use Rattle.spec_live.specs.Setting.{may_link, may_live}
 use Rattle.spec_live.specs.Recycling.{without_ties, untie, untied, wished_home, may_go, way_home, sent_home}
 use Rattle.spec_live.specs.Consistent.{HasLink, HasHome, IsTied, IsOrdered, IsConsistent, StandsIn, MayMove}
 use Rattle.spec_live.proofs.Chains.{member_later, member_none, without_first, apart_first}
-use Rattle.spec_live.proofs.Lists.{length_map, put_other, has_not}
+use Rattle.spec_live.proofs.Lists.{read_mapped, length_map, put_other, has_not}
 use Rattle.spec_live.proofs.KindLaws.{none_in_garbage, stands_still, stands_in_room, garbage_in_none}
 use Rattle.spec_live.proofs.Readers.{kind_past, list_moved, kind_moved, length_moved}
 use Rattle.spec_live.proofs.Orders.{ordered_alike, ordered_moved}
@@ -36,48 +36,28 @@ object_untied d k es = rw (slice_get-map (untie d) es k) (by_cases (slice_get es
 
 pub list_untied : (v : Bool) (d k : ℕ) (es : List Entry) → list_in v (untied d es) k ≡ list_in v es k
 unfolding list_in untied
-list_untied v d k es = rw (slice_get-map (untie d) es k) (by_cases v (slice_get es k))
-  where
-    by_cases : (v : Bool) (o : Option Entry) → option_map_or (list_of v) (option_map (untie d) o) [] ≡ option_map_or (list_of v) o []
-    by_cases v None = refl
-    by_cases true (Some e) = refl
-    by_cases false (Some e) = refl
+list_untied true d k es = read_mapped (λ o. option_map_or (list_of true) o []) (untie d) es k (λ e. refl)
+list_untied false d k es = read_mapped (λ o. option_map_or (list_of false) o []) (untie d) es k (λ e. refl)
 
 pub mark_untied : (d k : ℕ) (es : List Entry) → mark_in (untied d es) k ≡ mark_in es k
 unfolding mark_in untied
-mark_untied d k es = rw (slice_get-map (untie d) es k) (by_cases (slice_get es k))
-  where
-    by_cases : (o : Option Entry) → option_and_then (λ (e : Entry). e.mark) (option_map (untie d) o) ≡ option_and_then (λ (e : Entry). e.mark) o
-    by_cases None = refl
-    by_cases (Some e) = refl
+mark_untied d k es = read_mapped (λ o. option_and_then (λ (e : Entry). e.mark) o) (untie d) es k (λ e. refl)
 
 pub length_untied : (d : ℕ) (es : List Entry) → length (untied d es) ≡ length es
 unfolding untied
 length_untied d es = length_map (untie d) es
 
 pub kind_untied : (d k : ℕ) (es : List Entry) → kind_in (untied d es) k ≡ kind_in es k
-unfolding kind_in
-kind_untied d k es = rw (object_untied d k es) (by_cases (object_in es k))
-  where
-    by_cases : (o : Option Object) → option_map_or (λ (x : Object). x.kind) (option_map (without_ties d) o) Garbage ≡ option_map_or (λ (x : Object). x.kind) o Garbage
-    by_cases None = refl
-    by_cases (Some o) = refl
+unfolding kind_in object_in untied
+kind_untied d k es = read_mapped (λ o. option_map_or (λ (x : Object). x.kind) (option_map (λ (e : Entry). e.object) o) Garbage) (untie d) es k (λ e. refl)
 
 pub flags_untied : (d k : ℕ) (es : List Entry) → flags_in (untied d es) k ≡ flags_in es k
-unfolding flags_in
-flags_untied d k es = rw (object_untied d k es) (by_cases (object_in es k))
-  where
-    by_cases : (o : Option Object) → option_map_or (λ (x : Object). x.flags) (option_map (without_ties d) o) no_flags ≡ option_map_or (λ (x : Object). x.flags) o no_flags
-    by_cases None = refl
-    by_cases (Some o) = refl
+unfolding flags_in object_in untied
+flags_untied d k es = read_mapped (λ o. option_map_or (λ (x : Object). x.flags) (option_map (λ (e : Entry). e.object) o) no_flags) (untie d) es k (λ e. refl)
 
 pub place_untied : (d k : ℕ) (es : List Entry) → place_in (untied d es) k ≡ place_in es k
-unfolding place_in
-place_untied d k es = rw (object_untied d k es) (by_cases (object_in es k))
-  where
-    by_cases : (o : Option Object) → option_and_then (λ (x : Object). index_of x.place) (option_map (without_ties d) o) ≡ option_and_then (λ (x : Object). index_of x.place) o
-    by_cases None = refl
-    by_cases (Some o) = refl
+unfolding place_in object_in untied
+place_untied d k es = read_mapped (λ o. option_and_then (λ (x : Object). index_of x.place) (option_map (λ (e : Entry). e.object) o)) (untie d) es k (λ e. refl)
 
 pub fits_untied : (d x p : ℕ) (es : List Entry) → fits_in (untied d es) x p ≡ fits_in es x p
 unfolding fits_in is_vehicle_in

@@ -11,6 +11,30 @@ pub record Order {W : Type 0} (R : W → W → Type 0) : Type 0 where
   pub itself : (w : W) → R w w
   pub both : (u v w : W) → R u v → R v w → R u w
 
+-- A path of steps, and what holds along it.
+
+pub data Path {W : Type 0} (Step : W → W → Type 0) : W → W → Type 0 where
+  stays : {w : W} → Path Step w w
+  goes : {u v w : W} → Step u v → Path Step v w → Path Step u w
+
+pub one : {W : Type 0} {Step : W → W → Type 0} {u v : W} → Step u v → Path Step u v
+one s = goes s stays
+
+pub join : {W : Type 0} {Step : W → W → Type 0} {u v w : W} → Path Step u v → Path Step v w → Path Step u w
+join stays q = q
+join (goes s p) q = goes s (join p q)
+
+-- so what is said of each way to put changes together is said of paths
+pub path_order : {W : Type 0} (Step : W → W → Type 0) → Order (Path Step)
+path_order Step = record { itself = λ w. stays; both = λ u v w p q. join p q }
+
+-- what holds of each step holds of the path
+pub along : {W : Type 0} {Step R : W → W → Type 0} → Order R → ((u v : W) → Step u v → R u v) → (u w : W) → Path Step u w → R u w
+along o law _ _ (stays {w}) = o.itself w
+along o law _ _ (goes {u} {v} {w} s p) = o.both u v w (law u v s) (along o law v w p)
+
+-- Changes put together.
+
 pub keeps_unchanged : {W : Type 0} {R : W → W → Type 0} → Order R → Keeps R unchanged
 unfolding unchanged
 keeps_unchanged o = record { law = o.itself }

@@ -13,10 +13,14 @@ pub mod Fewer
 pub mod HomeLaws
 pub mod RecyclingLaws
 pub mod Dues
+pub mod Keeping
+pub mod Steps
+pub mod Walks
+pub mod Entries
 pub mod Marking
+pub mod Lives
 pub mod Resaved
 pub mod Standing
 pub mod EditorLaws
-pub mod Keeping
 pub mod PathLaws
 pub mod PasswordLaws

@@ -1,6 +1,7 @@
 -- Changes of a list at one place, seen through its readers, and lists with a number left out or put in front.
 use Rattle.std.proofs.Common.{◌≡◌, ℕ, ◌<◌, zero, suc, List, [], ◌∷◌, ◌++◌, Option, Some, None, ◌⊎◌, inl, inr, refl, sym, ◌∙◌, ap, subst, length, arith, Bool, true, false, cond, eqb, ◌||◌, map}
 use Rattle.std.proofs.lemmas.Bool.{cases_eq, ne_eqb, eq-eqb, false≢true}
+use Rattle.std.proofs.lemmas.Option.{slice_get-map}
 use Rattle.std.specs.List.{slice_get, slice_set}
 use Rattle.std.specs.Option.{option_map, option_and_then}
 use Rattle.spec_live.specs.Chain.{Member, IsApart, has, without, put_at}
@@ -10,6 +11,14 @@ use Rattle.spec_live.proofs.Chains.{without_member}
 pub length_map : {X Y : Type 0} (f : X → Y) (xs : List X) → length (map f xs) ≡ length xs
 length_map f [] = refl
 length_map f (x ∷ xs) = ap suc (length_map f xs)
+
+-- a reader that f leaves as it is
+pub read_mapped : {X Y : Type 0} (read : Option X → Y) (f : X → X) (xs : List X) (k : ℕ) → ((x : X) → read (Some (f x)) ≡ read (Some x)) → read (slice_get (map f xs) k) ≡ read (slice_get xs k)
+read_mapped {X} read f xs k h = ap read (slice_get-map f xs k) ∙ by_cases (slice_get xs k)
+  where
+    by_cases : (o : Option X) → read (option_map f o) ≡ read o
+    by_cases None = refl
+    by_cases (Some x) = h x
 
 get_set_same : {X : Type 0} (xs : List X) (n : ℕ) (v x : X) → slice_get xs n ≡ Some x → slice_get (slice_set xs n v) n ≡ Some v
 get_set_same [] n v x h = absurd (cc)

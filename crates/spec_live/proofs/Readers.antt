@@ -16,7 +16,7 @@ use Rattle.spec_live.specs.Flags.{no_flags}
 use Rattle.spec_live.specs.Objects.{Entry, index_of, object_in, list_of, list_in, mark_in, kind_in, flags_in, place_in, fits_in, is_vehicle_in, is_exit, changed_at, on_object, with_object}
 use Rattle.spec_live.specs.Moving.{left_out, put_first, with_place, set_down, moved}
 use Rattle.spec_live.specs.Saving.{saving_in}
-use Rattle.spec_live.proofs.Lists.{length_map, get_changed_same, get_changed_other, length_changed, some_at, same_place, put_same, put_other}
+use Rattle.spec_live.proofs.Lists.{length_map, read_mapped, get_changed_same, get_changed_other, length_changed, some_at, same_place, put_same, put_other}
 use Rattle.spec_live.proofs.Savings.{length_relinked, object_relinked, list_relinked, mark_relinked}
 
 -- Two lists of entries that every reader sees alike.
@@ -103,7 +103,7 @@ fits_alike es fs d p k q v = rw (k, q, v) refl
 
 -- A change at one place, seen by a reader that it leaves alone.
 
-entry_change : {X : Type 0} (read : Option Entry → X) (n k : ℕ) (f : Entry → Entry) (es : List Entry) → ((e : Entry) → read (Some (f e)) ≡ read (Some e)) → read (slice_get (changed_at n f es) k) ≡ read (slice_get es k)
+pub entry_change : {X : Type 0} (read : Option Entry → X) (n k : ℕ) (f : Entry → Entry) (es : List Entry) → ((e : Entry) → read (Some (f e)) ≡ read (Some e)) → read (slice_get (changed_at n f es) k) ≡ read (slice_get es k)
 entry_change read n k f es h = elim (cases_eq k n) [
   | inl q ↦ rw (q, get_changed_same es n f) (by_cases (slice_get es n))
   | inr q ↦ rw (get_changed_other es n k f q) refl
@@ -213,16 +213,9 @@ mark_named n k o es = mark_change n k (with_object o) es (λ e. refl)
 
 -- A number left out of all lists.
 
-entry_left : {X : Type 0} (read : Option Entry → X) (d k : ℕ) (es : List Entry) → ((e : Entry) → read (Some (left_out d e)) ≡ read (Some e)) → read (slice_get (map (left_out d) es) k) ≡ read (slice_get es k)
-entry_left read d k es h = rw (slice_get-map (left_out d) es k) (by_cases (slice_get es k))
-  where
-    by_cases : (o : Option Entry) → read (option_map (left_out d) o) ≡ read o
-    by_cases None = refl
-    by_cases (Some e) = h e
-
 pub object_left : (d k : ℕ) (es : List Entry) → object_in (map (left_out d) es) k ≡ object_in es k
 unfolding object_in
-object_left d k es = entry_left (λ o. option_map (λ (e : Entry). e.object) o) d k es (λ e. refl)
+object_left d k es = read_mapped (λ o. option_map (λ (e : Entry). e.object) o) (left_out d) es k (λ e. refl)
 
 pub list_left : (v : Bool) (d k : ℕ) (es : List Entry) → list_in v (map (left_out d) es) k ≡ without d (list_in v es k)
 unfolding list_in without
@@ -235,7 +228,7 @@ list_left v d k es = rw (slice_get-map (left_out d) es k) (by_cases v (slice_get
 
 pub mark_left : (d k : ℕ) (es : List Entry) → mark_in (map (left_out d) es) k ≡ mark_in es k
 unfolding mark_in
-mark_left d k es = entry_left (λ o. option_and_then (λ (e : Entry). e.mark) o) d k es (λ e. refl)
+mark_left d k es = read_mapped (λ o. option_and_then (λ (e : Entry). e.mark) o) (left_out d) es k (λ e. refl)
 
 -- A number in front of a list.
 

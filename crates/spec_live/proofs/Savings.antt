@@ -1,13 +1,12 @@
 -- What the readers of the objects give where the marks of objects change.
 use Rattle.std.proofs.Common.{◌≡◌, ℕ, ◌+◌, zero, suc, List, [], ◌∷◌, Option, Some, None, refl, ◌∙◌, ap, length, arith, Bool, true, false, cond, not}
-use Rattle.std.proofs.lemmas.Option.{slice_get-map}
 use Rattle.std.specs.List.{slice_get}
 use Rattle.std.specs.Option.{option_map, option_and_then, option_map_or}
 use Rattle.spec_live.specs.declared.saving.Saving.{Saving}
 use Rattle.spec_live.specs.declared.saving.Saving.TheVariants.{Due}
 use Rattle.spec_live.specs.Objects.{Entry, object_in, list_of, list_in, mark_in, kind_in, due}
 use Rattle.spec_live.specs.Saving.{saving_in, links_in, due_from, same_links, relinked, on_saving, all_saving}
-use Rattle.spec_live.proofs.Lists.{length_map}
+use Rattle.spec_live.proofs.Lists.{length_map, read_mapped}
 
 -- What is due where a test holds.
 
@@ -77,30 +76,18 @@ pub length_resaved : (f : Saving → Saving) (es : List Entry) → length (all_s
 unfolding all_saving
 length_resaved f es = length_map (on_saving f) es
 
-pub get_resaved : (f : Saving → Saving) (k : ℕ) (es : List Entry) → slice_get (all_saving f es) k ≡ option_map (on_saving f) (slice_get es k)
-unfolding all_saving
-get_resaved f k es = slice_get-map (on_saving f) es k
-
--- seen by a reader that doesn't see them
-pub read_resaved : {X : Type 0} (read : Option Entry → X) (f : Saving → Saving) (k : ℕ) (es : List Entry) → ((e : Entry) → read (Some (on_saving f e)) ≡ read (Some e)) → read (slice_get (all_saving f es) k) ≡ read (slice_get es k)
-read_resaved read f k es h = ap read (get_resaved f k es) ∙ by_cases (slice_get es k)
-  where
-    by_cases : (o : Option Entry) → read (option_map (on_saving f) o) ≡ read o
-    by_cases None = refl
-    by_cases (Some e) = h e
-
 pub object_resaved : (f : Saving → Saving) (k : ℕ) (es : List Entry) → object_in (all_saving f es) k ≡ object_in es k
-unfolding object_in
-object_resaved f k es = read_resaved (λ o. option_map (λ (e : Entry). e.object) o) f k es (λ e. refl)
+unfolding object_in all_saving
+object_resaved f k es = read_mapped (λ o. option_map (λ (e : Entry). e.object) o) (on_saving f) es k (λ e. refl)
 
 pub list_resaved : (v : Bool) (f : Saving → Saving) (k : ℕ) (es : List Entry) → list_in v (all_saving f es) k ≡ list_in v es k
-unfolding list_in
-list_resaved true f k es = read_resaved (λ o. option_map_or (list_of true) o []) f k es (λ e. refl)
-list_resaved false f k es = read_resaved (λ o. option_map_or (list_of false) o []) f k es (λ e. refl)
+unfolding list_in all_saving
+list_resaved true f k es = read_mapped (λ o. option_map_or (list_of true) o []) (on_saving f) es k (λ e. refl)
+list_resaved false f k es = read_mapped (λ o. option_map_or (list_of false) o []) (on_saving f) es k (λ e. refl)
 
 pub mark_resaved : (f : Saving → Saving) (k : ℕ) (es : List Entry) → mark_in (all_saving f es) k ≡ mark_in es k
-unfolding mark_in
-mark_resaved f k es = read_resaved (λ o. option_and_then (λ (e : Entry). e.mark) o) f k es (λ e. refl)
+unfolding mark_in all_saving
+mark_resaved f k es = read_mapped (λ o. option_and_then (λ (e : Entry). e.mark) o) (on_saving f) es k (λ e. refl)
 
 pub kind_resaved : (f : Saving → Saving) (k : ℕ) (es : List Entry) → kind_in (all_saving f es) k ≡ kind_in es k
 unfolding kind_in

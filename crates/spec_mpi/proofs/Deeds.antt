@@ -1,5 +1,5 @@
 -- What a deed changes, and what a random word does.
-use Rattle.std.proofs.Common.{◌≡◌, ℕ, zero, suc, Bool, true, false, cond, List, [], ◌∷◌, Option, Some, None, refl, sym, ◌∙◌, ap}
+use Rattle.std.proofs.Common.{◌≡◌, ℕ, zero, suc, List, [], ◌∷◌, Option, Some, None, refl, sym, ◌∙◌, ap}
 use Rattle.std.specs.Prelude.{map, slice_get, slice_set}
 use Rattle.std.specs.Option.{option_map_or}
 use Rattle.muck_model.specs.declared.dbref.Dbref.{Dbref}
@@ -9,22 +9,23 @@ use Rattle.muck_prop.specs.declared.value.PropValue.TheVariants.{Text}
 use Rattle.spec_live.specs.declared.object.Object.{Object}
 use Rattle.spec_live.specs.Objects.{Entry, object_at, number_in, changed_at, on_object}
 use Rattle.spec_live.specs.Setting.{set_at, with_prop, without_prop}
-use Rattle.spec_live.specs.Connections.{Connection, told, told_where, is_of, hears}
-use Rattle.spec_live.specs.Boards.{told_player, told_others, random_drawn}
-use Rattle.spec_live.specs.Lives.{Live, Change, tell_player, tell_but, tell_others, draw, place_of}
-use Rattle.spec_live.proofs.Keeping.{Order}
-use Rattle.spec_live.proofs.Marking.{marked_itself, marked_both}
+use Rattle.spec_live.specs.Lives.{Live, Change, tell_player, tell_others, draw}
+use Rattle.spec_live.proofs.Keeping.{Keeps, Order, keeps_more}
+use Rattle.spec_live.proofs.Steps as field
+use Rattle.spec_live.proofs.Marking.{marked_itself, marked_both, marked_as}
+use Rattle.spec_live.proofs.Lives.{Quiet, marked_along}
 use Rattle.spec_rights.specs.declared.act.Act.TheVariants.{Write}
 use Rattle.spec_rights.specs.Verdict.{verdict}
 use Rattle.spec_rights.specs.Changing.{at_number, stored, unstored}
-use Rattle.spec_rights.proofs.Changes.{marked_found}
+use Rattle.spec_rights.proofs.Walking.{acts, goes_set}
+use Rattle.spec_rights.proofs.Shown.{quiet_tell_player, quiet_tell_others, quiet_draw}
 use Rattle.mpi.specs.declared.fault.MpiFault.TheVariants.{BadValue, Denied}
 use Rattle.mpi.specs.declared.host.Deed.{Deed}
 use Rattle.mpi.specs.declared.host.Deed.TheVariants as deed
 use Rattle.spec_mpi.specs.Stages.{Stage}
 use Rattle.spec_mpi.specs.Telling.{path_in, at_path, by_leave}
 use Rattle.spec_mpi.specs.Doing.{refused, changed, written, does_in}
-use Rattle.spec_mpi.specs.Touching.{without_props, without_output, TouchesNotes}
+use Rattle.spec_mpi.specs.Touching.{without_props, TouchesNotes}
 
 -- A deed is refused, changes a property by leave, or tells.
 
@@ -80,14 +81,6 @@ map_changed {X} {Y} g f h n xs = at (slice_get xs n) refl
     at None e = refl
     at (Some x) e = map_set g xs n x (f x) e (h x)
 
-map_told : (test : Connection → Bool) (text : List ℕ) (cs : List Connection) → map without_output (map (told_where test text) cs) ≡ map without_output cs
-map_told test text [] = refl
-map_told test text (c ∷ cs) =
-    elim (test c) as (λ b. ◌≡◌ {A = List Connection} (without_output (cond b (told text c) c) ∷ map without_output (map (told_where test text) cs)) (without_output c ∷ map without_output cs)) [
-      | true ↦ ap (λ ds. without_output c ∷ ds) (map_told test text cs)
-      | false ↦ ap (λ ds. without_output c ∷ ds) (map_told test text cs)
-    ]
-
 noted : (f : Object → Object) → ((e : Entry) → without_props (on_object f e) ≡ without_props e) → (n : ℕ) (es : List Entry) → map without_props (set_at f n es) ≡ map without_props es
 noted f h n es = map_changed without_props (on_object f) h n es
 
@@ -100,20 +93,26 @@ noted_at f h x es = at (number_in es x)
 
 pub touching_stored : (x : Dbref) (path : List (List ℕ)) (value : PropValue) (w : Live) → TouchesNotes w (stored x path value w)
 unfolding stored
-touching_stored x path value w = record { objects = noted_at (with_prop path value) (λ e. refl) x w.objects; marked = marked_found x (with_prop path value) w.objects; connections = refl; tune = refl }
+touching_stored x path value w = record { objects = noted_at (with_prop path value) (λ e. refl) x w.objects; marked = marked_along acts refl w _ (goes_set acts (field.stored path value) x w refl); connections = refl; tune = refl }
 
 pub touching_unstored : (x : Dbref) (path : List (List ℕ)) (w : Live) → TouchesNotes w (unstored x path w)
 unfolding unstored
-touching_unstored x path w = record { objects = noted_at (without_prop path) (λ e. refl) x w.objects; marked = marked_found x (without_prop path) w.objects; connections = refl; tune = refl }
+touching_unstored x path w = record { objects = noted_at (without_prop path) (λ e. refl) x w.objects; marked = marked_along acts refl w _ (goes_set acts (field.unstored path) x w refl); connections = refl; tune = refl }
+
+-- what only shows touches no more
+pub notes_quiet : (f : Change) → Quiet f → Keeps TouchesNotes f
+notes_quiet f q = keeps_more f (λ w v s. record {
+  objects = ap (λ (es : List Entry). map without_props es) s.objects;
+  marked = marked_as w.objects w.objects v.objects s.objects (marked_itself w.objects);
+  connections = s.connections;
+  tune = s.tune;
+}) q
 
 pub touching_one : (player : Dbref) (text : List ℕ) (w : Live) → TouchesNotes w (tell_player player text w)
-unfolding tell_player told_player
-touching_one player text w = record { objects = refl; marked = marked_itself w.objects; connections = map_told (is_of player) text w.board.connections; tune = refl }
+touching_one player text w = (notes_quiet _ (quiet_tell_player player text)).law w
 
 pub touching_others : (room but : Dbref) (text : List ℕ) (w : Live) → TouchesNotes w (tell_others room but text w)
-unfolding tell_others tell_but told_others
-touching_others room but text w = record { objects = refl; marked = marked_itself w.objects; connections = map_told (hears (λ p. place_of p w.objects) room (but ∷ [])) text w.board.connections; tune = refl }
+touching_others room but text w = (notes_quiet _ (quiet_tell_others room but text)).law w
 
 pub touching_draw : (w : Live) → TouchesNotes w (draw w)
-unfolding draw random_drawn
-touching_draw w = record { objects = refl; marked = marked_itself w.objects; connections = refl; tune = refl }
+touching_draw w = (notes_quiet _ quiet_draw).law w

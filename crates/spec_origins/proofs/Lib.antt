@@ -1,7 +1,4 @@
 mod Seats
-mod Words
-mod Shared
-mod Keepers
 mod Going
 mod Lapsing
 mod Rows

@@ -63,9 +63,7 @@ use Rattle.spec_origins.proofs.Going.{among_more}
 use Rattle.spec_origins.proofs.Lapsing.{IsLapsing, told_lapse, marks_lapse, lapse_settled}
 use Rattle.spec_origins.proofs.Lines.{world_lapses, objects_up, edited_lapses, objects_after}
 use Rattle.spec_origins.proofs.Rows as rows
-use Rattle.spec_origins.proofs.Seats.{Sits, sits_order, sits_tell, sits_tell_player, sits_leave, sits_refused}
-use Rattle.spec_origins.proofs.Shared.{RowSits, sits_shared}
-use Rattle.spec_origins.proofs.Keepers.{plays_typed, sits_login, sits_edited}
+use Rattle.spec_origins.proofs.Seats.{Sits, sits_order, sits_tell, sits_tell_player, sits_leave, sits_refused, plays_typed, sits_login, sits_edited, sits_along}
 use Rattle.spec_origins.proofs.Seating.{Kept, kept_both, kept_sits, own_editor, keeps_settled}
 
 -- Deeds.
@@ -142,10 +140,10 @@ mild_sits w (does t v) told h = (h.0, told_lapse w.live v.live h.1 told)
 mild_sits w (rests t v) told h = (h.0, told_lapse w.live v.live h.1 told)
 mild_sits w (fails f v) told h = h.0
 
-row_sits : (a : Actor) (s : Source) (w : World) (row : Row) → IsTold w.live → RowOpen a w.live row → RowSits w.live row → DeedSits w (lifted s w row)
-row_sits a s w (gives stack live) told r h = (h, marks_lapse a nobody w.live live (λ d. refl) told r.marks)
-row_sits a s w (refuses f) told r h = sits_order.itself w.live
-row_sits a s w (breaks f live) told r h = h
+row_sits : (a : Actor) (s : Source) (w : World) (row : Row) → IsTold w.live → RowOpen a w.live row → DeedSits w (lifted s w row)
+row_sits a s w (gives stack live) told r = (sits_along w.live live r.goes, marks_lapse a nobody w.live live (λ d. refl) told r.marks)
+row_sits a s w (refuses f) told r = sits_order.itself w.live
+row_sits a s w (breaks f live) told r = sits_along w.live live r.0.goes
 
 pub done_mild : (pid : ℤ) (x : Agent) (p : Name) (s : Source) (w : World) → DeedMild w (process_done pid x p s w)
 unfolding process_done
@@ -161,7 +159,7 @@ deed_sits pid x p s w told =
     let a : Actor = acting x s w.live.objects in
     cond_both (is_process p) (process_done pid x p s w) (row_done x p s w) (DeedSits w)
     (λ e. mild_sits w (process_done pid x p s w) told (done_mild pid x p s w))
-    (λ e. row_sits (answers_for p a w.live.objects) s w (shared p a x.descr (locked_of s.marks) s.stack w.live) told (shared_open p a x.descr (locked_of s.marks) s.stack w.live) (sits_shared p a x.descr (locked_of s.marks) s.stack w.live))
+    (λ e. row_sits (answers_for p a w.live.objects) s w (shared p a x.descr (locked_of s.marks) s.stack w.live) told (shared_open p a x.descr (locked_of s.marks) s.stack w.live))
 
 -- Units.
 

@@ -27,7 +27,7 @@ use Rattle.spec_rights.specs.Changing.{tuned}
 use Rattle.spec_rights.specs.Verdict.{verdict}
 use Rattle.spec_rights.proofs.Licences.{keeps_asked}
 use Rattle.spec_rights.proofs.Shown.{quiet_tell_player}
-use Rattle.spec_rights.proofs.Telling.{Told, told_itself, told_as}
+use Rattle.spec_rights.proofs.Telling.{Told, told_same, told_along}
 use Rattle.muf_model.specs.declared.fault.MufFault.{MufFault}
 use Rattle.muf_model.specs.declared.prims.Primitive.{Primitive as Name}
 use Rattle.muf_model.specs.Tree.{Tree}
@@ -89,13 +89,12 @@ use Rattle.spec_origins.specs.Seats.{Seated, AllSeated}
 use Rattle.spec_origins.specs.There.{IsThere, StaysThere}
 use Rattle.spec_origins.proofs.Going.{each_among, goes_woken, from_itself, holds_begun}
 use Rattle.spec_origins.proofs.Histories.{all_origins_booted}
-use Rattle.spec_origins.proofs.Keepers.{plays_typed, sits_login, sits_edited}
 use Rattle.spec_origins.proofs.Lines.{kept_left, objects_up, objects_after, queue_after}
 use Rattle.spec_origins.proofs.Named.{Stands, Names, Naming, names_or, names_played, so_there}
 use Rattle.spec_origins.proofs.Runs.{lowest_each}
 use Rattle.spec_origins.proofs.Seated.{DeedMild, done_mild, none_own, seat_turn, launched_sits, after_sits}
 use Rattle.spec_origins.proofs.Seating.{editor_in, kept_sits}
-use Rattle.spec_origins.proofs.Seats.{sits_tell, sits_leave}
+use Rattle.spec_origins.proofs.Seats.{sits_tell, sits_leave, plays_typed, sits_login, sits_edited}
 use Rattle.spec_origins.proofs.There.{NoneGoes, none_same, none_resaved, none_notes, FromThere, Held, held_more, trigger_as, triggers_come, Editors, editor_as, editors_sit, editors_put, none_settled, settled_held, held_settled}
 use Rattle.spec_origins.proofs.Units.{turn_holds}
 use Rattle.spec_origins.proofs.Waiting.{waits_editor, seated_as, all_seated_booted}
@@ -181,7 +180,7 @@ world_held d player line w h =
     let r = typed w.queue d a line w.live in
     let x : World = record w { live = r.0; queue = left_by d a line w.live w.queue } in
     let v : World = followed_up d player r.1 (settled x) in
-    let told : Told w.live.objects r.0.objects = (((typed_open a None w.queue d line).law w.live).law tt tt).told in
+    let told : Told w.live.objects r.0.objects = told_along w.live r.0 (((typed_open a None w.queue d line).law w.live).law tt tt).goes in
     let left : Held w.live.objects x = record {
       triggers = triggers_come w.live.objects no_process false (λ y. ⊥) (λ p. ⊥) w.queue x.queue (λ p n. absurd n) h.triggers (kept_left (λ y. ⊥) d a line w.live w.queue);
       editors = editors_sit w.live.objects w.live.board.connections r.0.board.connections ((plays_typed w.queue d a line).law w.live).seats h.editors;
@@ -236,7 +235,7 @@ edited_held d player s line w k h =
     let sat : Editors es r.0.board.connections = editors_sit es w.live.board.connections r.0.board.connections ((sits_edited d a s line).law w.live).seats h.editors in
     let same : r.1.program ≡ s.program = (same_edited d a s line).law w.live in
     let left : Held es x = record { triggers = h.triggers; editors = editors_put es d (next_editor r.2 r.1) (next_there es r.2 r.1 (subst (Stands es) (sym same) k)) r.0.board.connections sat } in
-    let now : Now (settled x) = held_settled es x (edited_proper d a s line w.live).told left in
+    let now : Now (settled x) = held_settled es x (told_along w.live r.0 (edited_proper d a s line w.live).goes) left in
     now_by (settled x) v (none_same (settled x).live.objects v.live.objects (objects_after d s.program r.2 (settled x)))
     (record {
       triggers = subst (λ (q : Queue). Each (FromThere (settled x).live.objects) q.processes) (sym (queue_after d s.program r.2 (settled x))) now.triggers;
@@ -312,12 +311,12 @@ DeedGoes es (rests t v) = Told es v.live.objects
 DeedGoes es (fails f v) = NoneGoes es v.live.objects
 
 mild_goes : (w : World) (d : Deed World) → DeedMild w d → DeedGoes w.live.objects d
-mild_goes w (does t v) m = told_as w.live.objects w.live.objects v.live.objects m.1 (told_itself w.live.objects)
-mild_goes w (rests t v) m = told_as w.live.objects w.live.objects v.live.objects m.1 (told_itself w.live.objects)
+mild_goes w (does t v) m = told_same w.live.objects v.live.objects m.1
+mild_goes w (rests t v) m = told_same w.live.objects v.live.objects m.1
 mild_goes w (fails f v) m = none_same w.live.objects v.live.objects m.1
 
 row_goes : (a : Actor) (s : Source) (w : World) (row : Row) → RowOpen a w.live row → DeedGoes w.live.objects (lifted s w row)
-row_goes a s w (gives stack live) r = r.told
+row_goes a s w (gives stack live) r = told_along w.live live r.goes
 row_goes a s w (refuses f) r = λ d h. h
 row_goes a s w (breaks f live) r = none_notes w.live.objects live.objects r.1.objects
 

@@ -15,7 +15,8 @@ use Rattle.spec_live.specs.Lives.{Live, followed, reading, on_board}
 use Rattle.muck_queue.specs.declared.process.Process.{Process}
 use Rattle.muck_queue.specs.Queues.{Queue, is_tied_to, ended_tied}
 use Rattle.spec_commands.specs.Talk.{welcome, parted, gone_away}
-use Rattle.spec_commands.proofs.Numbered.{numbers, seating_quiet, seating_one}
+use Rattle.spec_rights.proofs.Shown.{loose_one}
+use Rattle.spec_commands.proofs.Numbered.{numbers, seating_quiet}
 use Rattle.spec_commands.proofs.Lines.{quiet_parted}
 use Rattle.spec_events.specs.declared.starting.Call.{Call as Started}
 use Rattle.spec_events.specs.World.{World, connection, askers_of, on_live}
@@ -24,8 +25,8 @@ use Rattle.spec_events.specs.Starting.{by_hook, new_process, begun}
 use Rattle.spec_events.specs.Steps.{happened, effect}
 use Rattle.spec_events.specs.Slices.{units_of}
 use Rattle.spec_events.specs.Sourced.{Each}
-use Rattle.spec_events.proofs.Quietly.{quietly_live, quiet_told_each}
-use Rattle.spec_events.proofs.Done.{going_quietly, going_live, done_going}
+use Rattle.spec_events.proofs.Quietly.{quietly_loose, quietly_live, quiet_told_each}
+use Rattle.spec_events.proofs.Done.{going_quietly, done_going}
 use Rattle.spec_events.proofs.Happening.{effect-keeps}
 use Rattle.spec_events.proofs.Sourcing.{each_more}
 use Rattle.spec_events.proofs.Begun.{live_begun}
@@ -170,8 +171,8 @@ tied_happened (Slice pid) party w c h =
 tied_happened (Closed d) party w c h = tied_closed d w party h
 tied_happened (Opened d) party w c h = tied_still w (happened w party (Opened d)) (λ e k. in_placed e (newcomer d welcome) w.live.board.connections k) h c
 tied_happened (Input d line) party w c h =
-    tied_still w (happened w party (Input d line)) (by_numbers w (happened w party (Input d line)) (going_live d (on_board (line_added d line)) (seating_one d (lined line) (λ c. refl)) w).numbers) h c
-tied_happened (Take d n) party w c h = tied_still w (happened w party (Take d n)) (by_numbers w (happened w party (Take d n)) (going_live d (on_board (bytes_taken d n)) (seating_one d _ (λ c. refl)) w).numbers) h c
+    tied_still w (happened w party (Input d line)) (by_numbers w (happened w party (Input d line)) (going_quietly w _ (quietly_loose (on_board (line_added d line)) (loose_one d (lined line) (λ c. refl)) w)).numbers) h c
+tied_happened (Take d n) party w c h = tied_still w (happened w party (Take d n)) (by_numbers w (happened w party (Take d n)) (going_quietly w _ (quietly_loose (on_board (bytes_taken d n)) (loose_one d _ (λ c. refl)) w)).numbers) h c
 tied_happened (Stored k) party w c h = tied_still w (happened w party (Stored k)) (by_numbers w (happened w party (Stored k)) (told_numbers (askers_of w.dumps) (dump_stored k) (on_live (resaved done) w))) h c
 tied_happened (DumpFailed k) party w c h = tied_still w (happened w party (DumpFailed k)) (by_numbers w (happened w party (DumpFailed k)) (told_numbers (askers_of w.dumps) dump_failed (on_live (resaved due_again) w))) h c
 tied_happened (Cut k) party w c h = tied_still w (happened w party (Cut k)) (λ e t. t) h c

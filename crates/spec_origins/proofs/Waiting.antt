@@ -29,8 +29,7 @@ use Rattle.spec_events.proofs.Passwords.{rising_effect}
 use Rattle.spec_events.proofs.Turns.{told_effect}
 use Rattle.spec_origins.specs.Origins.{LostIn}
 use Rattle.spec_origins.specs.Seats.{editor_at, SameEditor, EditorKept, Seated, AllSeated}
-use Rattle.spec_origins.proofs.Seats.{Sits, sits_order, sits_one, sits_tell}
-use Rattle.spec_origins.proofs.Keepers.{sits_parted}
+use Rattle.spec_origins.proofs.Seats.{Sits, sits_order, sits_one, sits_tell, sits_parted}
 use Rattle.spec_origins.proofs.Seating.{found, lines_in, editor_in, lines_sit, editor_sits, found_changed}
 use Rattle.spec_origins.proofs.Seated.{LineStays, slice_seats, line_stays}
 

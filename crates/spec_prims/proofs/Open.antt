@@ -1,11 +1,11 @@
 -- When what a row changes is open to who acts, and what is to be told of it.
-use Rattle.std.proofs.Common.{◌≡◌, ℕ, List, Option, Some, None, inl}
+use Rattle.std.proofs.Common.{◌≡◌, ℕ, List, Option, Some, None}
 use Rattle.spec_live.specs.Objects.{Entry}
 use Rattle.spec_live.specs.Lives.{Live, unchanged}
 use Rattle.spec_rights.specs.declared.act.Actor.{Actor}
 use Rattle.spec_rights.specs.declared.act.Act.{Act}
 use Rattle.spec_rights.specs.Licence.{nobody}
-use Rattle.spec_rights.proofs.Licences.{Ended, Given, Proper, Shows, judge, itself, end_quietly, ends_quiet, quiet_unchanged}
+use Rattle.spec_rights.proofs.Licences.{Ended, Given, Proper, Shows, judge, itself, end_proper, end_quietly, ends_quiet, quiet_unchanged}
 use Rattle.spec_rights.proofs.Rights.{same_itself}
 use Rattle.muf_model.specs.Datum.{Datum}
 use Rattle.spec_prims.specs.Asking.{level_fault}
@@ -20,14 +20,7 @@ RowOpen a w (breaks f v) = Proper a nobody w v × TouchesNotes w v
 
 -- by the laws of what is changed, where the act was allowed
 pub ended_open : (a : Actor) (act : Option Act) (w v : Live) → Ended itself a nobody act w v → Given act w.objects a → Proper a nobody w v
-ended_open a act w v h given =
-    let t = h.law w.objects (same_itself w.objects) given in
-    record {
-      licensed = record { gone = None; recycled = λ x e. absurd (cc); vanished = λ x e. absurd (cc); objects = t.rows; no_fewer = t.no_fewer; marked = t.marked; lists = t.lists; connections = t.ties; tune = inl t.tune };
-      marks = t.marks;
-      told = t.told;
-      tune = t.tune;
-    }
+ended_open a act w v h given = end_proper a nobody w v (h.law w.objects (same_itself w.objects) given)
 
 -- where nothing changes, and where something is shown alone
 pub same_open : (a : Actor) (w : Live) → Proper a nobody w w

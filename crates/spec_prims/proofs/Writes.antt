@@ -9,7 +9,7 @@ use Rattle.muck_lock.specs.Grammar.{lock_of}
 use Rattle.spec_live.specs.declared.fault.DbFault.{DbFault}
 use Rattle.spec_live.specs.declared.fault.DbFault.TheVariants.{WorldFull as NoRoom}
 use Rattle.spec_live.specs.Making.{create_check}
-use Rattle.spec_live.specs.Objects.{Entry, dbref_of, nothing}
+use Rattle.spec_live.specs.Objects.{Entry, dbref_of, nothing, on_object}
 use Rattle.spec_live.specs.Recycling.{recycle_check}
 use Rattle.spec_live.specs.Setting.{owner_check}
 use Rattle.spec_live.specs.Lives.{Live, Change}
@@ -22,6 +22,8 @@ use Rattle.spec_rights.specs.Verdict.{verdict}
 use Rattle.spec_rights.proofs.Rights.{SameRights}
 use Rattle.spec_rights.proofs.Licences.{Ended, Ends, judge, itself, ends_stays}
 use Rattle.spec_rights.proofs.Changes.{stays_named, stays_set, ends_owned}
+use Rattle.spec_live.proofs.Steps.{kept, homed, linked, Touches}
+use Rattle.spec_rights.proofs.Walking.{silent, finishes}
 use Rattle.spec_rights.proofs.Makings.{new_in, end_created, room_open, thing_open, exit_open}
 use Rattle.spec_rights.proofs.Recycled.{recycled_proper}
 use Rattle.spec_commands.specs.declared.new.New.{New}
@@ -181,9 +183,14 @@ new_open a Room name place start es k t s g e = room_open a nobody start es name
 new_open a (Thing at) name place start es k t s g e = thing_open a nobody start es name place at k t s g e
 new_open a (Exit to) name place start es k t s g e = exit_open a nobody start es name place to k t s g e
 
+new_touches : (new : New) (e : Entry) → Touches silent false e (on_object (as_new new) e)
+new_touches Room = finishes kept
+new_touches (Thing at) = finishes (homed at)
+new_touches (Exit to) = finishes (linked to)
+
 ended_made : (a : Actor) (new : New) (name : List ℕ) (place : Dbref) (w : Live) (p : ℕ × ℕ) → create_check (kind_of new) a.user place w.objects ≡ Ok p → Ended itself a nobody (Some (act_in place new)) w (made_so new name a.user p.0 p.1 w)
 ended_made a new name place w p e = record {
-  law = λ start s g. end_created (judge a nobody start) (kind_of new) name a.user place (as_new new) w p e (λ k t q. new_open a new name place start w.objects k t s g q);
+  law = λ start s g. end_created (judge a nobody start) (kind_of new) name a.user place (as_new new) w p e (new_touches new) (λ k t q. new_open a new name place start w.objects k t s g q);
 }
 
 opens_given_made : (a : Actor) (new : New) (name : List ℕ) (place : Dbref) (w : Live) → verdict w.objects a (act_in place new) ≡ None → (check : Result (ℕ × ℕ) DbFault) → create_check (kind_of new) a.user place w.objects ≡ check →

@@ -9,16 +9,16 @@ use Rattle.spec_live.specs.declared.object.Object.{Object}
 use Rattle.spec_live.specs.Objects.{Entry, dbref_of, list_in, number_in, object_at}
 use Rattle.spec_live.specs.Setting.{set_at, with_password}
 use Rattle.spec_live.specs.Lives.{Live, Change}
-use Rattle.spec_live.proofs.Keeping.{Keeps, Order, keeps_more}
+use Rattle.spec_live.proofs.Keeping.{Keeps, Order, join, keeps_more}
 use Rattle.spec_live.proofs.Readers.{list_changed}
-use Rattle.spec_live.proofs.Marking.{marked_both}
+use Rattle.spec_live.proofs.Steps.{password}
 use Rattle.spec_rights.specs.Verdict.{is_master}
 use Rattle.spec_rights.specs.Changing.{at_number, password_kept}
 use Rattle.spec_rights.specs.Licence.{Judge, new_open, Differs, Reordered, front_open}
 use Rattle.spec_rights.proofs.Lookups.{Row}
-use Rattle.spec_rights.proofs.Telling.{told_both, told_found}
-use Rattle.spec_rights.proofs.Licences.{changed_both, MarkOpen, Quiet, End, no_fewer_both, end_quietly}
-use Rattle.spec_rights.proofs.Changes.{rows_found, marks_set, many_set, marked_found, kept_digest}
+use Rattle.spec_rights.proofs.Walking.{acts, silent, same_marks, goes_set}
+use Rattle.spec_rights.proofs.Licences.{changed_both, MarkOpen, Quiet, End, end_quietly}
+use Rattle.spec_rights.proofs.Changes.{rows_found, kept_digest}
 
 -- v ends as is open wherever w does
 pub record Trails (j : Judge) (w v : Live) : Type 0 where
@@ -88,10 +88,8 @@ trailing_password j x salt word h = record { law = λ w. record { law = λ first
     at w first t = record {
       rows = λ n. differs_then j (dbref_of n) salt word _ _ _ h (rows w.objects n) (t.rows n);
       lists = λ v p. let P : List ℕ → Type 0 = λ xs. Reordered (front_open j first.objects p) (list_in v first.objects p) xs in subst P (sym (lists_set v p f w.objects (number_in w.objects x))) (t.lists v p);
-      marks = λ n. mark_then j (dbref_of n) salt word _ _ _ _ _ (rows w.objects n) (marks_set n f w.objects (number_in w.objects x)) (t.marks n);
-      no_fewer = no_fewer_both first.objects w.objects (password_kept x salt word w).objects t.no_fewer (many_set x f w.objects);
-      marked = marked_both first.objects w.objects (password_kept x salt word w).objects t.marked (marked_found x f w.objects);
-      told = told_both first.objects w.objects (password_kept x salt word w).objects t.told (told_found f w.objects (λ o. refl) (λ o. refl) (number_in w.objects x));
+      marks = λ n. mark_then j (dbref_of n) salt word _ _ _ _ _ (rows w.objects n) (same_marks w (password_kept x salt word w) (goes_set silent (password salt word) x w refl) n) (t.marks n);
+      goes = join t.goes (goes_set acts (password salt word) x w refl);
       ties = t.ties;
       tune = t.tune;
     }

@@ -1,6 +1,6 @@
 -- Each change of an object that was there keeps to the licence.
 use Rattle.std.proofs.Common.{◌≡◌, ℕ, Bool, true, false, cond, List, refl, sym, ◌∙◌, ap, subst, Option, Some, None, inl, inr}
-use Rattle.std.specs.Prelude.{◌≤◌, length, ◌&&◌, not, slice_get}
+use Rattle.std.specs.Prelude.{◌&&◌, not, slice_get}
 use Rattle.std.proofs.lemmas.Bool.{cases_eq}
 use Rattle.std.specs.Option.{option_map, option_map_or}
 use Rattle.std.specs.Ordering.{eq_by_cmp}
@@ -15,14 +15,15 @@ use Rattle.muck_prop.specs.Store.{PropMap, is_nothing, stored as put}
 use Rattle.muck_prop.proofs.Maps.{path_cmp_same}
 use Rattle.spec_live.specs.declared.object.Object.{Object}
 use Rattle.spec_live.specs.Flags.{has_flag, with_flag, without_flag, wizard}
-use Rattle.spec_live.specs.Objects.{Entry, dbref_of, object_in, list_in, mark_in, number_in, object_at, changed_at, on_object}
-use Rattle.spec_live.specs.Setting.{set_at, with_name, with_owner, with_link, with_flags, with_level, with_lines, lines_set, with_password, with_prop, without_prop}
-use Rattle.spec_live.specs.Saving.{Marked}
+use Rattle.spec_live.specs.Objects.{Entry, dbref_of, object_in, list_in, mark_in, number_in, object_at, changed_at}
+use Rattle.spec_live.specs.Setting.{set_at, with_name, with_owner, with_link, with_flags, with_level, with_lines, lines_set, with_password}
 use Rattle.spec_live.specs.Boards.{Board}
 use Rattle.spec_live.specs.Lives.{Live}
-use Rattle.spec_live.proofs.Lists.{get_changed_same, length_changed}
-use Rattle.spec_live.proofs.Marking.{marked_itself, marked_set, marked_lines}
-use Rattle.spec_live.proofs.Readers.{object_changed, object_unchanged, object_elsewhere, list_change, list_changed, mark_changed, mark_elsewhere}
+use Rattle.spec_live.proofs.Lists.{get_changed_same}
+use Rattle.spec_live.proofs.Steps as field
+use Rattle.spec_live.proofs.Steps.{Field, kept, owned, flagged, password, field_set}
+use Rattle.spec_live.proofs.Lives.{Goes}
+use Rattle.spec_live.proofs.Readers.{object_changed, object_unchanged, object_elsewhere, list_change, list_changed, mark_elsewhere}
 use Rattle.spec_rights.specs.declared.act.Actor.{Actor}
 use Rattle.spec_rights.specs.declared.act.Act.TheVariants.{Write, Link, Edit, Change, Rename, Password, SetFlag, SetLevel, SetOwner}
 use Rattle.spec_rights.specs.Verdict.{is_master, controls, is_guarded}
@@ -30,9 +31,9 @@ use Rattle.spec_rights.specs.Changing.{at_number, set_object, named, owned_by, l
 use Rattle.spec_rights.specs.Licence.{Freedom, Open, Judge, Changed, Differs, SameLists, SameTies, name_open, property_open, link_open, level_open, lines_open, owner_open}
 use Rattle.spec_rights.proofs.Lookups.{Row, row_same, rows_changed, number_is}
 use Rattle.spec_rights.proofs.Listing.{lists_alike, lists_itself}
-use Rattle.spec_rights.proofs.Telling.{Told, told_found, told_lined}
+use Rattle.spec_rights.proofs.Walking.{acts, silent, same_marks, silent_acts, field_silent, goes_set, goes_lines}
 use Rattle.spec_rights.proofs.Bits.{wizard_stays_set, wizard_stays_cleared}
-use Rattle.spec_rights.proofs.Licences.{judge, changed_same, SameMarks, TellsLines, mark_open, Kept, kept_same, Stay, End, Stays, Ends, itself, ties_itself, as_many, ends_by, stays_by}
+use Rattle.spec_rights.proofs.Licences.{judge, changed_same, SameMarks, mark_open, Kept, kept_same, Stay, End, Stays, Ends, itself, ties_itself, ends_by, stays_by}
 use Rattle.spec_rights.proofs.Allowed.{rename_allowed, write_allowed, change_allowed, link_allowed, flag_allowed, level_allowed, owner_allowed, edit_allowed, password_allowed}
 
 -- Where f is done to one object, R holds of all.
@@ -63,11 +64,11 @@ rows_lined R same x lines h es n = rows_number R same x (λ o. record o { lines 
 
 -- Worlds in which the objects alone differ.
 
-pub stay_objects : (j : Judge) (w v : Live) → v.board ≡ w.board → ((n : ℕ) → Row (Kept j (dbref_of n)) (object_at (dbref_of n) w.objects) (object_at (dbref_of n) v.objects)) → SameLists j w.objects v.objects → TellsLines j w.objects v.objects → length w.objects ≤ length v.objects → Marked w.objects v.objects → Told w.objects v.objects → Stay j w v
-stay_objects j w v b rows lists marks many marked told =
+pub stay_objects : (j : Judge) (w v : Live) → v.board ≡ w.board → ((n : ℕ) → Row (Kept j (dbref_of n)) (object_at (dbref_of n) w.objects) (object_at (dbref_of n) v.objects)) → SameLists j w.objects v.objects → Goes silent w v → Stay j w v
+stay_objects j w v b rows lists p =
     let T : Board → Type 0 = λ t. SameTies j.actor w.board.connections t.connections in
     let U : Board → Type 0 = λ t. t.tune ≡ w.board.tune in
-    record { rows = rows; lists = lists; marks = marks; no_fewer = many; marked = marked; told = told; ties = subst T (sym b) (ties_itself j.actor w.board.connections); tune = subst U (sym b) refl }
+    record { rows = rows; lists = lists; marks = λ n. inl (same_marks w v p n); goes = silent_acts w v p; ties = subst T (sym b) (ties_itself j.actor w.board.connections); tune = subst U (sym b) refl }
 
 pub differs_row : (j : Judge) (x : Dbref) (o p : Option Object) → Row (Changed j x) o p → Differs j x o p
 differs_row j x None None r = r
@@ -75,33 +76,12 @@ differs_row j x None (Some p) r = absurd r
 differs_row j x (Some o) None r = absurd r
 differs_row j x (Some o) (Some p) r = r
 
-pub end_objects : (j : Judge) (w v : Live) → v.board ≡ w.board → ((n : ℕ) → Differs j (dbref_of n) (object_at (dbref_of n) w.objects) (object_at (dbref_of n) v.objects)) → SameLists j w.objects v.objects → SameMarks j w.objects v.objects → length w.objects ≤ length v.objects → Marked w.objects v.objects → Told w.objects v.objects → End j w v
-end_objects j w v b rows lists marks many marked told =
+pub end_objects : (j : Judge) (w v : Live) → v.board ≡ w.board → ((n : ℕ) → Differs j (dbref_of n) (object_at (dbref_of n) w.objects) (object_at (dbref_of n) v.objects)) → SameLists j w.objects v.objects → Goes silent w v → End j w v
+end_objects j w v b rows lists p =
     let T : Board → Type 0 = λ t. SameTies j.actor w.board.connections t.connections in
     let U : Board → Type 0 = λ t. t.tune ≡ w.board.tune in
-    record { rows = rows; lists = lists; marks = marks; no_fewer = many; marked = marked; told = told; ties = subst T (sym b) (ties_itself j.actor w.board.connections); tune = subst U (sym b) refl }
-
--- there are as many
-many_number : (g : ℕ → List Entry → List Entry) (es : List Entry) → ((m : ℕ) → length (g m es) ≡ length es) → (q : Option ℕ) → length (option_map_or (λ m. g m es) q es) ≡ length es
-many_number g es h None = refl
-many_number g es h (Some m) = h m
-
-pub many_set : (x : Dbref) (f : Object → Object) (es : List Entry) → length es ≤ length (at_number (set_at f) x es)
-many_set x f es = as_many es (at_number (set_at f) x es) (many_number (set_at f) es (λ m. length_changed es m (on_object f)) (number_in es x))
-
-many_lined : (x : Dbref) (lines : List (List ℕ)) (es : List Entry) → length es ≤ length (at_number (lines_set lines) x es)
-many_lined x lines es = as_many es (at_number (lines_set lines) x es) (many_number (lines_set lines) es (λ m. length_changed es m (with_lines lines)) (number_in es x))
-
--- and what changed is due
-marked_number : (g : ℕ → List Entry → List Entry) (es : List Entry) → ((m : ℕ) → Marked es (g m es)) → (q : Option ℕ) → Marked es (option_map_or (λ m. g m es) q es)
-marked_number g es h None = marked_itself es
-marked_number g es h (Some m) = h m
-
-pub marked_found : (x : Dbref) (f : Object → Object) (es : List Entry) → Marked es (at_number (set_at f) x es)
-marked_found x f es = marked_number (set_at f) es (λ m. marked_set m f es) (number_in es x)
-
-marked_lined : (x : Dbref) (lines : List (List ℕ)) (es : List Entry) → Marked es (at_number (lines_set lines) x es)
-marked_lined x lines es = marked_number (lines_set lines) es (λ m. marked_lines m lines es) (number_in es x)
+    let marks : SameMarks j w.objects v.objects = λ n. mark_open j (dbref_of n) _ _ (object_at (dbref_of n) v.objects) (inl (same_marks w v p n)) in
+    record { rows = rows; lists = lists; marks = marks; goes = silent_acts w v p; ties = subst T (sym b) (ties_itself j.actor w.board.connections); tune = subst U (sym b) refl }
 
 -- the lists of all are as they were
 lists_number : (j : Judge) (g : ℕ → List Entry → List Entry) (es : List Entry) → ((m : ℕ) (v : Bool) (k : ℕ) → list_in v (g m es) k ≡ list_in v es k) → (q : Option ℕ) → SameLists j es (option_map_or (λ m. g m es) q es)
@@ -114,17 +94,19 @@ lists_set j x f es = lists_number j (set_at f) es (λ m v k. list_changed v m k 
 lists_lined : (j : Judge) (x : Dbref) (lines : List (List ℕ)) (es : List Entry) → SameLists j es (at_number (lines_set lines) x es)
 lists_lined j x lines es = lists_number j (lines_set lines) es (λ m v k. list_change v m k (with_lines lines) es (λ e. refl)) (number_in es x)
 
--- and what is to be told of them
-pub marks_set : (n : ℕ) (f : Object → Object) (es : List Entry) (q : Option ℕ) → mark_in (option_map_or (λ m. set_at f m es) q es) n ≡ mark_in es n
-marks_set n f es None = refl
-marks_set n f es (Some m) = mark_changed m n f es
+field_kind : (c : Field) (o : Object) → (field_set c o).kind ≡ o.kind
+field_kind kept o = refl
+field_kind c o = refl
 
-stay_found : (j : Judge) (x : Dbref) (f : Object → Object) → ((o : Object) → (f o).kind ≡ o.kind) → ((o : Object) → (f o).lines ≡ o.lines) → ((o : Object) → Kept j x o (f o)) → (w : Live) → Stay j w (set_object f x w)
-stay_found j x f kinds lines h w = stay_objects j w (set_object f x w) refl (rows_found (Kept j) (kept_same j) x f kinds h w.objects) (lists_set j x f w.objects) (λ n. inl (marks_set n f w.objects (number_in w.objects x))) (many_set x f w.objects) (marked_found x f w.objects) (told_found f w.objects kinds lines (number_in w.objects x))
+stay_found : (j : Judge) (x : Dbref) (c : Field) → ((o : Object) → Kept j x o (field_set c o)) → (w : Live) → Stay j w (set_object (field_set c) x w)
+stay_found j x c h w =
+    let f : Object → Object = field_set c in
+    stay_objects j w (set_object f x w) refl (rows_found (Kept j) (kept_same j) x f (field_kind c) h w.objects) (lists_set j x f w.objects) (goes_set silent c x w (field_silent c))
 
-pub end_found : (j : Judge) (x : Dbref) (f : Object → Object) → ((o : Object) → (f o).kind ≡ o.kind) → ((o : Object) → (f o).lines ≡ o.lines) → ((o : Object) → Changed j x o (f o)) → (w : Live) → End j w (set_object f x w)
-end_found j x f kinds lines h w = end_objects j w (set_object f x w) refl (λ n. differs_row j (dbref_of n) _ _ (rows_found (Changed j) (changed_same j) x f kinds h w.objects n)) (lists_set j x f w.objects)
-    (λ n. mark_open j (dbref_of n) _ _ (object_at (dbref_of n) (set_object f x w).objects) (inl (marks_set n f w.objects (number_in w.objects x)))) (many_set x f w.objects) (marked_found x f w.objects) (told_found f w.objects kinds lines (number_in w.objects x))
+pub end_found : (j : Judge) (x : Dbref) (c : Field) → ((o : Object) → Changed j x o (field_set c o)) → (w : Live) → End j w (set_object (field_set c) x w)
+end_found j x c h w =
+    let f : Object → Object = field_set c in
+    end_objects j w (set_object f x w) refl (λ n. differs_row j (dbref_of n) _ _ (rows_found (Changed j) (changed_same j) x f (field_kind c) h w.objects n)) (lists_set j x f w.objects) (goes_set silent c x w (field_silent c))
 
 -- Names.
 
@@ -136,7 +118,7 @@ kept_name j x name o h = record {
 
 pub stays_named : (a : Actor) (free : Freedom) (x : Dbref) (name : List ℕ) → Stays a free (Some (Rename x)) (named x name)
 unfolding named
-stays_named a free x name = stays_by _ (λ start w s g. let j = judge a free start in stay_found j x (with_name name) (λ o. refl) (λ o. refl) (λ o. kept_name j x name o (rename_allowed a free start w.objects x s g)) w)
+stays_named a free x name = stays_by _ (λ start w s g. let j = judge a free start in stay_found j x (field.named name) (λ o. kept_name j x name o (rename_allowed a free start w.objects x s g)) w)
 
 -- Links.
 
@@ -148,7 +130,7 @@ kept_link j x to o h = record {
 
 pub stays_linked : (a : Actor) (free : Freedom) (x to : Dbref) → Stays a free (Some (Link x to)) (linked x to)
 unfolding linked
-stays_linked a free x to = stays_by _ (λ start w s g. let j = judge a free start in stay_found j x (with_link to) (λ o. refl) (λ o. refl) (λ o. kept_link j x to o (link_allowed a free start w.objects x to s g)) w)
+stays_linked a free x to = stays_by _ (λ start w s g. let j = judge a free start in stay_found j x (field.linked to) (λ o. kept_link j x to o (link_allowed a free start w.objects x to s g)) w)
 
 -- Properties.
 
@@ -188,11 +170,11 @@ kept_props j x props o h = record {
 
 stay_stored : (j : Judge) (x : Dbref) (path : List (List ℕ)) (value : PropValue) → property_open j x path ≡ true → (w : Live) → Stay j w (stored x path value w)
 unfolding stored
-stay_stored j x path value h = stay_found j x (with_prop path value) (λ o. refl) (λ o. refl) (λ o. kept_props j x _ o (stored_open j x path value o.props h))
+stay_stored j x path value h = stay_found j x (field.stored path value) (λ o. kept_props j x _ o (stored_open j x path value o.props h))
 
 stay_unstored : (j : Judge) (x : Dbref) (path : List (List ℕ)) → property_open j x path ≡ true → (w : Live) → Stay j w (unstored x path w)
 unfolding unstored
-stay_unstored j x path h = stay_found j x (without_prop path) (λ o. refl) (λ o. refl) (λ o. kept_props j x _ o (removed_open j x path o.props h))
+stay_unstored j x path h = stay_found j x (field.unstored path) (λ o. kept_props j x _ o (removed_open j x path o.props h))
 
 pub stays_stored : (a : Actor) (free : Freedom) (x : Dbref) (path : List (List ℕ)) (value : PropValue) → Stays a free (Some (Write x path)) (stored x path value)
 stays_stored a free x path value = stays_by _ (λ start w s g. stay_stored (judge a free start) x path value (write_allowed a free start w.objects x path s g) w)
@@ -228,8 +210,14 @@ unfolding lines_kept
 stays_lines a free x lines h = stays_by _ (λ start w s g.
     let j = judge a free start in
     let may : lines_open j x ≡ true = edit_allowed a free start w.objects x h s g in
-    stay_objects j w (lines_kept x lines w) refl (rows_lined (Kept j) (kept_same j) x lines (λ o. kept_lines j x lines o may) w.objects)
-    (lists_lined j x lines w.objects) (λ n. marks_lined j x lines w.objects may n (number_in w.objects x) refl) (many_lined x lines w.objects) (marked_lined x lines w.objects) (told_lined lines w.objects (number_in w.objects x)))
+    record {
+      rows = rows_lined (Kept j) (kept_same j) x lines (λ o. kept_lines j x lines o may) w.objects;
+      lists = lists_lined j x lines w.objects;
+      marks = λ n. marks_lined j x lines w.objects may n (number_in w.objects x) refl;
+      goes = goes_lines acts x lines w refl;
+      ties = ties_itself a w.board.connections;
+      tune = refl;
+    })
 
 -- Passwords.
 
@@ -241,7 +229,7 @@ kept_digest j x salt word o h = record {
 
 pub stays_password : (a : Actor) (free : Freedom) (x : Dbref) (salt : ℕ) (word : List ℕ) → Stays a free (Some (Password x)) (password_kept x salt word)
 unfolding password_kept
-stays_password a free x salt word = stays_by _ (λ start w s g. let j = judge a free start in stay_found j x (with_password salt word) (λ o. refl) (λ o. refl) (λ o. kept_digest j x salt word o (password_allowed w.objects a x g)) w)
+stays_password a free x salt word = stays_by _ (λ start w s g. let j = judge a free start in stay_found j x (password salt word) (λ o. kept_digest j x salt word o (password_allowed w.objects a x g)) w)
 
 -- Owners.
 
@@ -250,7 +238,7 @@ changed_owner j x owner o h = record { kind = refl; name = inl refl; owner = inr
 
 pub ends_owned : (a : Actor) (free : Freedom) (x owner : Dbref) → Ends itself a free (Some (SetOwner x owner)) (owned_by x owner)
 unfolding owned_by
-ends_owned a free x owner = ends_by _ (λ start w s g. let j = judge a free start in end_found j x (with_owner owner) (λ o. refl) (λ o. refl) (λ o. changed_owner j x owner o (owner_allowed a free start w.objects x owner s g)) w)
+ends_owned a free x owner = ends_by _ (λ start w s g. let j = judge a free start in end_found j x (owned owner) (λ o. changed_owner j x owner o (owner_allowed a free start w.objects x owner s g)) w)
 
 -- Levels.
 
@@ -259,7 +247,7 @@ changed_level j x level o h = record { kind = refl; name = inl refl; owner = inl
 
 pub ends_leveled : (a : Actor) (free : Freedom) (x : Dbref) (level : ℕ) → Ends itself a free (Some (SetLevel x level)) (leveled x level)
 unfolding leveled
-ends_leveled a free x level = ends_by _ (λ start w s g. let j = judge a free start in end_found j x (with_level level) (λ o. refl) (λ o. refl) (λ o. changed_level j x level o (level_allowed a free start w.objects x level s g)) w)
+ends_leveled a free x level = ends_by _ (λ start w s g. let j = judge a free start in end_found j x (field.leveled level) (λ o. changed_level j x level o (level_allowed a free start w.objects x level s g)) w)
 
 -- Flags.
 
@@ -278,11 +266,11 @@ unfolding flag_set
 ends_flag_set a free x flag k = ends_by _ (λ start w s g.
     let j = judge a free start in
     let t = flag_allowed a free start w.objects x flag s g in
-    end_found j x (λ o. with_flags (with_flag flag.0 o.flags) o) (λ o. refl) (λ o. refl) (λ o. changed_flags j x (with_flag flag.0 o.flags) o t.0 (wizard_open _ _ _ _ _ t.0 t.1 (λ v. wizard_stays_set flag o.flags k v))) w)
+    end_found j x (flagged (with_flag flag.0)) (λ o. changed_flags j x (with_flag flag.0 o.flags) o t.0 (wizard_open _ _ _ _ _ t.0 t.1 (λ v. wizard_stays_set flag o.flags k v))) w)
 
 pub ends_flag_cleared : (a : Actor) (free : Freedom) (x : Dbref) (flag : Flags) → is_flag flag ≡ true → Ends itself a free (Some (SetFlag x flag)) (flag_cleared x flag)
 unfolding flag_cleared
 ends_flag_cleared a free x flag k = ends_by _ (λ start w s g.
     let j = judge a free start in
     let t = flag_allowed a free start w.objects x flag s g in
-    end_found j x (λ o. with_flags (without_flag flag.0 o.flags) o) (λ o. refl) (λ o. refl) (λ o. changed_flags j x (without_flag flag.0 o.flags) o t.0 (wizard_open _ _ _ _ _ t.0 t.1 (λ v. wizard_stays_cleared flag o.flags k v))) w)
+    end_found j x (flagged (without_flag flag.0)) (λ o. changed_flags j x (without_flag flag.0 o.flags) o t.0 (wizard_open _ _ _ _ _ t.0 t.1 (λ v. wizard_stays_cleared flag o.flags k v))) w)

@@ -1,6 +1,7 @@
 pub mod Lookups
 pub mod Rights
 pub mod Listing
+pub mod Walking
 pub mod Telling
 pub mod Licences
 pub mod Shown

@@ -1,6 +1,6 @@
 -- What keeps to the licence: one lemma for each way to put changes together.
-use Rattle.std.proofs.Common.{◌≡◌, ℕ, Bool, true, false, List, [], ◌∷◌, refl, sym, ◌∙◌, ap, subst, Option, Some, None, inl, inr, cond, arith}
-use Rattle.std.specs.Prelude.{◌≤◌, length, map, find, ◌||◌, ◌&&◌, ◌==◌}
+use Rattle.std.proofs.Common.{◌≡◌, ℕ, Bool, true, false, List, [], ◌∷◌, refl, sym, ◌∙◌, ap, subst, Option, Some, None, inl, inr, cond}
+use Rattle.std.specs.Prelude.{find, ◌||◌, ◌&&◌, ◌==◌}
 use Rattle.std.specs.FinMap.{get}
 use Rattle.std.specs.Option.{option_map, option_and_then, option_map_or}
 use Rattle.muck_model.specs.declared.dbref.Dbref.{Dbref}
@@ -10,18 +10,19 @@ use Rattle.spec_live.specs.declared.object.Object.{Object}
 use Rattle.spec_live.specs.Objects.{Entry, dbref_of, same, is_exit, mark_in, object_at}
 use Rattle.spec_live.specs.Connections.{Connection, has_number}
 use Rattle.spec_live.specs.Boards.{player_in}
-use Rattle.spec_live.specs.Lives.{Live, Change, followed, reading, unchanged}
-use Rattle.spec_live.specs.Saving.{Marked}
-use Rattle.spec_live.proofs.Marking.{marked_itself, marked_both, marked_as}
-use Rattle.spec_live.proofs.Keeping.{Keeps, Order, keeps_after, keeps_more, keeps_told, keeps_unchanged}
+use Rattle.spec_live.specs.Lives.{Live, Change, followed, reading}
+use Rattle.spec_live.proofs.Keeping.{Keeps, stays, one, join, keeps_after, keeps_more, keeps_told}
+pub use Rattle.spec_live.proofs.Lives.{tie, ties, Shows, Quiet, quiet_order, quiet_unchanged}
+use Rattle.spec_live.proofs.Lives.{Readies, readies}
+use Rattle.spec_live.proofs.Lives.{Goes, shows, fewer_along, marked_along}
 use Rattle.spec_rights.specs.declared.act.Actor.{Actor}
 use Rattle.spec_rights.specs.declared.act.Act.{Act}
 use Rattle.spec_rights.specs.Verdict.{is_master, verdict}
-use Rattle.spec_rights.specs.Licence.{Freedom, Open, Judge, owned, name_open, property_open, place_open, link_open, home_open, level_open, lines_open, owner_open, Changed, Differs, SameLists, leave_open, SameTies, may_recycle, Licensed}
+use Rattle.spec_rights.specs.Licence.{Freedom, Open, Judge, owned, name_open, property_open, place_open, link_open, home_open, level_open, lines_open, owner_open, Changed, Differs, SameLists, leave_open, SameTies, Licensed}
 use Rattle.spec_rights.specs.Asking.{answered, asked}
 use Rattle.spec_rights.proofs.Lookups.{Row, row_same, row_both}
 use Rattle.spec_rights.proofs.Listing.{lists_itself, lists_both}
-use Rattle.spec_rights.proofs.Telling.{Told, told_itself, told_both, told_as}
+use Rattle.spec_rights.proofs.Walking.{acts}
 use Rattle.spec_rights.proofs.Rights.{rights, SameRights, same_itself}
 
 abbrev pub judge : Actor → Freedom → List Entry → Judge
@@ -96,9 +97,6 @@ mark_open j x old new (Some o) m = m
 marks_open : (j : Judge) (es fs : List Entry) → TellsLines j es fs → SameMarks j es fs
 marks_open j es fs m n = mark_open j (dbref_of n) _ _ (object_at (dbref_of n) fs) (m n)
 
-pub marks_itself : (j : Judge) (es : List Entry) → SameMarks j es es
-marks_itself j es = marks_open j es es (λ n. inl refl)
-
 marks_both : (j : Judge) (es fs gs : List Entry) → TellsLines j es fs → SameMarks j fs gs → SameMarks j es gs
 marks_both j es fs gs m k n = at (object_at (dbref_of n) gs) (k n)
   where
@@ -107,13 +105,6 @@ marks_both j es fs gs m k n = at (object_at (dbref_of n) gs) (k n)
     at (Some o) s = open_both (λ mark. lines_open j (dbref_of n)) _ _ _ (m n) s
 
 -- Connections.
-
--- whose the connections are, and which are leaving
-abbrev pub tie : Connection → ℕ × Option Dbref × Bool
-tie c = (c.number, c.player, c.leaving)
-
-abbrev pub ties : List Connection → List (ℕ × Option Dbref × Bool)
-ties cs = map tie cs
 
 pub ties_same : (a : Actor) (cs ds : List Connection) → ties ds ≡ ties cs → SameTies a cs ds
 ties_same a [] [] e = tt
@@ -158,44 +149,12 @@ player_kept d (x ∷ xs) (y ∷ ys) e =
     let P : ℕ → Type 0 = λ n. option_and_then (λ (c : Connection). c.player) (cond (n == d) (Some y) (find (has_number d) ys)) ≡ option_and_then (λ (c : Connection). c.player) (cond (x.number == d) (Some x) (find (has_number d) xs)) in
     subst P (sym number) (elim (x.number == d) as (λ b. option_and_then (λ (c : Connection). c.player) (cond b (Some y) (find (has_number d) ys)) ≡ option_and_then (λ (c : Connection). c.player) (cond b (Some x) (find (has_number d) xs))) [ true ↦ player | false ↦ next ])
 
--- Numbers of objects.
-
-pub as_many : (es fs : List Entry) → length fs ≡ length es → length es ≤ length fs
-as_many es fs e = omega (arith, e)
-
-pub no_fewer_both : (es fs gs : List Entry) → length es ≤ length fs → length fs ≤ length gs → length es ≤ length gs
-no_fewer_both es fs gs p q = omega (arith, p, q)
-
-pub no_fewer_as : (es fs gs : List Entry) → gs ≡ fs → length es ≤ length fs → length es ≤ length gs
-no_fewer_as es fs gs e p = omega (arith, p, ap (λ (os : List Entry). length os) e)
-
--- Worlds that differ only in what is shown.
-pub record Shows (w v : Live) : Type 0 where
-  pub objects : v.objects ≡ w.objects
-  pub ties : ties v.board.connections ≡ ties w.board.connections
-  pub tune : v.board.tune ≡ w.board.tune
-
--- shows only
-abbrev pub Quiet : Change → Type 0
-Quiet f = Keeps Shows f
-
-pub quiet_order : Order Shows
-quiet_order = record {
-  itself = λ w. record { objects = refl; ties = refl; tune = refl };
-  both = λ u v w r s. record { objects = s.objects ∙ r.objects; ties = s.ties ∙ r.ties; tune = s.tune ∙ r.tune };
-}
-
-pub quiet_unchanged : Quiet unchanged
-quiet_unchanged = keeps_unchanged quiet_order
-
 -- Worlds between which only objects that were there differ, and no right does.
 pub record Stay (j : Judge) (w v : Live) : Type 0 where
   pub rows : (n : ℕ) → Row (Kept j (dbref_of n)) (object_at (dbref_of n) w.objects) (object_at (dbref_of n) v.objects)
   pub lists : SameLists j w.objects v.objects
   pub marks : TellsLines j w.objects v.objects
-  pub no_fewer : length w.objects ≤ length v.objects
-  pub marked : Marked w.objects v.objects
-  pub told : Told w.objects v.objects
+  pub goes : Goes acts w v
   pub ties : SameTies j.actor w.board.connections v.board.connections
   pub tune : v.board.tune ≡ w.board.tune
 
@@ -204,20 +163,16 @@ pub record End (j : Judge) (w v : Live) : Type 0 where
   pub rows : (n : ℕ) → Differs j (dbref_of n) (object_at (dbref_of n) w.objects) (object_at (dbref_of n) v.objects)
   pub lists : SameLists j w.objects v.objects
   pub marks : SameMarks j w.objects v.objects
-  pub no_fewer : length w.objects ≤ length v.objects
-  pub marked : Marked w.objects v.objects
-  pub told : Told w.objects v.objects
+  pub goes : Goes acts w v
   pub ties : SameTies j.actor w.board.connections v.board.connections
   pub tune : v.board.tune ≡ w.board.tune
 
-stay_itself : (j : Judge) (w : Live) → Stay j w w
+pub stay_itself : (j : Judge) (w : Live) → Stay j w w
 stay_itself j w = record {
   rows = λ n. row_same _ (kept_same j (dbref_of n)) (object_at (dbref_of n) w.objects);
   lists = lists_itself j w.objects;
   marks = λ n. inl refl;
-  no_fewer = as_many w.objects w.objects refl;
-  marked = marked_itself w.objects;
-  told = told_itself w.objects;
+  goes = stays;
   ties = ties_itself j.actor w.board.connections;
   tune = refl;
 }
@@ -227,37 +182,24 @@ stay_both j u v w s t = record {
   rows = λ n. row_both _ _ _ (kept_both j (dbref_of n)) _ _ _ (s.rows n) (t.rows n);
   lists = lists_both j (λ n. Kept j (dbref_of n)) u.objects v.objects w.objects s.rows s.lists t.lists;
   marks = λ n. open_both (λ mark. lines_open j (dbref_of n)) _ _ _ (s.marks n) (t.marks n);
-  no_fewer = no_fewer_both u.objects v.objects w.objects s.no_fewer t.no_fewer;
-  marked = marked_both u.objects v.objects w.objects s.marked t.marked;
-  told = told_both u.objects v.objects w.objects s.told t.told;
+  goes = join s.goes t.goes;
   ties = ties_both j.actor _ _ _ s.ties t.ties;
   tune = t.tune ∙ s.tune;
 }
 
 -- what only shows may follow
+
 pub stay_quietly : (j : Judge) (u v w : Live) → Stay j u v → Shows v w → Stay j u w
-stay_quietly j u v w t q = record {
-  rows = λ n. let P : List Entry → Type 0 = λ os. Row (Kept j (dbref_of n)) (object_at (dbref_of n) u.objects) (object_at (dbref_of n) os) in subst P (sym q.objects) (t.rows n);
-  lists = subst (SameLists j u.objects) (sym q.objects) t.lists;
-  marks = subst (TellsLines j u.objects) (sym q.objects) t.marks;
-  no_fewer = no_fewer_as u.objects v.objects w.objects q.objects t.no_fewer;
-  marked = marked_as u.objects v.objects w.objects q.objects t.marked;
-  told = told_as u.objects v.objects w.objects q.objects t.told;
-  ties = ties_both j.actor _ _ _ t.ties (ties_same j.actor v.board.connections w.board.connections q.ties);
-  tune = q.tune ∙ t.tune;
-}
+stay_quietly j u v w t q =
+    let P : List Entry → Type 0 = λ os. Stay j u (record { objects = os; board = v.board }) in
+    let s = subst P (sym q.objects) t in
+    record { rows = s.rows; lists = s.lists; marks = s.marks; goes = join t.goes (one (shows v w refl q)); ties = ties_both j.actor _ _ _ t.ties (ties_same j.actor v.board.connections w.board.connections (readies v w q).ties); tune = q.tune ∙ t.tune }
 
 pub end_quietly : (j : Judge) (u v w : Live) → End j u v → Shows v w → End j u w
-end_quietly j u v w t q = record {
-  rows = λ n. let P : List Entry → Type 0 = λ os. Differs j (dbref_of n) (object_at (dbref_of n) u.objects) (object_at (dbref_of n) os) in subst P (sym q.objects) (t.rows n);
-  lists = subst (SameLists j u.objects) (sym q.objects) t.lists;
-  marks = subst (SameMarks j u.objects) (sym q.objects) t.marks;
-  no_fewer = no_fewer_as u.objects v.objects w.objects q.objects t.no_fewer;
-  marked = marked_as u.objects v.objects w.objects q.objects t.marked;
-  told = told_as u.objects v.objects w.objects q.objects t.told;
-  ties = ties_both j.actor _ _ _ t.ties (ties_same j.actor v.board.connections w.board.connections q.ties);
-  tune = q.tune ∙ t.tune;
-}
+end_quietly j u v w t q =
+    let P : List Entry → Type 0 = λ os. End j u (record { objects = os; board = v.board }) in
+    let s = subst P (sym q.objects) t in
+    record { rows = s.rows; lists = s.lists; marks = s.marks; goes = join t.goes (one (shows v w refl q)); ties = ties_both j.actor _ _ _ t.ties (ties_same j.actor v.board.connections w.board.connections (readies v w q).ties); tune = q.tune ∙ t.tune }
 
 row_rights : (j : Judge) (x : Dbref) (o p : Option Object) → Row (Kept j x) o p → option_map rights o ≡ option_map rights p
 row_rights j x None None r = refl
@@ -299,6 +241,10 @@ pub record Stayed (a : Actor) (free : Freedom) (given : Option Act) (w v : Live)
 abbrev pub Stays : Actor → Freedom → Option Act → Change → Type 0
 Stays a free given f = Keeps (Stayed a free given) f
 
+-- the way that it goes
+pub stays_goes : (a : Actor) (free : Freedom) (f : Change) → Stays a free None f → Keeps (Goes acts) f
+stays_goes a free f p = keeps_more f (λ w v s. (s.law w.objects (same_itself w.objects) tt).goes) p
+
 -- keeps to the licence; out is the world of what it answers
 pub record Ended {Y : Type 0} (out : Y → Live) (a : Actor) (free : Freedom) (given : Option Act) (w : Live) (y : Y) : Type 0 where
   pub law : (start : List Entry) → SameRights start w.objects → Given given w.objects a → End (judge a free start) w (out y)
@@ -311,11 +257,11 @@ abbrev pub Own : Option ℕ → Live → Actor → Type 0
 Own None w a = Unit {0}
 Own (Some d) w a = player_in d w.board ≡ Some a.player
 
--- it is licensed, and so is what is to be told; where a source changed, that is to be told; and nothing is tuned
+-- it is licensed, and so is what is to be told; it goes by steps that acts may do; and nothing is tuned
 pub record Proper (a : Actor) (free : Freedom) (w v : Live) : Type 0 where
   pub licensed : Licensed a free w v
   pub marks : SameMarks (judge a free w.objects) w.objects v.objects
-  pub told : Told w.objects v.objects
+  pub goes : Goes acts w v
   pub tune : v.board.tune ≡ w.board.tune
 
 -- keeps to the licence from a world of which something is given, at a connection of the actor's or none; what is free
@@ -387,10 +333,11 @@ stays_asked a free given act refuse go p q =
 
 -- Keeps to the licence.
 
+pub stay_end : (j : Judge) (w v : Live) → Stay j w v → End j w v
+stay_end j w v t = record { rows = λ n. differs_kept _ (dbref_of n) _ _ (t.rows n); lists = t.lists; marks = marks_open j w.objects v.objects t.marks; goes = t.goes; ties = t.ties; tune = t.tune }
+
 pub ends_stays : (a : Actor) (free : Freedom) (given : Option Act) (f : Change) → Stays a free given f → Ends itself a free given f
-ends_stays a free given f p = keeps_more f (λ w v s. record {
-  law = λ start r h. let t = s.law start r h in record { rows = λ n. differs_kept _ (dbref_of n) _ _ (t.rows n); lists = t.lists; marks = marks_open (judge a free start) w.objects v.objects t.marks; no_fewer = t.no_fewer; marked = t.marked; told = t.told; ties = t.ties; tune = t.tune };
-}) p
+ends_stays a free given f p = keeps_more f (λ w v s. record { law = λ start r h. stay_end (judge a free start) w v (s.law start r h) }) p
 
 pub ends_quiet : (a : Actor) (free : Freedom) (given : Option Act) (f : Change) → Quiet f → Ends itself a free given f
 ends_quiet a free given f q = ends_stays a free given f (stays_quiet a free given f q)
@@ -404,9 +351,7 @@ ends_followed out a free given f g p q = keeps_after f g (λ w v y s t. record {
         rows = λ n. kept_differs a free start (dbref_of n) _ _ _ (first.rows n) (next.rows n);
         lists = lists_both (judge a free start) (λ n. Kept (judge a free start) (dbref_of n)) _ _ _ first.rows first.lists next.lists;
         marks = marks_both (judge a free start) _ _ _ first.marks next.marks;
-        no_fewer = no_fewer_both _ _ _ first.no_fewer next.no_fewer;
-        marked = marked_both w.objects v.objects (out y).objects first.marked next.marked;
-        told = told_both w.objects v.objects (out y).objects first.told next.told;
+        goes = join first.goes next.goes;
         ties = ties_both a _ _ _ first.ties next.ties;
         tune = next.tune ∙ first.tune;
       };
@@ -422,70 +367,88 @@ ends_asked out a free given act refuse go p q =
 
 -- Whole commands.
 
-own_kept : (own : Option ℕ) (w v : Live) (a : Actor) → ties v.board.connections ≡ ties w.board.connections → Own own w a → Own own v a
+pub own_kept : (own : Option ℕ) (w v : Live) (a : Actor) → ties v.board.connections ≡ ties w.board.connections → Own own w a → Own own v a
 own_kept None w v a e c = tt
 own_kept (Some d) w v a e c = player_kept d w.board.connections v.board.connections e ∙ c
+
+pub end_proper : (a : Actor) (free : Freedom) (w v : Live) → End (judge a free w.objects) w v → Proper a free w v
+end_proper a free w v t = record {
+  licensed = record {
+    gone = None;
+    recycled = λ x e. absurd (cc);
+    vanished = λ x e. absurd (cc);
+    objects = t.rows;
+    no_fewer = fewer_along acts w v t.goes;
+    marked = marked_along acts refl w v t.goes;
+    lists = t.lists;
+    connections = t.ties;
+    tune = inl t.tune;
+  };
+  marks = t.marks;
+  goes = t.goes;
+  tune = t.tune;
+}
 
 pub whole_ends : {Y : Type 0} (out : Y → Live) (a : Actor) (own : Option ℕ) (free : List Entry → Freedom) (given : Live → Type 0) (f : Live → Y) → ((w : Live) → given w → Ends out a (free w.objects) None f) → Whole out a own free given f
 whole_ends out a own free given f p = whole_by f (λ w c h.
     let t = ((p w h).law w).law w.objects (same_itself w.objects) tt in
-    record { licensed = record { gone = None; recycled = λ x e. absurd (cc); vanished = λ x e. absurd (cc); objects = t.rows; no_fewer = t.no_fewer; marked = t.marked; lists = t.lists; connections = t.ties; tune = inl t.tune }; marks = t.marks; told = t.told; tune = t.tune })
+    end_proper a (free w.objects) w _ t)
 
 pub whole_quiet : (a : Actor) (own : Option ℕ) (free : List Entry → Freedom) (given : Live → Type 0) (f : Change) → Quiet f → Whole itself a own free given f
 whole_quiet a own free given f q = whole_ends itself a own free given f (λ w h. ends_quiet a (free w.objects) None f q)
 
+-- What isn't judged may come behind what is licensed, and before it.
+
+pub licensed_as : (a : Actor) (free : Freedom) (w u v : Live) → Licensed a free w u → Readies u v → Licensed a free w v
+licensed_as a free w u v l r =
+    let P : List Entry → Type 0 = λ os. Licensed a free w (record { objects = os; board = u.board }) in
+    let q = subst P (sym r.objects) l in
+    record {
+      gone = q.gone;
+      recycled = q.recycled;
+      vanished = q.vanished;
+      objects = q.objects;
+      no_fewer = q.no_fewer;
+      marked = q.marked;
+      lists = q.lists;
+      connections = ties_both a _ _ _ l.connections (ties_same a u.board.connections v.board.connections r.ties);
+      tune = open_both (λ tune. is_master a) _ _ _ l.tune (inl r.tune);
+    }
+
+pub licensed_from : (a : Actor) (free : Freedom) (w u v : Live) → Readies w u → Licensed a free u v → Licensed a free w v
+licensed_from a free w u v r l =
+    let P : List Entry → Type 0 = λ os. Licensed a free (record { objects = os; board = u.board }) v in
+    let q = subst P r.objects l in
+    record {
+      gone = q.gone;
+      recycled = q.recycled;
+      vanished = q.vanished;
+      objects = q.objects;
+      no_fewer = q.no_fewer;
+      marked = q.marked;
+      lists = q.lists;
+      connections = ties_both a _ _ _ (ties_same a w.board.connections u.board.connections r.ties) l.connections;
+      tune = open_both (λ tune. is_master a) _ _ _ (inl r.tune) l.tune;
+    }
+
 -- what only shows comes first, after which nothing is given
 pub whole_followed : {Y : Type 0} (out : Y → Live) (a : Actor) (own : Option ℕ) (free : List Entry → Freedom) (given : Live → Type 0) (f : Change) (g : Live → Y) → Quiet f → Whole out a own free Always g → Whole out a own free given (followed f g)
-whole_followed out a own free given f g q p = keeps_after f g (λ w v y s t. record { law = λ c h. after w v (out y) s (t.law (own_kept own w v a s.ties c) tt) }) q p
+whole_followed out a own free given f g q p = keeps_after f g (λ w v y s t. record { law = λ c h. after w v (out y) s (t.law (own_kept own w v a (readies w v s).ties c) tt) }) q p
   where
     after : (w v u : Live) → Shows w v → Proper a (free v.objects) v u → Proper a (free w.objects) w u
     after w v u s p =
-        let l = p.licensed in
-        let O : List Entry → Type 0 = λ os. (n : ℕ) → Differs (record { actor = a; free = free os; gone = l.gone; objects = os }) (dbref_of n) (object_at (dbref_of n) os) (object_at (dbref_of n) u.objects) in
-        let R : List Entry → Type 0 = λ os. (x : Dbref) → l.gone ≡ Some x → may_recycle os a x ≡ true in
-        let L : List Entry → Type 0 = λ os. SameLists (record { actor = a; free = free os; gone = l.gone; objects = os }) os u.objects in
-        let M : List Entry → Type 0 = λ os. SameMarks (judge a (free os) os) os u.objects in
-        record {
-          licensed = record {
-            gone = l.gone;
-            recycled = subst R s.objects l.recycled;
-            vanished = l.vanished;
-            objects = subst O s.objects l.objects;
-            no_fewer = no_fewer_both w.objects v.objects u.objects (as_many w.objects v.objects (ap (λ (os : List Entry). length os) s.objects)) l.no_fewer;
-            marked = marked_both w.objects v.objects u.objects (marked_as w.objects w.objects v.objects s.objects (marked_itself w.objects)) l.marked;
-            lists = subst L s.objects l.lists;
-            connections = ties_both a _ _ _ (ties_same a w.board.connections v.board.connections s.ties) l.connections;
-            tune = open_both (λ tune. is_master a) _ _ _ (inl s.tune) l.tune;
-          };
-          marks = subst M s.objects p.marks;
-          told = told_both w.objects v.objects u.objects (told_as w.objects w.objects v.objects s.objects (told_itself w.objects)) p.told;
-          tune = p.tune ∙ s.tune;
-        }
+        let P : List Entry → Type 0 = λ os. Proper a (free os) (record { objects = os; board = v.board }) u in
+        let q = subst P s.objects p in
+        let x : Live = record { objects = w.objects; board = v.board } in
+        record { licensed = licensed_from a (free w.objects) w x u (record { objects = refl; ties = (readies w v s).ties; tune = s.tune }) q.licensed; marks = q.marks; goes = join (one (shows w v refl s)) p.goes; tune = p.tune ∙ s.tune }
 
 -- and what only shows may come last
 pub whole_quietly : (a : Actor) (own : Option ℕ) (free : List Entry → Freedom) (given : Live → Type 0) (f g : Change) → Whole itself a own free given f → Quiet g → Whole itself a own free given (followed f g)
 whole_quietly a own free given f g p q = keeps_after f g (λ w v u s t. record {
   law = λ c h.
       let p = s.law c h in
-      let l = p.licensed in
-      let j : Judge = record { actor = a; free = free w.objects; gone = l.gone; objects = w.objects } in
-      let O : List Entry → Type 0 = λ os. (n : ℕ) → Differs j (dbref_of n) (object_at (dbref_of n) w.objects) (object_at (dbref_of n) os) in
-      record {
-        licensed = record {
-          gone = l.gone;
-          recycled = l.recycled;
-          vanished = λ x e. ap (object_at x) t.objects ∙ l.vanished x e;
-          objects = subst O (sym t.objects) l.objects;
-          no_fewer = no_fewer_as w.objects v.objects u.objects t.objects l.no_fewer;
-          marked = marked_as w.objects v.objects u.objects t.objects l.marked;
-          lists = subst (SameLists j w.objects) (sym t.objects) l.lists;
-          connections = ties_both a _ _ _ l.connections (ties_same a v.board.connections u.board.connections t.ties);
-          tune = open_both (λ tune. is_master a) _ _ _ l.tune (inl t.tune);
-        };
-        marks = subst (SameMarks (judge a (free w.objects) w.objects) w.objects) (sym t.objects) p.marks;
-        told = told_as w.objects v.objects u.objects t.objects p.told;
-        tune = t.tune ∙ p.tune;
-      };
+      let M : List Entry → Type 0 = λ os. SameMarks (judge a (free w.objects) w.objects) w.objects os in
+      record { licensed = licensed_as a (free w.objects) w v u p.licensed (readies v u t); marks = subst M (sym t.objects) p.marks; goes = join p.goes (one (shows v u refl t)); tune = t.tune ∙ p.tune };
 }) p q
 
 -- with what was read

@@ -1,27 +1,28 @@
 -- What is made keeps to the licence.
-use Rattle.std.proofs.Common.{◌≡◌, ℕ, ◌==◌, suc, Bool, true, false, cond, List, [], ◌∷◌, ◌++◌, length, length-append, refl, sym, ◌∙◌, ap, subst, Option, Some, None, inl, inr, arith}
+use Rattle.std.proofs.Common.{◌≡◌, ℕ, ◌==◌, suc, Bool, true, false, cond, List, [], ◌∷◌, ◌++◌, length, refl, sym, ◌∙◌, ap, subst, Option, Some, None, inl, inr, arith}
 use Rattle.muck_model.proofs.Dbrefs.{same_eq}
-use Rattle.std.specs.Prelude.{◌≤◌, ◌⊎◌, Ok, Err, nat_lt, slice_get, min, nat_le, ◌||◌, ◌&&◌, is_some}
+use Rattle.std.specs.Prelude.{Ok, Err, nat_lt, slice_get, min, nat_le, ◌||◌, ◌&&◌}
 use Rattle.std.specs.Option.{option_map, option_and_then, option_map_or}
 use Rattle.std.proofs.lemmas.Bool.{cases_eq, or_right}
 use Rattle.std.proofs.lemmas.Bool.Decides.{nat_tests}
 use Rattle.muck_model.specs.declared.dbref.Dbref.{Dbref}
 use Rattle.muck_model.specs.declared.dbref.Kind.{Kind}
-use Rattle.muck_model.specs.declared.dbref.Kind.TheVariants.{Room, Thing, Exit, Player, Program}
-use Rattle.spec_live.specs.declared.mark.Mark.TheVariants.{Gone}
+use Rattle.muck_model.specs.declared.dbref.Kind.TheVariants.{Room, Thing, Exit, Player, Program, Garbage}
 use Rattle.spec_live.specs.declared.object.Object.{Object}
 use Rattle.spec_live.specs.Flags.{builder, jump, link}
-use Rattle.spec_live.specs.Objects.{Entry, dbref_of, nothing, home, same, is_garbage, object_in, list_in, mark_in, number_in, object_at, changed_at, on_object, with_object, garbage}
+use Rattle.spec_live.specs.Objects.{Entry, dbref_of, nothing, home, same, is_garbage, object_in, list_in, kind_in, number_in, object_at, changed_at, on_object, with_object, garbage}
 use Rattle.spec_live.specs.Moving.{moved, with_place}
 use Rattle.spec_live.specs.Making.{free_in, blank_entry, grown, new_object, created, may_make, make_judged, objects_most, owner_judged, create_check}
 use Rattle.spec_live.specs.declared.fault.DbFault.TheVariants.{NoSuchObject, WrongKind, WorldFull}
 use Rattle.spec_live.specs.Setting.{set_at, with_home, with_link, with_level}
-use Rattle.spec_live.specs.Saving.{Marked}
 use Rattle.spec_live.specs.Lives.{Live}
-use Rattle.spec_live.proofs.Marking.{marked_both, marked_set, marked_created}
-use Rattle.spec_live.proofs.Lists.{get_changed_same, read_more, length_changed}
-use Rattle.spec_live.proofs.Readers.{object_changed, object_unchanged, object_elsewhere, object_moved, object_unmoved, list_changed, list_named, mark_changed, mark_named, mark_moved, length_moved}
-use Rattle.spec_live.proofs.CreationLaws.{list_more}
+use Rattle.spec_live.proofs.Keeping.{join}
+use Rattle.spec_live.proofs.Steps.{Touches}
+use Rattle.spec_live.proofs.Walks.{walk_at, walk_created}
+use Rattle.spec_live.proofs.Lives.{goes_objects}
+use Rattle.spec_live.proofs.Lists.{get_changed_same, read_more}
+use Rattle.spec_live.proofs.Readers.{object_changed, object_unchanged, object_elsewhere, object_moved, object_unmoved, list_changed, list_named}
+use Rattle.spec_live.proofs.CreationLaws.{list_more, free_garbage}
 use Rattle.spec_rights.specs.declared.act.Actor.{Actor}
 use Rattle.spec_rights.specs.declared.act.Act.TheVariants.{NewRoom, NewThing, NewExit, NewProgram, Wizard}
 use Rattle.spec_rights.specs.Levels.{level_at, flag_at}
@@ -30,9 +31,9 @@ use Rattle.spec_rights.specs.Changing.{created_so}
 use Rattle.spec_rights.specs.Licence.{Freedom, Judge, IsNew, Differs, Reordered, as_before, front_open, SameLists, place_open}
 use Rattle.spec_rights.proofs.Lookups.{alive, seen_at, number_is}
 use Rattle.spec_rights.proofs.Listing.{reordered_moved}
-use Rattle.spec_rights.proofs.Telling.{source_at, is_there, never_both, Told}
+use Rattle.spec_rights.proofs.Walking.{silent}
 use Rattle.spec_rights.proofs.Rights.{SameRights, same_level}
-use Rattle.spec_rights.proofs.Licences.{judge, changed_same, mark_open, End}
+use Rattle.spec_rights.proofs.Licences.{judge, changed_same, End}
 use Rattle.spec_rights.proofs.Allowed.{room_allowed, thing_allowed, exit_allowed, program_allowed, wizard_allowed}
 use Rattle.spec_rights.proofs.Changes.{end_objects}
 
@@ -140,84 +141,6 @@ lists_made j kind name owner finished to es v i =
     let before : Q (list_in v one i) = subst Q (sym (list_named v k i (new_object k kind name owner) g ∙ list_grown v k i es)) as_before in
     subst Q (sym (list_changed v k i finished (moved k to one))) (reordered_moved may (list_in v es i) v k to i one (λ e. or_right (place_open j (dbref_of k) (dbref_of i)) _ nobody) before)
 
-mark_grown : (k i : ℕ) (es : List Entry) → mark_in (grown k es) i ≡ mark_in es i
-unfolding grown mark_in blank_entry
-mark_grown k i es = at (k == length es)
-  where
-    at : (b : Bool) → option_and_then (λ (e : Entry). e.mark) (slice_get (cond b (es ++ blank_entry ∷ []) es) i) ≡ option_and_then (λ (e : Entry). e.mark) (slice_get es i)
-    at true = read_more (λ (o : Option Entry). option_and_then (λ (e : Entry). e.mark) o) es blank_entry i refl
-    at false = refl
-
-mark_made : (m : ℕ) (kind : Kind) (name : List ℕ) (owner : Dbref) (finished : Object → Object) (to : ℕ) (es : List Entry) (n : ℕ) → mark_in (set_at finished m (created m kind name owner to es)) n ≡ mark_in es n
-unfolding created
-mark_made m kind name owner finished to es n =
-    mark_changed m n finished (moved m to (changed_at m (with_object (new_object m kind name owner)) (grown m es)))
-    ∙ mark_moved (changed_at m (with_object (new_object m kind name owner)) (grown m es)) m to n
-    ∙ mark_named m n (new_object m kind name owner) (grown m es)
-    ∙ mark_grown m n es
-
--- there are as many numbers, or one more
-many_grown : (k : ℕ) (es : List Entry) → length es ≤ length (grown k es)
-unfolding grown
-many_grown k es = at (k == length es)
-  where
-    at : (b : Bool) → length es ≤ length (cond b (es ++ blank_entry ∷ []) es)
-    at true = omega (arith, length-append es (blank_entry ∷ []))
-    at false = omega (arith)
-
-many_made : (k : ℕ) (kind : Kind) (name : List ℕ) (owner : Dbref) (finished : Object → Object) (to : ℕ) (es : List Entry) → length es ≤ length (set_at finished k (created k kind name owner to es))
-unfolding created
-many_made k kind name owner finished to es =
-    let g : List Entry = grown k es in
-    let one : List Entry = changed_at k (with_object (new_object k kind name owner)) g in
-    let same : length (set_at finished k (moved k to one)) ≡ length g = length_changed (moved k to one) k (on_object finished) ∙ length_moved one k to ∙ length_changed g k (with_object (new_object k kind name owner)) in
-    omega (arith, same, many_grown k es)
-
--- what changed is due
-marked_made : (k : ℕ) (kind : Kind) (name : List ℕ) (owner : Dbref) (finished : Object → Object) (to : ℕ) (es : List Entry) → Marked es (set_at finished k (created k kind name owner to es))
-marked_made k kind name owner finished to es =
-    let made : List Entry = created k kind name owner to es in
-    marked_both es made (set_at finished k made) (marked_created k kind name owner to es) (marked_set k finished made)
-
--- what is new has no source and wasn't there, and of all else it stays
-told_made : (kind : Kind) (name : List ℕ) (owner : Dbref) (finished : Object → Object) (to : ℕ) (es : List Entry) → (new_in kind name owner finished (free_in es) to).lines ≡ [] → Told es (made_in kind name owner finished to es)
-told_made kind name owner finished to es h = record {
-  source = λ n. inl (at n);
-  stays = λ n t. ap is_some (mark_made (free_in es) kind name owner finished to es n) ∙ t;
-  gone = λ n t lost. there n t lost (cases_eq n (free_in es));
-  still = λ n t. mark_made (free_in es) kind name owner finished to es n ∙ t;
-}
-  where
-    there : (n : ℕ) → is_there es n ≡ true → is_there (made_in kind name owner finished to es) n ≡ false → (n ≡ free_in es) ⊎ (n ≡ free_in es → ⊥) → mark_in (made_in kind name owner finished to es) n ≡ Some Gone
-    there n t lost (inl e) = never_both (is_there es n) t (ap (is_there es) e ∙ ap is_some (seen_at es (free_in es) ∙ free_dead es))
-    there n t lost (inr e) =
-        let fs : List Entry = made_in kind name owner finished to es in
-        let same : object_at (dbref_of n) fs ≡ object_at (dbref_of n) es = seen_at fs n ∙ ap (λ (q : Option Object). option_and_then alive q) (made_there kind name owner finished to es n e) ∙ grown_same (free_in es) n es ∙ sym (seen_at es n) in
-        never_both (is_there fs n) (ap is_some same ∙ t) lost
-
-    source : Option Object → List (List ℕ)
-    source q = option_map_or (λ (o : Object). o.lines) (option_and_then alive q) []
-
-    new_source : (q : Option Object) → source (option_map (λ (x : Object). new_in kind name owner finished (free_in es) to) q) ≡ []
-    new_source None = refl
-    new_source (Some o) = elim (is_garbage (new_in kind name owner finished (free_in es) to).kind) as (λ b. option_map_or (λ (o : Object). o.lines) (cond b None (Some (new_in kind name owner finished (free_in es) to))) [] ≡ []) [ true ↦ refl | false ↦ h ]
-
-    seen : (fs : List Entry) (n : ℕ) → source_at fs (dbref_of n) ≡ source (object_in fs n)
-    seen fs n = ap (λ (q : Option Object). option_map_or (λ (o : Object). o.lines) q []) (seen_at fs n)
-
-    at : (n : ℕ) → source_at (made_in kind name owner finished to es) (dbref_of n) ≡ source_at es (dbref_of n)
-    at n =
-        let fs : List Entry = made_in kind name owner finished to es in
-        let k : ℕ = free_in es in
-        elim (cases_eq n k) [
-          | inl e ↦
-              let P : ℕ → Type 0 = λ m. source_at fs (dbref_of m) ≡ source_at es (dbref_of m) in
-              let new : source_at fs (dbref_of k) ≡ [] = seen fs k ∙ ap source (made_here kind name owner finished to es) ∙ new_source (object_in (grown k es) k) in
-              let old : source_at es (dbref_of k) ≡ [] = ap (λ (q : Option Object). option_map_or (λ (o : Object). o.lines) q []) (seen_at es k ∙ free_dead es) in
-              subst P (sym e) (new ∙ sym old)
-          | inr e ↦ seen fs n ∙ ap (λ (q : Option Object). option_map_or (λ (o : Object). o.lines) q []) (ap (λ (q : Option Object). option_and_then alive q) (made_there kind name owner finished to es n e) ∙ grown_same k n es) ∙ sym (seen es n)
-        ]
-
 -- what a check that passes says
 made_by : (kind : Kind) (owned : Bool) (to : ℕ) (es : List Entry) (p : ℕ × ℕ) → make_judged kind owned to es ≡ Ok p → (p.0 ≡ free_in es) × (p.1 ≡ to)
 unfolding make_judged
@@ -238,18 +161,17 @@ made_checked kind owner place es p e = at (owner_judged kind owner es) (number_i
     at (Some owned) (Some to) f e = let k = made_by kind owned to es p e in (k.0, f ∙ ap Some (sym k.1))
 
 -- an object that is made where the check passed
-pub end_created : (j : Judge) (kind : Kind) (name : List ℕ) (owner place : Dbref) (finished : Object → Object) (w : Live) (p : ℕ × ℕ) → create_check kind owner place w.objects ≡ Ok p →
+pub end_created : (j : Judge) (kind : Kind) (name : List ℕ) (owner place : Dbref) (finished : Object → Object) (w : Live) (p : ℕ × ℕ) → create_check kind owner place w.objects ≡ Ok p → ((e : Entry) → Touches silent false e (on_object finished e)) →
     ((k t : ℕ) → place ≡ dbref_of t → IsNew j (dbref_of k) (new_in kind name owner finished k t)) → End j w (created_so p.0 kind name owner p.1 finished w)
 unfolding created_so
-end_created j kind name owner place finished w p e h =
+end_created j kind name owner place finished w p e touch h =
     let k = made_checked kind owner place w.objects p e in
     let D : ℕ → Type 0 = λ m. (n : ℕ) → Differs j (dbref_of n) (object_at (dbref_of n) w.objects) (object_at (dbref_of n) (set_at finished m (created m kind name owner p.1 w.objects))) in
     let L : ℕ → Type 0 = λ m. SameLists j w.objects (set_at finished m (created m kind name owner p.1 w.objects)) in
-    let T : ℕ → Type 0 = λ m. Told w.objects (set_at finished m (created m kind name owner p.1 w.objects)) in
     let new = h (free_in w.objects) p.1 (number_is w.objects place p.1 k.1) in
+    let free : kind_in w.objects p.0 ≡ Garbage = ap (kind_in w.objects) k.0 ∙ free_garbage w.objects in
     end_objects j w (created_so p.0 kind name owner p.1 finished w) refl (subst D (sym k.0) (differs_made j kind name owner finished p.1 w.objects new)) (subst L (sym k.0) (lists_made j kind name owner finished p.1 w.objects))
-    (λ n. mark_open j (dbref_of n) _ _ _ (inl (mark_made p.0 kind name owner finished p.1 w.objects n))) (many_made p.0 kind name owner finished p.1 w.objects)
-    (marked_made p.0 kind name owner finished p.1 w.objects) (subst T (sym k.0) (told_made kind name owner finished p.1 w.objects new.lines))
+    (goes_objects silent w _ (join (walk_created silent p.0 kind name owner p.1 w.objects free refl refl refl) (walk_at silent p.0 (on_object finished) _ (λ x _. touch x))))
 
 -- The kinds.
 

@@ -1,16 +1,15 @@
 -- Moves and homes keep to the licence.
-use Rattle.std.proofs.Common.{◌≡◌, ℕ, true, false, List, length, refl, sym, ◌∙◌, ap, subst, Option, Some, None, inl, inr}
+use Rattle.std.proofs.Common.{◌≡◌, ℕ, true, false, List, refl, sym, ◌∙◌, ap, subst, Option, Some, None, inl, inr}
 use Rattle.std.proofs.lemmas.Bool.{or_left}
 use Rattle.std.specs.Option.{option_map_or}
 use Rattle.muck_model.specs.declared.dbref.Dbref.{Dbref}
 use Rattle.spec_live.specs.declared.object.Object.{Object}
-use Rattle.spec_live.specs.Objects.{Entry, dbref_of, nothing, home, same, mark_in, number_in, object_at}
+use Rattle.spec_live.specs.Objects.{Entry, dbref_of, nothing, home, same, number_in, object_at}
 use Rattle.spec_live.specs.Setting.{with_home}
-use Rattle.spec_live.specs.Saving.{Marked}
 use Rattle.spec_live.specs.Moving.{moved, with_place}
 use Rattle.spec_live.specs.Lives.{Live}
-use Rattle.spec_live.proofs.Marking.{marked_itself, marked_moved}
-use Rattle.spec_live.proofs.Readers.{object_moved, object_unmoved, mark_moved, length_moved}
+use Rattle.spec_live.proofs.Steps as field
+use Rattle.spec_live.proofs.Readers.{object_moved, object_unmoved}
 use Rattle.spec_rights.specs.declared.act.Actor.{Actor}
 use Rattle.spec_rights.specs.declared.act.Act.{Act}
 use Rattle.spec_rights.specs.declared.act.Act.TheVariants.{Move, Link}
@@ -20,8 +19,8 @@ use Rattle.spec_rights.specs.Verdict.{verdict}
 use Rattle.spec_rights.proofs.Rights.{SameRights}
 use Rattle.spec_rights.proofs.Lookups.{Row, row_same, number_is}
 use Rattle.spec_rights.proofs.Listing.{lists_itself, lists_moved}
-use Rattle.spec_rights.proofs.Telling.{Told, told_itself, told_moved}
-use Rattle.spec_rights.proofs.Licences.{judge, Kept, kept_same, Stay, End, Stays, Ends, itself, as_many, ends_by, stays_by}
+use Rattle.spec_rights.proofs.Walking.{silent, goes_moved}
+use Rattle.spec_rights.proofs.Licences.{judge, Kept, kept_same, Stay, End, Stays, Ends, itself, ends_by, stays_by}
 use Rattle.spec_rights.proofs.Allowed.{move_allowed, home_allowed, live_allowed, unlink_allowed}
 use Rattle.spec_rights.proofs.Changes.{rows_number, stay_objects, end_found}
 
@@ -53,34 +52,10 @@ lists_came j x to es h (Some m) (Some t) d e =
     let Q : Dbref → Type 0 = λ y. P y (dbref_of t) in
     lists_moved j m t es (subst Q (number_is es x m d) (subst (P x) (number_is es to t e) (h t e)))
 
-marks_came : (n : ℕ) (es : List Entry) (p q : Option ℕ) → mark_in (moved_at p q es) n ≡ mark_in es n
-marks_came n es None q = refl
-marks_came n es (Some m) None = refl
-marks_came n es (Some m) (Some t) = mark_moved es m t n
-
-many_moved : (es : List Entry) (p q : Option ℕ) → length (moved_at p q es) ≡ length es
-many_moved es None q = refl
-many_moved es (Some m) None = refl
-many_moved es (Some m) (Some t) = length_moved es m t
-
-marked_came : (es : List Entry) (p q : Option ℕ) → Marked es (moved_at p q es)
-marked_came es None q = marked_itself es
-marked_came es (Some m) None = marked_itself es
-marked_came es (Some m) (Some t) = marked_moved m t es
-
-told_came : (es : List Entry) (p q : Option ℕ) → Told es (moved_at p q es)
-told_came es None q = told_itself es
-told_came es (Some m) None = told_itself es
-told_came es (Some m) (Some t) = told_moved m t es
-
 -- to a place that is there
 stay_moved : (j : Judge) (x to : Dbref) (w : Live) → ((t : ℕ) → number_in w.objects to ≡ Some t → place_open j x to ≡ true) → Stay j w (moved_to x to w)
 unfolding moved_to
-stay_moved j x to w h = stay_objects j w (moved_to x to w) refl (λ n. rows_moved j x to w.objects h n (number_in w.objects x) (number_in w.objects to) refl refl) (lists_came j x to w.objects h (number_in w.objects x) (number_in w.objects to) refl refl)
-    (λ n. inl (marks_came n w.objects (number_in w.objects x) (number_in w.objects to)))
-    (as_many w.objects (moved_at (number_in w.objects x) (number_in w.objects to) w.objects) (many_moved w.objects (number_in w.objects x) (number_in w.objects to)))
-    (marked_came w.objects (number_in w.objects x) (number_in w.objects to))
-    (told_came w.objects (number_in w.objects x) (number_in w.objects to))
+stay_moved j x to w h = stay_objects j w (moved_to x to w) refl (λ n. rows_moved j x to w.objects h n (number_in w.objects x) (number_in w.objects to) refl refl) (lists_came j x to w.objects h (number_in w.objects x) (number_in w.objects to) refl refl) (goes_moved silent x to w refl refl)
 
 -- what may be moved freely
 pub stays_free : (a : Actor) (free : Freedom) (given : Option Act) (x to : Dbref) → free.moves x ≡ true → Stays a free given (moved_to x to)
@@ -100,7 +75,7 @@ changed_home j x to o h = record { kind = refl; name = inl refl; owner = inl ref
 
 end_homed : (j : Judge) (x to : Dbref) (w : Live) → home_open j x to ≡ true → End j w (homed x to w)
 unfolding homed
-end_homed j x to w h = end_found j x (with_home to) (λ o. refl) (λ o. refl) (λ o. changed_home j x to o h) w
+end_homed j x to w h = end_found j x (field.homed to) (λ o. changed_home j x to o h) w
 
 pub ends_homed : (a : Actor) (free : Freedom) (x to : Dbref) → Ends itself a free (Some (Link x to)) (homed x to)
 ends_homed a free x to = ends_by _ (λ start w s g. end_homed (judge a free start) x to w (live_allowed a free start w.objects x to s g))

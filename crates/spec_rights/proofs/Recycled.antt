@@ -1,12 +1,12 @@
 -- Recycling keeps to the licence, with all that it brings with it.
 use Rattle.std.proofs.Common.{◌≡◌, ℕ, ◌==◌, Bool, true, false, cond, List, [], ◌∷◌, refl, sym, ◌∙◌, ap, subst, Option, Some, None, inl, inr, arith}
 use Rattle.muck_model.proofs.Dbrefs.{same_eq, eq_same}
-use Rattle.std.specs.Prelude.{length, Result, Ok, Err, map, ◌⊎◌, ◌||◌, not, slice_get}
+use Rattle.std.specs.Prelude.{is_some, Result, Ok, Err, map, ◌⊎◌, ◌||◌, not, slice_get}
 use Rattle.std.specs.Option.{option_map, option_and_then, option_map_or}
 use Rattle.std.specs.List.{list_any}
-use Rattle.std.proofs.lemmas.Bool.{cases_eq, and_parts, or_parts, not-true, or_left, or_right, and_from}
+use Rattle.std.proofs.lemmas.Bool.{cases_eq, false≢true, and_parts, or_parts, not-true, or_left, or_right, and_from}
 use Rattle.std.proofs.lemmas.Bool.Decides.{nat_tests}
-use Rattle.std.proofs.lemmas.Option.{slice_get-map, none-some}
+use Rattle.std.proofs.lemmas.Option.{slice_get-map}
 use Rattle.muck_model.specs.declared.dbref.Dbref.{Dbref}
 use Rattle.muck_model.specs.declared.dbref.Kind.{Kind}
 use Rattle.muck_model.specs.declared.dbref.Kind.TheVariants.{Room, Thing, Exit, Player, Program, Garbage}
@@ -23,21 +23,24 @@ use Rattle.spec_live.specs.Setting.{checked}
 use Rattle.spec_live.specs.Lives.{Live}
 use Rattle.spec_live.specs.Seen.{listed_in}
 use Rattle.spec_live.proofs.Lists.{get_changed_same}
-use Rattle.spec_live.proofs.Readers.{object_elsewhere, object_left, object_moved, object_unmoved, kind_is, mark_elsewhere, mark_left, mark_moved}
-use Rattle.spec_live.proofs.Marking.{marked_itself, marked_recycled}
-use Rattle.spec_live.proofs.Savings.{object_relinked, list_relinked, mark_relinked, length_relinked}
+use Rattle.spec_live.proofs.Readers.{object_elsewhere, object_left, object_moved, object_unmoved, kind_is}
+use Rattle.spec_live.proofs.Steps.{May, Gone, Place, Lists, kept, sets, lines, makes, vanishes, tells as unmarks}
+use Rattle.spec_live.proofs.Walks.{walk_recycled}
+use Rattle.spec_live.proofs.Entries.{Holds, each_walk, mark_read}
+use Rattle.spec_live.proofs.Lives.{Goes, goes_objects, fewer_along, marked_along}
+use Rattle.spec_live.proofs.Savings.{object_relinked, list_relinked}
 use Rattle.spec_rights.specs.declared.act.Actor.{Actor}
 use Rattle.spec_rights.specs.declared.act.Act.TheVariants.{Recycle}
 use Rattle.spec_rights.specs.Levels.{is_player_at}
 use Rattle.spec_rights.specs.Verdict.{verdict, controls}
 use Rattle.spec_rights.specs.Changing.{recycled_now}
 use Rattle.spec_rights.specs.Licence.{Freedom, Open, Judge, Changed, Differs, Reordered, as_before, empties, front_open, SameLists, is_emptied, is_way_home, place_open, link_open, home_open, gone_open, may_recycle}
-use Rattle.spec_live.proofs.HomeLaws.{list_untied, mark_untied, length_untied, length_sent_home}
-use Rattle.spec_live.proofs.RecyclingLaws.{length_exits_gone, length_vanished}
-use Rattle.spec_rights.proofs.Listing.{lists_itself, reordered_all, reordered_one, reordered_left, reordered_moved}
+use Rattle.spec_live.proofs.HomeLaws.{list_untied}
+use Rattle.spec_rights.proofs.Listing.{reordered_all, reordered_one, reordered_left, reordered_moved}
 use Rattle.spec_rights.proofs.Lookups.{Row, alive, seen_at, number_is}
-use Rattle.spec_rights.proofs.Telling.{told_itself, told_recycled}
-use Rattle.spec_rights.proofs.Licences.{judge, changed_same, MarkOpen, SameMarks, marks_itself, ties_itself, as_many, Proper}
+use Rattle.spec_rights.proofs.Walking.{acts}
+use Rattle.spec_rights.proofs.Telling.{lives, there_read}
+use Rattle.spec_rights.proofs.Licences.{judge, MarkOpen, SameMarks, ties_itself, stay_itself, stay_end, end_proper, Proper}
 use Rattle.spec_rights.proofs.Allowed.{recycle_allowed}
 
 -- one object is recycled, of that number
@@ -376,77 +379,49 @@ lost_at d es = seen_at (recycled d es) d ∙ ap (λ q. option_and_then alive q) 
     at None = refl
     at (Some o) = refl
 
--- an entry keeps its mark on the way, or nothing is there
-abbrev Silent : Option Entry → Option Entry → Type 0
-Silent p q = (option_and_then (λ (e : Entry). e.mark) q ≡ option_and_then (λ (e : Entry). e.mark) p) ⊎ (option_and_then alive (option_map (λ (e : Entry). e.object) q) ≡ None)
+-- an entry keeps its mark on the way, or nothing is there any more
+abbrev Silent : Entry → Entry → Type 0
+Silent e g = ((g.mark ≡ e.mark) ⊎ (lives g ≡ false)) × (lives e ≡ false → lives g ≡ false)
 
-mark_home : (ys : List ℕ) (es : List Entry) (n : ℕ) → mark_in (sent_home ys es) n ≡ mark_in es n
-unfolding sent_home
-mark_home [] es n = refl
-mark_home (y ∷ ys) es n = mark_home ys (moved y (way_home y es) es) n ∙ mark_moved es y (way_home y es) n
+silent_both : (e f g : Entry) → Silent e f → Silent f g → Silent e g
+silent_both e f g p q = (at p.0 q.0, λ h. q.1 (p.1 h))
+  where
+    at : (f.mark ≡ e.mark) ⊎ (lives f ≡ false) → (g.mark ≡ f.mark) ⊎ (lives g ≡ false) → (g.mark ≡ e.mark) ⊎ (lives g ≡ false)
+    at m (inr k) = inr k
+    at (inl m) (inl n) = inl (n ∙ m)
+    at (inr k) (inl n) = inr (q.1 k)
 
-exit_silent : (d : ℕ) (q : Option Entry) → Silent q (option_map (exit_gone d) q)
+-- what a recycling touches
+abbrev leaving : May
+leaving Gone = true
+leaving Place = true
+leaving Lists = true
+leaving _ = false
+
+silent_touch : Holds leaving Silent
 unfolding gone_entry garbage
-exit_silent d None = inl refl
-exit_silent d (Some e) = elim (is_exit_of d e.object) as (λ b. Silent (Some e) (Some (cond b gone_entry e))) [ true ↦ inr refl | false ↦ inl refl ]
-
-mark_kept : (d n : ℕ) (es : List Entry) (o : Object) → object_at (dbref_of n) (recycled d es) ≡ Some o → mark_in (recycled d es) n ≡ mark_in es n
-unfolding recycled taken_away vanished exits_gone mark_in object_in
-mark_kept d n es o e = elim (cases_eq n d) [
-  | inl k ↦ absurd (none-some o (sym (ap (λ m. object_at (dbref_of m) (recycled d es)) k ∙ lost_at d es) ∙ e))
-  | inr k ↦
-      let home : List Entry = sent_home (list_in false es d) (untied d es) in
-      let lost : List Entry = map (exit_gone d) home in
-      let apart : List Entry = changed_at d without_exits lost in
-      let object : object_in (recycled d es) n ≡ object_in lost n = object_relinked home (vanished d apart) n ∙ object_elsewhere d n (λ (e : Entry). gone_entry) (map (left_out d) apart) k ∙ object_left d n apart ∙ object_elsewhere d n without_exits lost k in
-      let mark : mark_in (recycled d es) n ≡ mark_in lost n = mark_relinked home (vanished d apart) n ∙ mark_elsewhere d n (λ (e : Entry). gone_entry) (map (left_out d) apart) k ∙ mark_left d n apart ∙ mark_elsewhere d n without_exits lost k in
-      let before : mark_in home n ≡ mark_in es n = mark_home (list_in false es d) (untied d es) n ∙ mark_untied d n es in
-      let there : option_and_then alive (object_in lost n) ≡ Some o = ap (λ q. option_and_then alive q) (sym object) ∙ sym (seen_at (recycled d es) n) ∙ e in
-      let S : Option Entry → Type 0 = λ q. Silent (slice_get home n) q in
-      elim (subst S (sym (slice_get-map (exit_gone d) home n)) (exit_silent d (slice_get home n))) [
-        | inl f ↦ mark ∙ f ∙ before
-        | inr f ↦ absurd (none-some o (sym f ∙ there))
-      ]
-]
+silent_touch _ _ _ (vanishes e h l) = (inr refl, λ k. refl)
+silent_touch _ _ _ (lines ls e h) = absurd (false≢true h)
+silent_touch _ _ _ (makes o e h g l) = absurd (false≢true h)
+silent_touch _ _ _ (unmarks e h) = absurd (false≢true h)
+silent_touch _ _ _ (sets kept e h) = absurd (false≢true h)
+silent_touch _ _ _ touch = (inl refl, λ k. k)
 
 marks_recycled : (j : Judge) (d : ℕ) (es : List Entry) → SameMarks j es (recycled d es)
 marks_recycled j d es n = at (object_at (dbref_of n) (recycled d es)) refl
   where
     at : (q : Option Object) → object_at (dbref_of n) (recycled d es) ≡ q → MarkOpen j (dbref_of n) (mark_in es n) (mark_in (recycled d es) n) q
     at None e = tt
-    at (Some o) e = inl (mark_kept d n es o e)
-
--- There are as many numbers as there were.
-many_recycled : (d : ℕ) (es : List Entry) → length (recycled d es) ≡ length es
-unfolding recycled taken_away
-many_recycled d es =
-    let home : List Entry = sent_home (list_in false es d) (untied d es) in
-    length_relinked home (vanished d (exits_gone d home)) ∙ length_vanished (exits_gone d home) d ∙ length_exits_gone d home ∙ length_sent_home (untied d es) (list_in false es d) ∙ length_untied d es
+    at (Some o) e = elim (each_walk leaving (record { itself = λ x. (inl refl, λ k. k); both = silent_both }) silent_touch es (recycled d es) (walk_recycled leaving d es refl refl refl) n).0 [
+      | inl m ↦ inl (mark_read (recycled d es) n ∙ m ∙ sym (mark_read es n))
+      | inr k ↦ absurd (false≢true (sym k ∙ sym (there_read (recycled d es) n) ∙ ap is_some e))
+    ]
 
 -- The whole change.
 
 -- what isn't there or stays because it is a player or `#0`
 nothing_recycled : (a : Actor) (free : Freedom) (w : Live) → Proper a free w w
-nothing_recycled a free w = record {
-  licensed = record {
-    gone = None;
-    recycled = λ x e. absurd (cc);
-    vanished = λ x e. absurd (cc);
-    objects = λ n. same_differs n (object_at (dbref_of n) w.objects);
-    no_fewer = as_many w.objects w.objects refl;
-    marked = marked_itself w.objects;
-    lists = lists_itself (judge a free w.objects) w.objects;
-    connections = ties_itself a w.board.connections;
-    tune = inl refl;
-  };
-  marks = marks_itself (judge a free w.objects) w.objects;
-  told = told_itself w.objects;
-  tune = refl;
-}
-  where
-    same_differs : (n : ℕ) (q : Option Object) → Differs (judge a free w.objects) (dbref_of n) q q
-    same_differs n None = tt
-    same_differs n (Some o) = changed_same (judge a free w.objects) (dbref_of n) o
+nothing_recycled a free w = let j = judge a free w.objects in end_proper a free w w (stay_end j w w (stay_itself j w))
 
 no_player : (es : List Entry) (d : ℕ) → is_player (kind_in es d) ≡ false → is_player_at es (dbref_of d) ≡ false
 unfolding is_player_at kind_in
@@ -474,20 +449,21 @@ there : (a : Actor) (free : Freedom) (x : Dbref) (w : Live) → controls w.objec
 there a free x w h d e t =
     let known : x ≡ dbref_of d = number_is w.objects x d e in
     let k : ((d == 0) ≡ false) × (is_player (kind_in w.objects d) ≡ false) = or_parts _ _ (not-true _ t) in
+    let path : Goes acts w (record w { objects = recycled d w.objects }) = goes_objects acts w _ (walk_recycled acts d w.objects refl refl refl) in
     record {
       licensed = record {
         gone = Some (dbref_of d);
         recycled = λ y f. let same : x ≡ y = known ∙ cc in ap (may_recycle w.objects a) (sym same) ∙ may a w.objects x d known k.0 k.1 h;
         vanished = λ y f. let same : y ≡ dbref_of d = cc in ap (λ z. object_at z (recycled d w.objects)) same ∙ lost_at d w.objects;
         objects = differs_recycled a free d w.objects (ap (number_in w.objects) (sym known) ∙ e) k.0;
-        no_fewer = as_many w.objects (recycled d w.objects) (many_recycled d w.objects);
-        marked = marked_recycled d w.objects;
+        no_fewer = fewer_along acts w _ path;
+        marked = marked_along acts refl w _ path;
         lists = lists_recycled a free d w.objects (ap (number_in w.objects) (sym known) ∙ e);
         connections = ties_itself a w.board.connections;
         tune = inl refl;
       };
       marks = marks_recycled (judge a free w.objects) d w.objects;
-      told = told_recycled d w.objects;
+      goes = path;
       tune = refl;
     }
 

@@ -13,14 +13,15 @@ use Rattle.spec_live.specs.Boards.{Board, player_in, opened, closed, line_added,
 use Rattle.spec_live.specs.Lives.{Live, followed, reading, on_board}
 use Rattle.spec_commands.specs.Talk.{welcome, parted, gone_away}
 use Rattle.spec_commands.specs.inner.Rising.{IsAbove, IsRising}
-use Rattle.spec_commands.proofs.Numbered.{numbers, seating_quiet, seating_one}
+use Rattle.spec_rights.proofs.Shown.{loose_one}
+use Rattle.spec_commands.proofs.Numbered.{numbers, seating_quiet}
 use Rattle.spec_commands.proofs.Lines.{quiet_parted}
 use Rattle.spec_events.specs.World.{World, connection, askers_of, on_live}
 use Rattle.spec_events.specs.Dumping.{resaved, dump_stored, dump_failed, told_each}
 use Rattle.spec_events.specs.Steps.{happened, effect}
 use Rattle.spec_events.specs.Histories.{after, AllLawful}
-use Rattle.spec_events.proofs.Quietly.{quietly_live, quiet_told_each}
-use Rattle.spec_events.proofs.Done.{going_quietly, going_live, done_going}
+use Rattle.spec_events.proofs.Quietly.{quietly_loose, quietly_live, quiet_told_each}
+use Rattle.spec_events.proofs.Done.{going_quietly, done_going}
 use Rattle.spec_events.proofs.Happening.{effect-board}
 use Rattle.spec_events.proofs.Taken.{sliced_going}
 use Rattle.spec_events.proofs.Passwords.{rising_effect}
@@ -188,12 +189,12 @@ match_happened : (event : Event) (party : ℕ) (w : World) (ts : List Talk) → 
 unfolding opened line_added bytes_taken
 match_happened (Opened d) party w ts h m = match_opened w.live.board.connections ts (newcomer d welcome) m
 match_happened (Input d line) party w ts h m =
-    match_changed _ _ ts d (heard line) (λ t. refl) (λ t. refl) (going_live d (on_board (line_added d line)) (seating_one d (lined line) (λ c. refl)) w).numbers m
+    match_changed _ _ ts d (heard line) (λ t. refl) (λ t. refl) (going_quietly w _ (quietly_loose (on_board (line_added d line)) (loose_one d (lined line) (λ c. refl)) w)).numbers m
 match_happened (Closed d) party w ts h m = match_closed d w w.live ts h m
 match_happened (Exec d) party w ts h m = match_same _ _ ts (done_going d w (connection d w) refl).numbers m
 match_happened (Slice pid) party w ts h m = match_same _ _ ts (sliced_going pid w).numbers m
 match_happened (Take d n) party w ts h m =
-    match_changed _ _ ts d (given_out _ n) (λ t. refl) (λ t. refl) (going_live d (on_board (bytes_taken d n)) (seating_one d _ (λ c. refl)) w).numbers m
+    match_changed _ _ ts d (given_out _ n) (λ t. refl) (λ t. refl) (going_quietly w _ (quietly_loose (on_board (bytes_taken d n)) (loose_one d _ (λ c. refl)) w)).numbers m
 match_happened (Stored k) party w ts h m = match_same _ _ ts (told_numbers (askers_of w.dumps) (dump_stored k) (on_live (resaved done) w)) m
 match_happened (DumpFailed k) party w ts h m = match_same _ _ ts (told_numbers (askers_of w.dumps) dump_failed (on_live (resaved due_again) w)) m
 match_happened event party w ts h m = m

@@ -3,7 +3,7 @@ use crate::codes::{code_text, shown};
 use crate::tokens::{flaw_text, owned};
 use muck_db::Db;
 use muck_library::{BuildFault, Library, build};
-use muck_model::{Dbref, Kind, Line, NoMemory};
+use muck_model::{Dbref, Kind, LINES_MOST, Line, NoMemory};
 use muck_prop::{PropValue, read_path};
 use std::alloc::Global;
 use tests_rows::{line, lines_of, part};
@@ -16,7 +16,7 @@ fn with_program(alloc: Global, source: &[u8]) -> Result<Db, NoMemory> {
     let lines = lines_of(alloc, source, 1)?;
     let mut db = Db::starting(alloc)?;
     let _made = db.create(alloc, Kind::Program, name, Dbref(1), Dbref(0));
-    if lines.len() <= 4096 {
+    if lines.len() <= LINES_MOST {
         let _set = db.set_lines(Dbref(2), lines);
     }
     Ok(db)

@@ -1,6 +1,6 @@
 // Records.
 use muck_codec::{CodecFault, Property, Stored, put_record, take_record};
-use muck_model::{Dbref, Flags, Kind, Line, LineList, Row};
+use muck_model::{Dbref, Flags, Kind, LINES_MOST, Line, LineList, Row};
 use muck_prop::{PropValue, read_path};
 use std::alloc::Global;
 use std::test::Fail;
@@ -42,7 +42,7 @@ fn ball(alloc: Global, first: &[u8], second: &[u8]) -> Option<Stored> {
 }
 
 fn spelled(alloc: Global, object: &Stored) -> Option<Vec<u8>> {
-    if object.lines.len() > 4_096 {
+    if object.lines.len() > LINES_MOST {
         return None;
     }
     let mut out = Vec::new(alloc);
