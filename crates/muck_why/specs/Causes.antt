@@ -59,8 +59,8 @@ abbrev pub status_of : Why → ℕ
 status_of why = (row_of why).status
 
 -- how a call that answers this cause ends, of what was begun
-abbrev pub ending_of : Why → Ending
-ending_of why = (row_of why).ending
+abbrev pub end_of : Why → Ending
+end_of why = (row_of why).ending
 
 -- why a call ends whose last dump failed; no dump on disks that tell their bytes fails since its log is stale
 abbrev pub why_of : LogFault → Why
