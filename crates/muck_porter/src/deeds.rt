@@ -10,6 +10,7 @@ use muck_io::Clock;
 use muck_machine::World;
 use muck_model::NoMemory;
 use muck_peer::{Chose, Peer, tells_time};
+use muck_work::{Job, does_job};
 
 /// A deed that isn't for one peer, nor work.
 #[derive(Drop)]
@@ -52,16 +53,12 @@ pub enum Served {
 /// What a turn of work did.
 #[derive(Drop)]
 pub enum Worked {
-    /// A line was done.
-    Done,
-    /// A process was claimed.
-    Claimed(i32),
-    /// There was nothing to do.
-    Idle,
-    /// The run is stopping, and each link that is open is worked off.
+    /// A job was done.
+    Did(Job),
+    /// The run is stopping: a moment was entered.
+    Waits,
+    /// The same, and each link that is open is worked off.
     Ready,
-    /// Memory was wanted.
-    Dead,
 }
 
 fn all_worked_off(peers: &Vec<Peer>, world: &World) -> bool
@@ -118,53 +115,20 @@ pub fn serves<C: Clock>(
     }
 }
 
-// There is nothing to do.
-fn idles<C: Clock>(world: &mut World, clock: &mut C) -> Worked
-    requires { (now world.old).dead ≡ false }
-    ensures { (event : Event) × (world.new ≡ entered world.old (by_porter event)) × WorkedAs result event × Clocked (C.answers clock.old) (C.answers clock.new) (now world.old) event }
-{
-    if world.idle(0) {
-        return Worked::Idle;
-    }
-    tells_time(world, clock);
-    Worked::Idle
-}
-
-// A process is claimed, or there is nothing to do.
-fn claims<C: Clock>(world: &mut World, clock: &mut C) -> Worked
-    requires { (now world.old).dead ≡ false }
-    ensures { (event : Event) × (world.new ≡ entered world.old (by_porter event)) × WorkedAs result event × Clocked (C.answers clock.old) (C.answers clock.new) (now world.old) event }
-{
-    match world.claim(0) {
-        Some(pid) => Worked::Claimed(pid),
-        None => idles(world, clock),
-    }
-}
-
 /// One entry of a turn of work.
 pub fn works<C: Clock>(world: &mut World, clock: &mut C, peers: &Vec<Peer>) -> Worked
     ensures { (event : Event) × (world.new ≡ entered world.old (by_porter event)) × WorkedAs result event × Clocked (C.answers clock.old) (C.answers clock.new) (now world.old) event }
 {
     if world.is_dead() {
         world.died(0);
-        return Worked::Dead;
+        return Worked::Did(Job::Died);
     }
-    if world.is_stopping() {
-        let ready = all_worked_off(peers, world);
-        tells_time(world, clock);
-        if ready {
-            return Worked::Ready;
-        }
-        return Worked::Idle;
+    if !world.is_stopping() {
+        return Worked::Did(does_job(world, 0));
     }
-    let found = match world.exec(0) {
-        Ok(found) => found,
-        Err(NoMemory) => return Worked::Dead,
-    };
-    match found {
-        Some(_) => Worked::Done,
-        None => claims(world, clock),
-    }
+    let ready = all_worked_off(peers, world);
+    tells_time(world, clock);
+    if ready { Worked::Ready } else { Worked::Waits }
 }
 
 // A connection is opened, where it may, and not once the note of the links was made.

@@ -3,6 +3,7 @@ use Rattle.std.specs.Prelude.{◌≡◌, ◌≤◌, ℕ, ℤ, Bool, false, not, 
 use Rattle.std.specs.List.{list_any}
 use Rattle.std.specs.Ordering.{int_eq}
 use Rattle.muck_model.specs.declared.dbref.Dbref.{Dbref}
+use Rattle.muck_model.specs.Bytes.{text_most}
 use Rattle.muf_debug.specs.declared.places.Spot.{Spot}
 use Rattle.muf_debug.specs.declared.view.View.{View}
 use Rattle.muf_debug.specs.Printed.{printed}
@@ -46,7 +47,7 @@ KeepsThose on breaks vs = (told_all vs (tracer_of on breaks)).kept ≡ map print
 
 -- a line is no longer than a text may be
 abbrev pub IsCut : View → Type 0
-IsCut v = length (printed v) ≤ 4096
+IsCut v = length (printed v) ≤ text_most
 
 -- each unit of a slice is seen once, and none is of another process
 abbrev pub SeesEach : ℤ → World → Type 0

@@ -3,11 +3,12 @@ use Rattle.std.specs.Prelude.{◌≡◌, ℕ, Bool, true, false, ◌≤◌, ◌�
 use mathlib.Core.Option.{some}
 use lib.ListN.{get_elem?}
 use Rattle.muck_model.specs.declared.event.Event.{Event}
-use Rattle.muck_model.specs.declared.event.Event.TheVariants.{Opened, Closed as ClosedEvent, Moment, Exec, Claim, Slice as SliceEvent, Lost, Idle as IdleEvent, Halt, StopSeen, Died}
+use Rattle.muck_model.specs.declared.event.Event.TheVariants.{Opened, Closed as ClosedEvent, Moment, Slice as SliceEvent, Lost, Halt, StopSeen, Died}
 use Rattle.spec_events.specs.World.{World}
 use Rattle.spec_events.specs.Steps.{has_claim}
 use Rattle.spec_serve.specs.inner.Keeping.{Peer}
 use Rattle.muck_peer.specs.Moves.{IsWorkedOff, HasCause, PeerStep}
+use Rattle.muck_work.specs.inner.Jobs.{JobAs}
 use Rattle.muck_porter.specs.declared.deeds.Deed.{Deed}
 use Rattle.muck_porter.specs.declared.deeds.Deed.TheVariants.{Open, Slice, Time, Stop, Leave, Die}
 use Rattle.muck_porter.specs.declared.deeds.Did.{Did}
@@ -15,7 +16,7 @@ use Rattle.muck_porter.specs.declared.deeds.Did.TheVariants.{Done, Timed, Dead}
 use Rattle.muck_porter.specs.declared.deeds.Served.{Served}
 use Rattle.muck_porter.specs.declared.deeds.Served.TheVariants.{Went as ServedOne, Closed as ClosedOne, Nobody, Dead as ServedDead}
 use Rattle.muck_porter.specs.declared.deeds.Worked.{Worked}
-use Rattle.muck_porter.specs.declared.deeds.Worked.TheVariants.{Done as WorkedDone, Claimed, Idle, Ready, Dead as WorkedDead}
+use Rattle.muck_porter.specs.declared.deeds.Worked.TheVariants.{Did as DidJob, Waits, Ready}
 
 -- each link that is open is worked off in this world
 abbrev pub AllOff : World → List Peer → Type 0
@@ -37,13 +38,11 @@ ServedFrom from (ServedOne i) = from ≤ i
 ServedFrom from (ClosedOne i) = from ≤ i
 ServedFrom from answer = Unit {0}
 
--- a turn of work: a line is done, a process is claimed, or there is nothing to do
+-- a turn of work
 abbrev pub WorkedAs : Worked → Event → Type 0
-WorkedAs WorkedDone event = (d : ℕ) × (event ≡ Exec d)
-WorkedAs (Claimed pid) event = event ≡ Claim pid
-WorkedAs Idle event = (event ≡ IdleEvent) ⊎ IsMoment event
+WorkedAs (DidJob job) event = JobAs job event
+WorkedAs Waits event = IsMoment event
 WorkedAs Ready event = IsMoment event
-WorkedAs WorkedDead event = event ≡ Died
 
 -- any other deed: it is done, or a moment is entered
 abbrev pub DidAs : Deed → Did → Bool → List Peer → World → Event → Type 0

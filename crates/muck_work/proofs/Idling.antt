@@ -10,7 +10,7 @@ use Rattle.muck_queue.specs.declared.process.Process.{Process}
 use Rattle.muck_queue.specs.Queues.{is_due, earlier, earliest, next_due}
 use Rattle.spec_events.specs.World.{World}
 use Rattle.spec_events.specs.Steps.{is_free, has_line, has_due, is_dump_due, is_lawful, next_ready, next_process}
-use Rattle.muck_worker.specs.inner.Deeds.{by}
+use Rattle.muck_work.specs.inner.Jobs.{by}
 
 found_none : {X : Type 0} (test : X → Bool) (xs : List X) → find test xs ≡ None → list_any test xs ≡ false
 found_none test [] e = refl
