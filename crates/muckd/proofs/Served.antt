@@ -1,5 +1,5 @@
 -- What a call for `serve` comes to, from what the server says.
-use Rattle.std.proofs.Common.{◌≡◌, ◌⊎◌, inl, inr, ℕ, ◌≤◌, Bool, true, false, List, refl, sym, ap, subst, ◌∙◌, Option, Some, None, Ok, Err}
+use Rattle.std.proofs.Common.{◌≡◌, ◌⊎◌, inl, inr, ℕ, ◌≤◌, Bool, true, List, refl, sym, ap, subst, ◌∙◌, Option, Some, Ok, Err}
 use Rattle.std.specs.Prelude.{codes, length, All, ◌++◌, ◌^◌}
 use Rattle.muck_codec.specs.inner.Stored.{AreProperties}
 use Rattle.muck_io.specs.Faults.{Rose}
