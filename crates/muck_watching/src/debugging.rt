@@ -17,8 +17,8 @@ use muck_io::{ReadFault, Sink, Source, read_all};
 use muck_log::Log;
 use muck_model::Tale;
 use muck_run::{RunFault, begin, last_dump, mount, stop};
-use muck_why::Why;
 use muck_script::{SCRIPT_MOST, ScriptFault};
+use muck_why::Why;
 use muf_debug::Tracer;
 use std::alloc::Global;
 
