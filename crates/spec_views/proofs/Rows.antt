@@ -10,7 +10,7 @@ use Rattle.spec_live.specs.Start.{room_zero, player_one, first_objects}
 use Rattle.spec_rights.specs.Levels.{level_at, owner_at, flag_at, owns, controls_as, effective, inherits, level, user}
 use Rattle.spec_rights.specs.Verdict.{controls, controls_or}
 use Rattle.muf_debug.specs.declared.places.Spot.{Spot}
-use Rattle.muf_debug.specs.Shown.{new_tracer}
+use Rattle.muf_debug.specs.Shown.{new_tracer, told_all}
 use Rattle.spec_prims.specs.Asking.{level_fault, is_there, near_fault}
 use Rattle.spec_prims.specs.Shared.{first_fault, shared}
 use Rattle.muck_queue.specs.Queues.{empty_queue, number_most, is_full, added, on_process, without}
@@ -30,16 +30,16 @@ abbrev at_line : ℕ → List Spot
 at_line line = record { program = dbref_of 3; line = line } ∷ []
 
 pub rows : Rows
-unfolding new_tracer digits sent_lines queue_most lines_bytes line_sent lines_sent sent object_at number_in kind_in flags_in place_in object_in list_in changed_at first_tune early_board told_one told_player unchanged tell tell_player room_zero player_one first_objects level_at owner_at flag_at owns controls_as effective inherits level user controls controls_or empty_queue number_most is_full added on_process without booted starting new_process acting level_fault is_there near_fault first_fault shared row_done deed program_error swept settled turn run_of sliced
+unfolding told_all new_tracer digits sent_lines queue_most lines_bytes line_sent lines_sent sent object_at number_in kind_in flags_in place_in object_in list_in changed_at first_tune early_board told_one told_player unchanged tell tell_player room_zero player_one first_objects level_at owner_at flag_at owns controls_as effective inherits level user controls controls_or empty_queue number_most is_full added on_process without booted starting new_process acting level_fault is_there near_fault first_fault shared row_done deed program_error swept settled turn run_of sliced
 rows = record {
-  trace_row = keeps_those true [] (first_views (running sum)) ∙ refl;
-  break_row = keeps_those false (at_line 3) (first_views (running sum)) ∙ refl;
-  elsewhere_row = keeps_those false (at_line 5) (first_views (running sum)) ∙ refl;
-  pop_row = keeps_those true [] (first_views (running (words (Primitive Pop ∷ [])))) ∙ refl;
-  scope_row = keeps_those true [] (first_views (running (of_main 1 1 (on_line 1 (Primitive Pop ∷ []) stop)))) ∙ refl;
-  limit_row = keeps_those true [] (first_views (bounded 3 (running_of 2 (words two_numbers)))) ∙ refl;
-  next_row = keeps_those true [] (take 1 (next_views nine_sevens)) ∙ refl;
-  stays_row = keeps_those false (at_line 1) (first_views nine_sevens ++ next_views nine_sevens) ∙ refl;
+  trace_row = keeps_those [] true [] (first_views (running sum)) ∙ refl;
+  break_row = keeps_those [] false (at_line 3) (first_views (running sum)) ∙ refl;
+  elsewhere_row = keeps_those [] false (at_line 5) (first_views (running sum)) ∙ refl;
+  pop_row = keeps_those [] true [] (first_views (running (words (Primitive Pop ∷ [])))) ∙ refl;
+  scope_row = keeps_those [] true [] (first_views (running (of_main 1 1 (on_line 1 (Primitive Pop ∷ []) stop)))) ∙ refl;
+  limit_row = keeps_those [] true [] (first_views (bounded 3 (running_of 2 (words two_numbers)))) ∙ refl;
+  next_row = keeps_those [] true [] (take 1 (next_views nine_sevens)) ∙ refl;
+  stays_row = keeps_those [] false (at_line 1) (first_views nine_sevens ++ next_views nine_sevens) ∙ refl;
   nobody_row = refl;
-  others_row = keeps_those false (at_line 3) (comes (pos 1) ∷ comes (pos 2) ∷ comes (pos 1) ∷ []) ∙ refl;
+  others_row = keeps_those [] false (at_line 3) (comes (pos 1) ∷ comes (pos 2) ∷ comes (pos 1) ∷ []) ∙ refl;
 }

@@ -1,10 +1,11 @@
 -- What a tracer keeps of views is what is shown of them.
-use Rattle.std.proofs.Common.{◌≡◌, ◌≤◌, ℕ, Bool, true, false, cond, not, List, [], ◌∷◌, ◌++◌, length, map, take, replicate, Some, refl, ap, sym, ◌∙◌, arith}
+use Rattle.std.proofs.Common.{◌≡◌, ◌≤◌, ℕ, Bool, true, false, cond, not, List, [], ◌∷◌, ◌++◌, length, map, take, reverse, replicate, Some, refl, ap, sym, subst, ◌∙◌, arith}
 use Rattle.std.specs.Prelude.{ℤ, ◌&&◌, ◌||◌}
 use Rattle.std.specs.Option.{option_map_or}
 use Rattle.std.specs.Ordering.{int_eq, int_cmp}
 use Rattle.std.specs.Cmp.{int_cmp_total}
 use Rattle.std.specs.FinMap.{get, insert, get-insert, get-empty}
+use Rattle.std.proofs.lemmas.Grind.{reverse_onto}
 use Rattle.std.proofs.lemmas.List.{append-nil, append_assoc, length-take}
 use Rattle.muck_model.specs.Bytes.{text_most}
 use Rattle.muf_debug.specs.declared.places.Spot.{Spot}
@@ -14,7 +15,7 @@ use Rattle.muf_debug.specs.Shown.{Tracer, Lasts, new_tracer, same_spot, spot_of,
 use Rattle.spec_events.specs.World.{World}
 use Rattle.spec_events.specs.Slices.{Taken, units_of}
 use Rattle.spec_views.specs.Views.{view_of}
-use Rattle.spec_views.specs.Showing.{is_on, has_break, stays_on, is_shown, shown_behind, tracer_of, KeepsThose, IsCut, SeesEach}
+use Rattle.spec_views.specs.Showing.{is_on, has_break, stays_on, is_shown, shown_behind, tracer_behind, KeepsThose, IsCut, SeesEach}
 
 -- the lines that processes were at last are those of these views, the last one first
 abbrev Follows : List View → Lasts → Type 0
@@ -42,9 +43,22 @@ keeps_behind (v ∷ vs) seen t h =
     ∙ ap (λ b. cond (t.on || (has_break t.breaks v && not b)) (t.kept ++ printed v ∷ []) t.kept ++ map printed (shown_behind (v ∷ seen) t.on t.breaks vs)) (h v)
     ∙ line_more (is_shown t.on t.breaks seen v) t.kept v (shown_behind (v ∷ seen) t.on t.breaks vs)
 
-pub keeps_those : (on : Bool) (breaks : List Spot) (vs : List View) → KeepsThose on breaks vs
+-- several more are seen
+seen_all : (vs past : List View) (t : Tracer) → Follows past t.last → Follows (reverse vs ++ past) (told_all vs t).last
+unfolding told_all told
+seen_all [] past t h = h
+seen_all (v ∷ vs) past t h =
+    let order : reverse vs ++ (v ∷ past) ≡ reverse (v ∷ vs) ++ past = sym (append_assoc (reverse vs) (v ∷ []) past) ∙ ap (λ us. us ++ past) (sym (reverse_onto vs v [])) in
+    subst (λ (us : List View). Follows us (told_all vs (told v t)).last) order (seen_all vs (v ∷ past) (told v t) (seen_more v past t.last h))
+
+none_seen : Follows [] new_tracer.last
 unfolding new_tracer
-keeps_those on breaks vs = keeps_behind vs [] (tracer_of on breaks) (λ v. ap (λ o. option_map_or (same_spot (spot_of v)) o false) (get-empty int_cmp v.pid))
+none_seen v = ap (λ o. option_map_or (same_spot (spot_of v)) o false) (get-empty int_cmp v.pid)
+
+pub keeps_those : (seen : List View) (on : Bool) (breaks : List Spot) (vs : List View) → KeepsThose seen on breaks vs
+keeps_those seen on breaks vs =
+    keeps_behind vs (reverse seen) (tracer_behind seen on breaks)
+    (subst (λ (us : List View). Follows us (told_all seen new_tracer).last) (append-nil (reverse seen)) (seen_all seen [] new_tracer none_seen))
 
 is_within : (bytes : List ℕ) → length (take text_most bytes) ≤ text_most
 is_within bytes = omega (arith, length-take text_most bytes)

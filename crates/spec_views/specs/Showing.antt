@@ -1,5 +1,5 @@
 -- Which of the views of a history are shown, as a debugger's user thinks of it.
-use Rattle.std.specs.Prelude.{◌≡◌, ◌≤◌, ℕ, ℤ, Bool, false, not, ◌&&◌, ◌||◌, ◌==◌, if◌then◌else◌, List, [], ◌∷◌, map, length, replicate}
+use Rattle.std.specs.Prelude.{◌≡◌, ◌≤◌, ℕ, ℤ, Bool, false, not, ◌&&◌, ◌||◌, ◌==◌, if◌then◌else◌, List, [], ◌∷◌, map, length, reverse, replicate}
 use Rattle.std.specs.List.{list_any}
 use Rattle.std.specs.Ordering.{int_eq}
 use Rattle.muck_model.specs.declared.dbref.Dbref.{Dbref}
@@ -29,7 +29,7 @@ stays_on (u ∷ us) v = if int_eq v.pid u.pid then is_on u.program u.line v else
 abbrev pub is_shown : Bool → List Spot → List View → View → Bool
 is_shown on breaks seen v = on || (has_break breaks v && not (stays_on seen v))
 
--- those of some views that are shown, behind those that were seen
+-- those of some views that are shown, behind those that were seen, the last one first
 abbrev pub shown_behind : List View → Bool → List Spot → List View → List View
 shown_behind seen on breaks [] = []
 shown_behind seen on breaks (v ∷ vs) =
@@ -37,13 +37,13 @@ shown_behind seen on breaks (v ∷ vs) =
 
 -- The laws.
 
--- a tracer that was told of nothing yet
-abbrev pub tracer_of : Bool → List Spot → Tracer
-tracer_of on breaks = record new_tracer { on = on; breaks = breaks }
+-- a tracer that was told of these units, whatever it showed of them, and shows so from now on
+abbrev pub tracer_behind : List View → Bool → List Spot → Tracer
+tracer_behind seen on breaks = record (told_all seen new_tracer) { on = on; breaks = breaks; kept = [] }
 
 -- it keeps the lines of those that are shown, in their order
-abbrev pub KeepsThose : Bool → List Spot → List View → Type 0
-KeepsThose on breaks vs = (told_all vs (tracer_of on breaks)).kept ≡ map printed (shown_behind [] on breaks vs)
+abbrev pub KeepsThose : List View → Bool → List Spot → List View → Type 0
+KeepsThose seen on breaks vs = (told_all vs (tracer_behind seen on breaks)).kept ≡ map printed (shown_behind (reverse seen) on breaks vs)
 
 -- a line is no longer than a text may be
 abbrev pub IsCut : View → Type 0

@@ -1,5 +1,5 @@
 -- What the porter does in a hold.
-use Rattle.std.specs.Prelude.{◌≡◌, ℕ, Bool, true, false, ◌≤◌, ◌⊎◌, List, slice_set}
+use Rattle.std.specs.Prelude.{◌≡◌, ℕ, Bool, true, false, ◌≤◌, ◌<◌, ◌⊎◌, List, length, slice_set}
 use mathlib.Core.Option.{some}
 use lib.ListN.{get_elem?}
 use Rattle.muck_model.specs.declared.event.Event.{Event}
@@ -7,7 +7,8 @@ use Rattle.muck_model.specs.declared.event.Event.TheVariants.{Opened, Closed as 
 use Rattle.spec_events.specs.World.{World}
 use Rattle.spec_events.specs.Steps.{has_claim}
 use Rattle.spec_serve.specs.inner.Keeping.{Peer}
-use Rattle.muck_peer.specs.Moves.{IsWorkedOff, HasCause, PeerStep}
+use Rattle.muck_peer.specs.declared.steps.Want.{Want}
+use Rattle.muck_peer.specs.Moves.{IsWorkedOff, HasCause, IsWanted, PeerStep}
 use Rattle.muck_work.specs.inner.Jobs.{JobAs}
 use Rattle.muck_porter.specs.declared.deeds.Deed.{Deed}
 use Rattle.muck_porter.specs.declared.deeds.Deed.TheVariants.{Open, Slice, Time, Stop, Leave, Die}
@@ -21,6 +22,14 @@ use Rattle.muck_porter.specs.declared.deeds.Worked.TheVariants.{Did as DidJob, W
 -- each link that is open is worked off in this world
 abbrev pub AllOff : World → List Peer → Type 0
 AllOff w peers = (i : ℕ) (p : Peer) → get_elem? peers i ≡ some p → IsWorkedOff p w
+
+-- the peer at this place wants this
+abbrev pub IsWantedAt : List Peer → World → ℕ → Want → Type 0
+IsWantedAt ps w at want = (p : Peer) → get_elem? ps at ≡ some p → IsWanted want p w
+
+-- and it is one from a place on
+abbrev pub IsFound : ℕ → List Peer → World → ℕ → Want → Type 0
+IsFound from ps w at want = (from ≤ at) × (at < length ps) × IsWantedAt ps w at want
 
 abbrev pub IsMoment : Event → Type 0
 IsMoment event = (t : ℕ) × (event ≡ Moment t)

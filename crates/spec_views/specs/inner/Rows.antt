@@ -14,15 +14,15 @@ use Rattle.spec_events.specs.World.{World}
 use Rattle.spec_events.specs.Slices.{sliced}
 use Rattle.spec_events.specs.inner.Rows.{running, running_of, bounded, short, sevens, words, two_numbers}
 use Rattle.spec_views.specs.Views.{views_of}
-use Rattle.spec_views.specs.Showing.{tracer_of}
+use Rattle.spec_views.specs.Showing.{tracer_behind}
 
 -- what is kept of views while trace is on
 abbrev pub traced : List View → List (List ℕ)
-traced vs = (told_all vs (tracer_of true [])).kept
+traced vs = (told_all vs (tracer_behind [] true [])).kept
 
 -- and while a break stands at this line of the program `#3`
 abbrev pub broken : ℕ → List View → List (List ℕ)
-broken line vs = (told_all vs (tracer_of false (record { program = dbref_of 3; line = line } ∷ []))).kept
+broken line vs = (told_all vs (tracer_behind [] false (record { program = dbref_of 3; line = line } ∷ []))).kept
 
 -- these words on a line
 abbrev pub on_line : ℕ → List Word → Block → Block
