@@ -7,7 +7,7 @@ ghost use Rattle.spec_views.specs.Showing.{KeepsThose, IsCut, SeesEach};
 
 /// Says that each unit of a slice is seen once, as one of its process; and that a tracer which is told of views, behind others, keeps exactly the lines of those that are shown:
 /// of all while trace is on, and else of those whose program and line a break names, and whose process comes there from elsewhere. A line is no longer than a text. It does nothing.
-#[tactic(auto, using(crate::proofs::Showing::sees_each, crate::proofs::Showing::keeps_those, crate::proofs::Showing::is_cut))]
+#[tactic(auto, using(crate::proofs::Showing::sees_each, crate::proofs::Showing::keeps_those))]
 pub fn views_shown()
     ensures seen { (pid : ℤ) (w : World) → SeesEach pid w }
     ensures kept { (seen : List View) (on : Bool) (breaks : List Spot) (vs : List View) → KeepsThose seen on breaks vs }
