@@ -6,9 +6,8 @@ ghost use Rattle.muck_queue.specs.Queues.{is_tied};
 ghost use Rattle.spec_admin.specs.Parameters.{IsInRange};
 ghost use Rattle.spec_events.specs.World.{starting, booted, connection, queue_of, is_leaving};
 ghost use Rattle.spec_events.specs.Steps.{is_lawful, has_claim, is_there, next_ready, next_process};
-ghost use Rattle.spec_events.specs.Histories.{now, entered, by_porter, AllLawful};
+ghost use Rattle.spec_events.specs.Histories.{now, entered, by_porter, AllLawful, EntryLicensed};
 ghost use Rattle.spec_events.specs.Logged.{IsPlaced};
-ghost use Rattle.spec_events.specs.Licences.{EventLicensed};
 ghost use Rattle.spec_events.specs.Sections.{IsWhole};
 ghost use Rattle.spec_events.specs.Slices.{awake, units_of};
 ghost use Rattle.muck_machine.specs.declared.world.Sliced.TheVariants.{Ran, Lost};
@@ -292,7 +291,7 @@ impl World {
     pub fn exec(&mut self, party: u8) -> Result<Option<u32>, NoMemory>
         ensures found { IfOk result (λ found. found ≡ next_ready (now self.old)) }
         ensures step { IfOk result (λ found. MatchOption found (self.new ≡ self.old) (λ d. self.new ≡ entered self.old (record { party = party; event = Event.Exec d }))) }
-        ensures licensed { IfOk result (λ found. IfSome found (λ d. EventLicensed (Event.Exec d) (now self.old) (now self.new))) }
+        ensures licensed { IfOk result (λ found. IfSome found (λ d. EntryLicensed (record { party = party; event = Event.Exec d }) (now self.old) (now self.new))) }
         ensures died { OnErr result (self.new ≡ entered self.old (record { party = party; event = Event.Died })) }
     {
         let Some(d) = self.next_ready() else {
@@ -336,7 +335,7 @@ impl World {
         requires claim { has_claim party pid (now self.old) ≡ true }
         ensures ran { IfOk result (λ sliced. sliced ≡ (if is_there pid (now self.old) then Ran else Lost)) }
         ensures step { IfOk result (λ sliced. self.new ≡ entered self.old (record { party = party; event = slice_event pid sliced })) }
-        ensures licensed { IfOk result (λ sliced. EventLicensed (slice_event pid sliced) (now self.old) (now self.new)) }
+        ensures licensed { IfOk result (λ sliced. EntryLicensed (record { party = party; event = slice_event pid sliced }) (now self.old) (now self.new)) }
         ensures whole { IfOk result (λ sliced. sliced ≡ Ran → IsWhole (now self.old).live.board.tune pid (awake pid (now self.old)) (units_of pid (now self.old))) }
         ensures died { OnErr result (self.new ≡ entered self.old (record { party = party; event = Event.Died })) }
     {

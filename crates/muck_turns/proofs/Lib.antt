@@ -1,3 +1,4 @@
+pub mod Hooks
 pub mod Outcomes
 pub mod Turns
 pub mod Settling

@@ -2,8 +2,7 @@ use Rattle.std.proofs.Common.{◌≡◌, refl, subst, sym, ◌∙◌, ap, true, 
 use Rattle.std.proofs.lemmas.Bool.{cond-true, cond-false}
 use Rattle.muck_model.specs.declared.event.Event.TheVariants.{Slice, Lost}
 use Rattle.spec_events.specs.Steps.{is_lawful, is_there}
-use Rattle.spec_events.specs.Histories.{now}
-use Rattle.spec_events.specs.Licences.{EventLicensed}
+use Rattle.spec_events.specs.Histories.{now, EntryLicensed}
 use Rattle.spec_events.proofs.Claims.{slice_lawful, lost_lawful}
 use Rattle.muck_turns.specs.contracts.state.State as state
 use Rattle.muck_machine.specs.inner.Keeping.{history}
@@ -52,8 +51,8 @@ returns-then-not-has_process-clause-licensed c = told_licensed c.self.inside.pas
 pub returns-clause-licensed : goal.returns-clause-licensed
 returns-clause-licensed c =
     let back : to_z w32 (of_z w32 c.args.pid) ≡ c.args.pid = search rules in
-    subst (λ pid. EventLicensed (Slice pid) (now c.args.self.now) (now (history c.conclude.new.self))) back
+    subst (λ pid. EntryLicensed (record { party = c.args.party; event = Slice pid }) (now c.args.self.now) (now (history c.conclude.new.self))) back
     (told_licensed c.self.inside.past c.conclude.new.self _ _ _ c.self.invariant c.self.view_is c.in_ok-conclude.ensures.past)
 
 pub returns-clause-whole : goal.returns-clause-whole
-returns-clause-whole c = λ ran. (returns-clause-licensed c).whole
+returns-clause-whole c = λ ran. (returns-clause-licensed c).0.whole

@@ -3,8 +3,7 @@ use Rattle.std.proofs.lemmas.Bool.{cond-true}
 use Rattle.muck_model.specs.declared.event.Event.TheVariants.{Slice}
 use Rattle.muf_debug.specs.Watching.{SeesAll}
 use Rattle.spec_events.specs.Steps.{is_lawful, is_there}
-use Rattle.spec_events.specs.Histories.{now}
-use Rattle.spec_events.specs.Licences.{EventLicensed}
+use Rattle.spec_events.specs.Histories.{now, EntryLicensed}
 use Rattle.spec_events.proofs.Claims.{slice_lawful}
 use Rattle.spec_views.specs.Views.{views_of}
 use Rattle.muck_machine.specs.inner.Keeping.{history}
@@ -36,11 +35,11 @@ returns-clause-ran g c =
 pub returns-clause-licensed : goal.returns-clause-licensed
 returns-clause-licensed g c =
     let back : to_z w32 (of_z w32 c.args.pid) ≡ c.args.pid = search rules in
-    subst (λ pid. EventLicensed (Slice pid) (now c.args.self.now) (now (history c.conclude.new.self))) back
+    subst (λ pid. EntryLicensed (record { party = c.args.party; event = Slice pid }) (now c.args.self.now) (now (history c.conclude.new.self))) back
     (told_licensed c.self.inside.past c.conclude.new.self _ _ _ c.self.invariant c.self.view_is c.in_ok-conclude.ensures.past)
 
 pub returns-clause-whole : goal.returns-clause-whole
-returns-clause-whole g c = λ ran. (returns-clause-licensed g c).whole
+returns-clause-whole g c = λ ran. (returns-clause-licensed g c).0.whole
 
 pub returns-then-not-has_process-clause-seen : goal.returns-then-not-has_process-clause-seen
 returns-then-not-has_process-clause-seen g c =
