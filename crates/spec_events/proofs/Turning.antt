@@ -252,7 +252,7 @@ module _ (w v : Live) (stood : (n : ℕ) → stood_in v.objects n ≡ stands_in 
     alone : is_alone d p v ≡ not (had p)
     alone = ap not (alone_is d p v.board.connections ∙ ap (seat_beside d p) e ∙ sits_alone p d (seats w) rises free)
 
-    turned : Turned
+    abbrev turned : Turned
     turned = cond (is_number p v && not (had p)) (Came p) Nobody
 
     stays_gone : (a b : Bool) → (a && not (a || b)) ≡ false
