@@ -42,8 +42,7 @@ LockRows =
     -- the number is shown in decimal
     × (lock_text (dbref_of 2) (gate_world five) ≡ codes "5")
     × (lock_text (dbref_of 0) (gate_world five) ≡ codes "*UNLOCKED*")
-    -- the empty text is the free lock, which opens for all; the text of no lock opens for nobody
-    × ((x : Dbref) → kept_opens (gate_world five) x (Text []) ≡ true)
+    -- the text of no lock opens for nobody either
     × (kept_opens (gate_world five) (dbref_of 1) (Text (codes "#1 ")) ≡ false)
     -- a key asks for a number in decimal
     × (value_is (codes "5") five ≡ true)
@@ -74,7 +73,6 @@ lock_rows = (
   λ x. refl,
   ap shown five_lock,
   ap shown no_lock,
-  λ x. refl,
   refl,
   refl,
   refl,
