@@ -4,6 +4,7 @@ ghost use Rattle.std.specs.Option.{option_map_or};
 ghost use Rattle.muck_model.specs.declared.event.Event.{Event};
 ghost use Rattle.muck_queue.specs.Queues.{is_tied};
 ghost use Rattle.spec_admin.specs.Parameters.{IsInRange};
+ghost use Rattle.spec_live.specs.Stood.{IsStill};
 ghost use Rattle.spec_events.specs.World.{starting, booted, connection, queue_of, is_leaving};
 ghost use Rattle.spec_events.specs.Steps.{is_lawful, has_claim, is_there, next_ready, next_process};
 ghost use Rattle.spec_events.specs.Histories.{now, entered, by_porter, AllLawful, EntryLicensed};
@@ -79,10 +80,11 @@ pub enum Sliced {
 
 impl World {
     /// The world of these objects and parameters at this second, in which nobody is connected and nothing has happened
-    /// yet; its random numbers begin with `start`. The objects are as a store held them: of none of them a change is still to be told.
+    /// yet; its random numbers begin with `start`. The objects are as a store held them: of none of them a change is still to be told, and no player has moved.
     pub fn boot(alloc: Global, from: Persisted, moment: u64, start: u64) -> Result<Self, NoMemory>
         requires tune { IsInRange from.tune }
         requires told { AreTold from.db }
+        requires still { IsStill from.db }
         ensures { IfOk result (λ w. w ≡ record { start = booted from.db from.tune moment start; entries = []; notes = []; counted = None }) }
     {
         let Persisted { db, tune } = from;
@@ -115,7 +117,7 @@ impl World {
     }
 
     /// Room Zero and One as they are at first, and nobody connected: nothing has happened yet.
-    #[tactic(auto, unfolding(spec_events::specs::World::starting, spec_live::specs::Boards::first_tune), using(crate::proofs::Keepings::told_first))]
+    #[tactic(auto, unfolding(spec_events::specs::World::starting, spec_live::specs::Boards::first_tune), using(crate::proofs::Keepings::told_first, crate::proofs::Keepings::still_first))]
     pub fn starting(alloc: Global) -> Result<Self, NoMemory>
         ensures { IfOk result (λ w. w ≡ record { start = starting; entries = []; notes = []; counted = None }) }
     {
@@ -257,7 +259,7 @@ impl World {
         Ok(true)
     }
 
-    /// A connection goes, and where it was a player's last one, others are told. After `NoMemory` the world is dead.
+    /// A connection goes, and where it was a player's last one, others are told; what is hooked to that starts. After `NoMemory` the world is dead.
     pub fn closed(&mut self, d: u32) -> Result<(), NoMemory>
         requires { is_lawful (now self.old) (by_porter (Event.Closed d)) ≡ true }
         ensures ok { OnOk result (self.new ≡ entered self.old (by_porter (Event.Closed d))) }

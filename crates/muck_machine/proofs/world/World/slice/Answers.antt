@@ -6,7 +6,7 @@ use Rattle.spec_events.specs.Histories.{now, EntryLicensed}
 use Rattle.spec_events.proofs.Claims.{slice_lawful, lost_lawful}
 use Rattle.muck_turns.specs.contracts.state.State as state
 use Rattle.muck_machine.specs.inner.Keeping.{history}
-use Rattle.muck_machine.proofs.Keepings.{keeps_entered, keeps_concluded}
+use Rattle.muck_machine.proofs.Keepings.{keeps_entered, keeps_concluded, still_seen, rising_seen}
 use Rattle.muck_machine.proofs.Taken.{lost_so}
 use Rattle.muck_machine.proofs.Licences.{told_licensed}
 use Rattle.muck_machine.proofs.world.World.slice.Goals as goal
@@ -24,6 +24,12 @@ returns-then-not-has_process-clause-ran c =
     let back : to_z w32 (of_z w32 c.args.pid) ≡ c.args.pid = search rules in
     let there : is_there c.args.pid (now c.args.self.now) ≡ false = ap (λ n. is_there n (now c.args.self.now)) (sym back) ∙ sym (c.has_process.ensures c.requires.alive) ∙ c.if-not-has_process.true in
     sym (cond-false _ _ _ there)
+
+pub slice-done-requires-clause-still : goal.slice-done-requires-clause-still
+slice-done-requires-clause-still c = still_seen c.self.inside.past _ _ c.self.invariant c.self.view_is c.requires.alive
+
+pub slice-done-requires-clause-rising : goal.slice-done-requires-clause-rising
+slice-done-requires-clause-rising c = rising_seen c.self.inside.past _ _ c.self.invariant c.self.view_is c.requires.alive
 
 pub invariant_of-self-2 : goal.invariant_of-self-2
 invariant_of-self-2 c =
