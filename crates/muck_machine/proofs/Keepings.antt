@@ -26,9 +26,11 @@ use Rattle.spec_events.proofs.Living.{dead-effect}
 use Rattle.spec_events.proofs.Reached.{sound-effect, died_lawful}
 use Rattle.spec_events.proofs.Runs.{after-append, lawful-append}
 use Rattle.spec_events.proofs.Stilling.{still_effect}
+use Rattle.spec_events.proofs.Turns.{told_effect}
 use Rattle.spec_events.proofs.Logging.{placed_entered, placed_noted, placed_linked}
+use Rattle.muck_turns.specs.inner.Hooks.{AreTold}
 use Rattle.muck_machine.specs.declared.past.Past.{Past}
-use Rattle.muck_machine.specs.inner.Keeping.{AreTold, Keeps, history, told, remarked, counted_at_end, lost, Concludes}
+use Rattle.muck_machine.specs.inner.Keeping.{Keeps, history, told, remarked, counted_at_end, lost, Concludes}
 
 one_more : (start : World) (entries : List Entry) (e : Entry) → after start (entries ++ e ∷ []) ≡ effect (after start entries) e
 one_more start entries e = after-append entries (e ∷ []) start
@@ -124,6 +126,14 @@ still_after w (e ∷ es) still = still_after (effect w e) es (still_effect w e s
 
 pub still_seen : (p : Past) (state : World) (h : History) → Keeps p state → history p ≡ h → (now h).dead ≡ false → IsStill state.live.objects
 still_seen p state h k v alive = subst (λ (w : World). IsStill w.live.objects) (sym (k.lives (sym (dead_seen p state h k v) ∙ alive))) (still_after p.origin p.tale.entries k.still)
+
+-- nor is anything to be told
+told_after : (w : World) (es : List Entry) → AreTold w.live.objects → AreTold (after w es).live.objects
+told_after w [] told = told
+told_after w (e ∷ es) told = told_after (effect w e) es (told_effect w e told)
+
+pub told_seen : (p : Past) (state : World) (h : History) → Keeps p state → history p ≡ h → (now h).dead ≡ false → AreTold state.live.objects
+told_seen p state h k v alive = subst (λ (w : World). AreTold w.live.objects) (sym (k.lives (sym (dead_seen p state h k v) ∙ alive))) (told_after p.origin p.tale.entries k.told)
 
 -- and the connections stand by rising number
 pub rising_seen : (p : Past) (state : World) (h : History) → Keeps p state → history p ≡ h → (now h).dead ≡ false → IsRising state.live.board.connections

@@ -13,7 +13,7 @@ ghost use Rattle.spec_events.specs.Sections.{IsWhole};
 ghost use Rattle.spec_events.specs.Slices.{awake, units_of};
 ghost use Rattle.muck_machine.specs.declared.world.Sliced.TheVariants.{Ran, Lost};
 ghost use Rattle.muck_machine.specs.inner.Claims.{slice_event};
-ghost use Rattle.muck_machine.specs.inner.Keeping.{AreTold};
+ghost use Rattle.muck_turns.specs.inner.Hooks.{AreTold};
 
 mod dumping;
 mod seeing;

@@ -1,26 +1,37 @@
 -- What is hooked to an event is what is told of who moved, and of whose connections came or went.
-use Rattle.std.proofs.Common.{◌≡◌, ℕ, ◌+◌, ◌<◌, ◌≤◌, Bool, true, false, cond, List, [], ◌∷◌, ◌++◌, length, drop, get_or, Option, Some, None, refl, sym, ◌∙◌, ap, subst, append_assoc, append-nil, int_lt}
+use Rattle.std.proofs.Common.{◌≡◌, ℕ, ℤ, ◌+◌, ◌<◌, ◌≤◌, suc, true, false, List, [], ◌∷◌, ◌++◌, length, drop, get_or, Option, None, Result, OnOk, refl, sym, ◌∙◌, ap, append_assoc, int_lt}
 use Rattle.std.proofs.lemmas.List.{drop_more}
 use Rattle.std.proofs.lemmas.Bool.{cond-true, cond-false}
 use Rattle.std.proofs.Math.ListN.{drop_of_length-le}
 use Rattle.std.specs.List.{flat_map}
+use Rattle.std.specs.Option.{option_and_then}
 use Rattle.muck_model.specs.declared.dbref.Dbref.{Dbref}
+use Rattle.muck_model.specs.declared.event.Event.TheVariants.{Exec, Slice, Closed}
+use Rattle.muck_model.specs.declared.memory.NoMemory.{NoMemory}
 use Rattle.spec_live.specs.declared.moved.Move.{Move}
-use Rattle.spec_live.specs.Stood.{stilled, moves_from, stood_in, stands_in}
-use Rattle.spec_live.specs.Lives.{Live}
+use Rattle.spec_live.specs.declared.object.Object.{Object}
+use Rattle.spec_live.specs.Objects.{Entry, dbref_of}
+use Rattle.spec_live.specs.Boards.{player_in}
+use Rattle.spec_live.specs.Stood.{standing, stands_in, stilled, IsStill}
+use Rattle.spec_live.specs.Lives.{Live, on_objects}
+use Rattle.spec_live.proofs.Tracing.{object_stilled}
+use Rattle.spec_commands.specs.inner.Rising.{IsRising}
 use Rattle.spec_hooks.specs.declared.cause.Cause.{Cause}
 use Rattle.spec_hooks.specs.declared.cause.Cause.TheVariants.{Connect, Disconnect}
 use Rattle.spec_hooks.specs.declared.turned.Turned.{Turned}
-use Rattle.spec_hooks.specs.declared.turned.Turned.TheVariants.{Came, Went}
-use Rattle.spec_hooks.specs.Causes.{causes_from, causes, heard}
-use Rattle.spec_hooks.specs.Told.{of_move, of_moves, told, Turns}
+use Rattle.spec_hooks.specs.declared.turned.Turned.TheVariants.{Nobody, Came, Went}
+use Rattle.spec_hooks.specs.Causes.{where_true, moves, has_gone, has_come, causes_of, causes_from, causes, heard}
+use Rattle.spec_hooks.specs.Told.{of_move, of_moves, told, came_on, went_of, Turns}
 use Rattle.spec_hooks.proofs.Telling.{told_causes}
 use Rattle.spec_events.specs.declared.starting.Call.{Call}
-use Rattle.spec_events.specs.World.{World}
+use Rattle.spec_events.specs.World.{World, connection}
 use Rattle.spec_events.specs.Hooked.{calls_of, and_then, started_all, hooked}
+use Rattle.spec_events.specs.Lines.{spoken}
 use Rattle.spec_events.specs.Starting.{by_hook, begun}
-use Rattle.spec_events.specs.Steps.{rested}
-use Rattle.muck_turns.specs.inner.Hooks.{hooked_told}
+use Rattle.spec_events.specs.Steps.{happened, hooked_by, rested}
+use Rattle.spec_events.proofs.Turning.{turns_exec, turns_slice, turns_closed}
+use Rattle.muck_turns.specs.inner.Hooks.{AreTold, hooked_told}
+use Rattle.muck_turns.proofs.Turns.{on_ok_as}
 
 -- Starts.
 
@@ -58,9 +69,52 @@ came_here p m ms lt = cond-true _ _ _ lt
 
 -- Behind an event.
 
--- The live parts of the two worlds, and what became of connections: `causes` doesn't look at where players stood.
-pub hooked_by_told : (turned : Turned) (text : Option (Dbref × List ℕ)) (w v : World) → Turns turned w.live v.live → causes_from w.live (rested v).live 0 (rested v).live.objects ≡ causes_from w.live v.live 0 v.live.objects →
-    hooked_told turned text v ≡ hooked w (rested v) text
+-- causes don't look at where players stood
+stands_stilled : (es : List Entry) (k : ℕ) → stands_in (stilled es) k ≡ stands_in es k
+unfolding stands_in
+stands_stilled es k = ap (λ (o : Option Object). option_and_then standing o) (object_stilled es k)
+
+one_stilled : (w v : Live) (n : ℕ) → causes_of w (on_objects stilled v) n ≡ causes_of w v n
+one_stilled w v n =
+    ap (λ o. where_true (has_gone w v (dbref_of n)) (Disconnect (dbref_of n)) ++ (moves (dbref_of n) (stands_in w.objects n) o ++ where_true (has_come w v (dbref_of n)) (Connect (dbref_of n)))) (stands_stilled v.objects n)
+
+causes_stilled : (w v : Live) (n : ℕ) (es : List Entry) → causes_from w (on_objects stilled v) n (stilled es) ≡ causes_from w v n es
+unfolding stilled
+causes_stilled w v n [] = refl
+causes_stilled w v n (e ∷ es) =
+    ap (λ l. l ++ causes_from w (on_objects stilled v) (suc n) (stilled es)) (one_stilled w v n) ∙ ap (λ l. causes_of w v n ++ l) (causes_stilled w v (suc n) es)
+
+-- The live parts of the two worlds, and what became of connections.
+hooked_by_told : (turned : Turned) (text : Option (Dbref × List ℕ)) (w v : World) → Turns turned w.live v.live → hooked_told turned text v ≡ hooked w (rested v) text
 unfolding hooked_told hooked causes
-hooked_by_told turned text w v t same =
-    ap (λ cs. started_all (flat_map (calls_of (rested v).live.objects) (cs ++ heard (rested v).live text)) (rested v)) (sym (told_causes turned w.live v.live t) ∙ sym same)
+hooked_by_told turned text w v t =
+    ap (λ cs. started_all (flat_map (calls_of (rested v).live.objects) (cs ++ heard (rested v).live text)) (rested v)) (sym (told_causes turned w.live v.live t) ∙ sym (causes_stilled w.live v.live 0 v.live.objects))
+
+-- behind a line, of which this was said
+pub line_hooked : (d : ℕ) (w u v : World) (before : Option Dbref) (said : Option (Dbref × List ℕ)) (turned : Turned) (r : Result (Unit {0}) NoMemory) → AreTold w.live.objects → IsStill w.live.objects → IsRising w.live.board.connections →
+    before ≡ player_in d w.live.board → u ≡ happened w 0 (Exec d) → said ≡ spoken d (connection d w) w → turned ≡ came_on d before u.live → OnOk r (v ≡ hooked_told turned said u) → OnOk r (v ≡ hooked_by w (Exec d) (happened w 0 (Exec d)))
+line_hooked d w u v before said turned r quiet still rising b e s t done =
+    let after : World = happened w 0 (Exec d) in
+    let now : turned ≡ came_on d (player_in d w.live.board) after.live = t ∙ ap (λ (x : World). came_on d before x.live) e ∙ ap (λ o. came_on d o after.live) b in
+    on_ok_as r (v ≡ hooked_told turned said u) (v ≡ hooked_by w (Exec d) after)
+    (λ h. h ∙ ap (λ (x : World). hooked_told turned said x) e ∙ ap (λ x. hooked_told x said after) now
+        ∙ hooked_by_told (came_on d (player_in d w.live.board) after.live) said w after (turns_exec d w 0 quiet rising still) ∙ ap (λ x. hooked w (rested after) x) s)
+    done
+
+-- behind a slice
+pub slice_hooked : (pid : ℤ) (w u v : World) (r : Result (Unit {0}) NoMemory) → AreTold w.live.objects → IsStill w.live.objects → u ≡ happened w 0 (Slice pid) → OnOk r (v ≡ hooked_told Nobody None u) → OnOk r (v ≡ hooked_by w (Slice pid) (happened w 0 (Slice pid)))
+slice_hooked pid w u v r quiet still e done =
+    let after : World = happened w 0 (Slice pid) in
+    on_ok_as r (v ≡ hooked_told Nobody None u) (v ≡ hooked_by w (Slice pid) after)
+    (λ h. h ∙ ap (λ (x : World). hooked_told Nobody None x) e ∙ hooked_by_told Nobody None w after (turns_slice pid w 0 quiet still))
+    done
+
+-- behind a connection that goes
+pub close_hooked : (d : ℕ) (w u v : World) (before : Option Dbref) (turned : Turned) (r : Result (Unit {0}) NoMemory) → IsStill w.live.objects → before ≡ player_in d w.live.board → u ≡ happened w 0 (Closed d) → turned ≡ went_of before u.live →
+    OnOk r (v ≡ hooked_told turned None u) → OnOk r (v ≡ hooked_by w (Closed d) (happened w 0 (Closed d)))
+close_hooked d w u v before turned r still b e t done =
+    let after : World = happened w 0 (Closed d) in
+    let now : turned ≡ went_of (player_in d w.live.board) after.live = t ∙ ap (λ (x : World). went_of before x.live) e ∙ ap (λ o. went_of o after.live) b in
+    on_ok_as r (v ≡ hooked_told turned None u) (v ≡ hooked_by w (Closed d) after)
+    (λ h. h ∙ ap (λ (x : World). hooked_told turned None x) e ∙ ap (λ x. hooked_told x None after) now ∙ hooked_by_told (went_of (player_in d w.live.board) after.live) None w after (turns_closed d w 0 still))
+    done

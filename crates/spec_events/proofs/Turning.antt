@@ -1,5 +1,5 @@
 -- Whose connections came or went by a line, by a slice and by a connection that goes.
-use Rattle.std.proofs.Common.{◌≡◌, ℕ, ◌<◌, ◌≤◌, ℤ, zero, suc, pos, negsuc, Bool, true, false, cond, not, ◌&&◌, ◌||◌, ◌==◌, ltb, List, [], ◌∷◌, map, length, refl, sym, ◌∙◌, ap, subst, arith, Option, Some, None, inl, inr, ◌⊎◌}
+use Rattle.std.proofs.Common.{◌≡◌, ℕ, ◌<◌, ◌≤◌, ℤ, pos, negsuc, Bool, true, false, cond, not, ◌&&◌, ◌||◌, ◌==◌, ltb, List, [], ◌∷◌, map, length, refl, sym, ◌∙◌, ap, subst, arith, Option, Some, None, inl, inr, ◌⊎◌}
 use Rattle.std.proofs.lemmas.Bool.{ltb-true, lt-ltb, false≢true, cond-true, cond-false}
 use Rattle.std.proofs.lemmas.Bool.Decides.{nat_tests}
 use Rattle.std.proofs.lemmas.List.Elements.{All-head, All-tail}
@@ -35,9 +35,13 @@ use Rattle.spec_hooks.specs.Told.{is_number, is_alone, came_by, came_on, went_of
 use Rattle.muck_queue.specs.Queues.{reader, without as process_without, on_process, told_line}
 use Rattle.spec_events.specs.World.{World, connection, on_live, on_queue}
 use Rattle.spec_events.specs.Lines.{program_aborted, is_abort, given_line, line_for, line_done, done}
-use Rattle.spec_events.specs.Slices.{Taken, after_unit, last_world, awake, units_of}
+use Rattle.spec_events.specs.Slices.{Taken, after_unit, last_world, slice_most, awake, units_of, sliced}
 use Rattle.spec_events.specs.Steps.{happened}
-use Rattle.spec_events.specs.Licences.{LineLicensed, TurnLicensed, UnitLicensed, answering, Chained, SliceLicensed, EventLicensed}
+use Rattle.spec_events.specs.Licences.{LineLicensed, TurnLicensed, UnitLicensed, answering, Chained}
+use Rattle.spec_events.proofs.Endings.{IsTold}
+use Rattle.spec_events.proofs.Judged.{units_licensed}
+use Rattle.spec_events.proofs.Chained.{units_chained}
+use Rattle.spec_events.proofs.Turns.{exec_licensed}
 use Rattle.spec_events.proofs.Login.{greeted, greeted_open}
 use Rattle.spec_events.proofs.Stilling.{stood_happened}
 
@@ -387,10 +391,12 @@ chain_seats pid w (t ∷ ts) us cs =
     chain_seats pid (after_unit t) ts (All-tail (UnitLicensed pid) t ts us) cs.1
     ∙ (seats_ties (answering t) t.before.live.board.connections (after_unit t).live.board.connections u.0.connections ∙ ap (λ (v : World). seats v.live) cs.0.world)
 
-pub turns_slice : (pid : ℤ) (w : World) (party : ℕ) → EventLicensed (Slice pid) w (happened w party (Slice pid)) → IsStill w.live.objects → Turns Nobody w.live (happened w party (Slice pid)).live
-turns_slice pid w party l still =
+pub turns_slice : (pid : ℤ) (w : World) (party : ℕ) → IsTold w.live → IsStill w.live.objects → Turns Nobody w.live (happened w party (Slice pid)).live
+unfolding sliced
+turns_slice pid w party told still =
+    let tune = w.live.board.tune in
     alike_turns w.live (happened w party (Slice pid)).live (stood_happened (Slice pid) w party still)
-    (ap (λ (x : Live). seats x) l.leads ∙ chain_seats pid (awake pid w) (units_of pid w) l.units l.chained)
+    (chain_seats pid (awake pid w) (units_of pid w) (units_licensed tune pid (slice_most tune) (awake pid w) told) (units_chained tune pid (slice_most tune) (awake pid w)))
 
 seats_gone : (d : ℕ) (w : Live) → seats (gone_away d w) ≡ stand d (seats w)
 unfolding gone_away reading followed closed
@@ -487,9 +493,9 @@ unfolding done
 sits_done d None w is l = inl refl
 sits_done d (Some c) w is l = sits_lines d c.player c.editor c.waiting w (λ none. free_found d c w.live.board.connections is none) l
 
-pub turns_exec : (d : ℕ) (w : World) (party : ℕ) → EventLicensed (Exec d) w (happened w party (Exec d)) → IsRising w.live.board.connections → IsStill w.live.objects →
+pub turns_exec : (d : ℕ) (w : World) (party : ℕ) → IsTold w.live → IsRising w.live.board.connections → IsStill w.live.objects →
     Turns (came_on d (player_in d w.live.board) (happened w party (Exec d)).live) w.live (happened w party (Exec d)).live
-turns_exec d w party l rising still = at (sits_done d (connection d w) w refl l)
+turns_exec d w party told rising still = at (sits_done d (connection d w) w refl (exec_licensed d w party told))
   where
     v : Live
     v = (happened w party (Exec d)).live

@@ -6,21 +6,17 @@ use Rattle.muck_model.specs.declared.memory.NoMemory.{NoMemory}
 use Rattle.muck_model.specs.declared.note.Note.{Note}
 use Rattle.muck_model.specs.Told.{with_entry, with_note, with_counts}
 use Rattle.muck_model.specs.declared.note.Count.{Count}
-use Rattle.spec_live.specs.Objects.{Entry as Kept, mark_in}
 use Rattle.spec_live.specs.Stood.{IsStill}
 use Rattle.muck_queue.specs.inner.Numbered.{IsNumbered}
 use Rattle.spec_events.specs.World.{World}
 use Rattle.spec_events.specs.Histories.{History, after, AllLawful}
 use Rattle.spec_events.specs.Logged.{IsPlaced}
 use Rattle.spec_events.specs.inner.Sound.{IsSound}
+use Rattle.muck_turns.specs.inner.Hooks.{AreTold}
 use Rattle.muck_machine.specs.declared.past.Past.{Past}
 
 abbrev pub history : Past → History
 history p = record { start = p.origin; entries = p.tale.entries; notes = p.tale.notes; counted = p.tale.counted }
-
--- of none of these objects anything is to be told to what runs it
-abbrev pub AreTold : List Kept → Type 0
-AreTold es = (n : ℕ) → mark_in es n ≡ None
 
 -- The tale may grow, each entry of it is lawful where it stands, and each note has its place. The world after it is dead or not as is kept, and as
 -- long as it isn't it is sound, and it is the state that is kept. It began with objects of which nothing was to be told and none of which had moved,

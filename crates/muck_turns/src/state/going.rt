@@ -4,7 +4,6 @@ ghost use Rattle.muck_model.specs.declared.event.Event.{Event};
 ghost use Rattle.spec_live.specs.Boards.{player_in};
 ghost use Rattle.spec_events.specs.World.{on_live};
 ghost use Rattle.spec_events.specs.Steps.{happened, hooked_by};
-ghost use Rattle.spec_commands.specs.inner.Rising.{IsRising};
 ghost use Rattle.spec_live.specs.Stood.{IsStill};
 ghost use Rattle.spec_commands.specs.Talk.{parted};
 
@@ -17,8 +16,7 @@ use muck_perm::Guard;
 impl State {
     /// A connection goes, the processes that are tied to it end, and it asks for no dump any more; and what is hooked to that starts.
     pub fn close(&mut self, d: u32) -> Result<(), NoMemory>
-        requires still { IsStill self.old.live.objects }
-        requires rising { IsRising self.old.live.board.connections }
+        requires { IsStill self.old.live.objects }
         ensures { OnOk result (self.new ≡ hooked_by self.old (Event.Closed d) (happened self.old 0 (Event.Closed d))) }
     {
         let player = self.player_of(d);

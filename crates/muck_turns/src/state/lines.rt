@@ -6,7 +6,7 @@ ghost use Rattle.spec_live.specs.Boards.{editor_in};
 ghost use Rattle.spec_commands.specs.Finding.{actor_of};
 ghost use Rattle.spec_commands.specs.inner.Rising.{IsRising};
 ghost use Rattle.spec_live.specs.Stood.{IsStill};
-ghost use Rattle.muck_turns.specs.inner.Hooks.{said_of};
+ghost use Rattle.muck_turns.specs.inner.Hooks.{AreTold, said_of};
 ghost use Rattle.spec_events.specs.Lines.{spoken, line_spoken, spoken_by, command, typed, left_by, followed_up, given_line, in_world, is_abort, line_for, with_editor, editor_on};
 ghost use Rattle.spec_events.specs.Steps.{happened, hooked_by};
 ghost use Rattle.spec_events.specs.World.{on_live, connection};
@@ -24,6 +24,7 @@ use spec_events::Call;
 impl State {
     /// The first waiting line of a connection is done, and what is hooked to that starts. The line goes to the process that reads from the connection, where there is one.
     pub fn do_line(&mut self, d: u32) -> Result<(), NoMemory>
+        requires told { AreTold self.old.live.objects }
         requires still { IsStill self.old.live.objects }
         requires rising { IsRising self.old.live.board.connections }
         ensures { OnOk result (self.new ≡ hooked_by self.old (Event.Exec d) (happened self.old 0 (Event.Exec d))) }

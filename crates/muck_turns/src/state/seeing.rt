@@ -5,7 +5,7 @@ ghost use Rattle.muf_debug.specs.Views.{seen_at};
 ghost use Rattle.muf_debug.specs.Watching.{SeesAll};
 ghost use Rattle.spec_events.specs.Slices.{last_world, run_of};
 ghost use Rattle.spec_events.specs.Steps.{happened, hooked_by};
-ghost use Rattle.spec_commands.specs.inner.Rising.{IsRising};
+ghost use Rattle.muck_turns.specs.inner.Hooks.{AreTold};
 ghost use Rattle.spec_live.specs.Stood.{IsStill};
 ghost use Rattle.spec_views.specs.Views.{views_of};
 ghost use Rattle.muck_turns.specs.inner.Limits.{Stops};
@@ -31,8 +31,8 @@ fn show<W: Watch>(alloc: Global, pid: i32, running: &Running, watch: &mut W) -> 
 impl State {
     /// The same slice as [`State::slice`] makes, of each of whose units the watch is told before it runs, whatever the watch is.
     pub fn slice_seen<W: Watch>(&mut self, pid: i32, watch: &mut W) -> Result<(), NoMemory>
+        requires told { AreTold self.old.live.objects }
         requires still { IsStill self.old.live.objects }
-        requires rising { IsRising self.old.live.board.connections }
         ensures same { OnOk result (self.new ≡ hooked_by self.old (Event.Slice pid) (happened self.old 0 (Event.Slice pid))) }
         ensures seen { OnOk result (SeesAll W.tells (views_of pid self.old) watch.old watch.new) }
     {

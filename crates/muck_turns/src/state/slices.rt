@@ -5,7 +5,7 @@ ghost use Rattle.muf_model.specs.Chains.{StandsAt};
 ghost use Rattle.muf_model.specs.Unit.{fault};
 ghost use Rattle.spec_events.specs.Slices.{acting, after_deed, broken, deed, last_world, out, run_of, seat, went};
 ghost use Rattle.spec_events.specs.Steps.{happened, hooked_by};
-ghost use Rattle.spec_commands.specs.inner.Rising.{IsRising};
+ghost use Rattle.muck_turns.specs.inner.Hooks.{AreTold};
 ghost use Rattle.spec_live.specs.Stood.{IsStill};
 ghost use Rattle.muck_turns.specs.inner.Limits.{LeadsTo, Runs, Stops};
 
@@ -25,8 +25,8 @@ impl State {
     /// run at once the process is looked for, which is a pass over at most 400.
     #[tactic(auto, unfolding(spec_events::specs::Slices::sliced))]
     pub fn slice(&mut self, pid: i32) -> Result<(), NoMemory>
+        requires told { AreTold self.old.live.objects }
         requires still { IsStill self.old.live.objects }
-        requires rising { IsRising self.old.live.board.connections }
         ensures { OnOk result (self.new ≡ hooked_by self.old (Event.Slice pid) (happened self.old 0 (Event.Slice pid))) }
     {
         self.take_slice(pid)?;

@@ -5,7 +5,7 @@ use Rattle.spec_events.specs.World.{World}
 use Rattle.spec_events.specs.inner.Sound.{IsSound}
 use Rattle.spec_events.proofs.Numbers.{rising_booted}
 use Rattle.spec_events.proofs.Reached.{sound-booted}
-use Rattle.muck_machine.specs.inner.Keeping.{AreTold}
+use Rattle.muck_turns.specs.inner.Hooks.{AreTold}
 use Rattle.muck_machine.proofs.Keepings.{told_begun, still_begun, keeps_begun}
 use Rattle.muck_machine.proofs.Taken.{booted_so}
 use Rattle.muck_machine.proofs.world.World.boot.Goals as goal

@@ -6,7 +6,7 @@ use Rattle.spec_events.specs.Histories.{now, EntryLicensed}
 use Rattle.spec_events.proofs.Claims.{slice_lawful, lost_lawful}
 use Rattle.muck_turns.specs.contracts.state.State as state
 use Rattle.muck_machine.specs.inner.Keeping.{history}
-use Rattle.muck_machine.proofs.Keepings.{keeps_entered, keeps_concluded, still_seen, rising_seen}
+use Rattle.muck_machine.proofs.Keepings.{keeps_entered, keeps_concluded, told_seen, still_seen}
 use Rattle.muck_machine.proofs.Taken.{lost_so}
 use Rattle.muck_machine.proofs.Licences.{told_licensed}
 use Rattle.muck_machine.proofs.world.World.slice.Goals as goal
@@ -28,8 +28,8 @@ returns-then-not-has_process-clause-ran c =
 pub slice-done-requires-clause-still : goal.slice-done-requires-clause-still
 slice-done-requires-clause-still c = still_seen c.self.inside.past _ _ c.self.invariant c.self.view_is c.requires.alive
 
-pub slice-done-requires-clause-rising : goal.slice-done-requires-clause-rising
-slice-done-requires-clause-rising c = rising_seen c.self.inside.past _ _ c.self.invariant c.self.view_is c.requires.alive
+pub slice-done-requires-clause-told : goal.slice-done-requires-clause-told
+slice-done-requires-clause-told c = told_seen c.self.inside.past _ _ c.self.invariant c.self.view_is c.requires.alive
 
 pub invariant_of-self-2 : goal.invariant_of-self-2
 invariant_of-self-2 c =

@@ -7,7 +7,7 @@ use Rattle.spec_events.specs.Histories.{now, EntryLicensed}
 use Rattle.spec_events.proofs.Claims.{slice_lawful}
 use Rattle.spec_views.specs.Views.{views_of}
 use Rattle.muck_machine.specs.inner.Keeping.{history}
-use Rattle.muck_machine.proofs.Keepings.{keeps_concluded, still_seen, rising_seen}
+use Rattle.muck_machine.proofs.Keepings.{keeps_concluded, told_seen, still_seen}
 use Rattle.muck_machine.proofs.Licences.{told_licensed}
 use Rattle.muck_machine.proofs.Seeing.{nothing_seen, whatever, seen_now}
 use Rattle.muck_machine.proofs.world.World.slice_seen.Goals as goal
@@ -15,8 +15,8 @@ use Rattle.muck_machine.proofs.world.World.slice_seen.Goals as goal
 pub slice_seen-done-requires-clause-still : goal.slice_seen-done-requires-clause-still
 slice_seen-done-requires-clause-still g c = still_seen c.self.inside.past _ _ c.self.invariant c.self.view_is c.requires.alive
 
-pub slice_seen-done-requires-clause-rising : goal.slice_seen-done-requires-clause-rising
-slice_seen-done-requires-clause-rising g c = rising_seen c.self.inside.past _ _ c.self.invariant c.self.view_is c.requires.alive
+pub slice_seen-done-requires-clause-told : goal.slice_seen-done-requires-clause-told
+slice_seen-done-requires-clause-told g c = told_seen c.self.inside.past _ _ c.self.invariant c.self.view_is c.requires.alive
 
 pub invariant_of-self : goal.invariant_of-self
 invariant_of-self g c =

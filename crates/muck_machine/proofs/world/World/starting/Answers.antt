@@ -2,7 +2,7 @@ use Rattle.std.proofs.Common.{sym, subst}
 use Rattle.spec_live.specs.Boards.{first_tune}
 use Rattle.spec_live.specs.Stood.{IsStill}
 use Rattle.spec_events.proofs.Reached.{first_in_range}
-use Rattle.muck_machine.specs.inner.Keeping.{AreTold}
+use Rattle.muck_turns.specs.inner.Hooks.{AreTold}
 use Rattle.muck_machine.proofs.Keepings.{told_first, still_first}
 use Rattle.muck_machine.proofs.world.World.starting.Goals as goal
 
