@@ -1,8 +1,7 @@
 -- What is hooked to an event is what is told of who moved, and of whose connections came or went.
-use Rattle.std.proofs.Common.{◌≡◌, ℕ, ℤ, ◌+◌, ◌<◌, ◌≤◌, suc, true, false, List, [], ◌∷◌, ◌++◌, length, drop, get_or, Option, None, Result, OnOk, refl, sym, ◌∙◌, ap, append_assoc, int_lt}
-use Rattle.std.proofs.lemmas.List.{drop_more}
+use Rattle.std.proofs.Common.{◌≡◌, ℕ, ℤ, ◌+◌, ◌<◌, ◌≤◌, suc, Bool, true, false, not, cond, List, [], ◌∷◌, ◌++◌, length, drop, get_or, Option, None, Result, Ok, Err, OnOk, IfOk, refl, sym, ◌∙◌, ap, subst, append_assoc, int_lt}
+use Rattle.std.proofs.lemmas.List.{drop_more, drop_all}
 use Rattle.std.proofs.lemmas.Bool.{cond-true, cond-false}
-use Rattle.std.proofs.Math.ListN.{drop_of_length-le}
 use Rattle.std.specs.List.{flat_map}
 use Rattle.std.specs.Option.{option_and_then}
 use Rattle.muck_model.specs.declared.dbref.Dbref.{Dbref}
@@ -23,49 +22,94 @@ use Rattle.spec_hooks.specs.declared.turned.Turned.TheVariants.{Nobody, Came, We
 use Rattle.spec_hooks.specs.Causes.{where_true, moves, has_gone, has_come, causes_of, causes_from, causes, heard}
 use Rattle.spec_hooks.specs.Told.{of_move, of_moves, told, came_on, went_of, Turns}
 use Rattle.spec_hooks.proofs.Telling.{told_causes}
+use Rattle.muf_model.specs.declared.fault.MufFault.{MufFault}
 use Rattle.spec_events.specs.declared.starting.Call.{Call}
+use Rattle.spec_events.specs.declared.starting.Manner.{Manner}
 use Rattle.spec_events.specs.World.{World, connection}
-use Rattle.spec_events.specs.Hooked.{calls_of, and_then, started_all, hooked}
+use Rattle.spec_events.specs.Hooked.{calls_of, is_limit, and_then, started_all, hooked}
 use Rattle.spec_events.specs.Lines.{spoken}
 use Rattle.spec_events.specs.Starting.{by_hook, begun}
 use Rattle.spec_events.specs.Steps.{happened, hooked_by, rested}
 use Rattle.spec_events.proofs.Turning.{turns_exec, turns_slice, turns_closed}
-use Rattle.muck_turns.specs.inner.Hooks.{AreTold, hooked_told}
+use Rattle.muck_turns.specs.declared.state.deeds.DeedFault.{DeedFault}
+use Rattle.muck_turns.specs.declared.state.deeds.DeedFault.TheVariants.{Fault, NoMemory as Wanted}
+use Rattle.muck_turns.specs.inner.Deeds.{Begins}
+use Rattle.muck_turns.specs.inner.Hooks.{AreTold, GoesOn, MoreIs, hooked_told}
 use Rattle.muck_turns.proofs.Turns.{on_ok_as}
 
 -- Starts.
 
--- another one
-pub start_more : (cs : List Call) (i : ℕ) (d : Call) (w v : World) → i < length cs → ((rest : World → World) → and_then (begun (by_hook w) (get_or cs i d) w) rest ≡ rest v) → started_all (drop i cs) w ≡ started_all (drop (i + 1) cs) v
+either_way : (b : Bool) (x y : World) → cond b y x ≡ cond (not b) x y
+either_way true x y = refl
+either_way false x y = refl
+
+goes_on : (r : World × Result ℤ MufFault) (v : World) (begun : Result ℤ DeedFault) (result : Result Bool NoMemory) → Begins r v begun → MoreIs begun result → IfOk result (λ more. GoesOn r v more)
+goes_on (w, Ok n) v (Ok m) result h k = subst (λ x. IfOk x (λ more. GoesOn (w, Ok n) v more)) (sym k) (λ rest. ap rest (sym h.1))
+goes_on (w, Ok n) v (Err (Fault g)) result h k = absurd h
+goes_on (w, Err f) v (Ok m) result h k = absurd h
+goes_on (w, Err f) v (Err (Fault g)) result h k =
+    subst (λ x. IfOk x (λ more. GoesOn (w, Err f) v more)) (sym k)
+    (λ rest. ap (λ (x : World). cond (is_limit f) x (rest x)) (sym h.1) ∙ either_way (is_limit f) (rest v) v ∙ ap (λ x. cond (not (is_limit x)) (rest v) v) (sym h.0))
+goes_on r v (Err Wanted) (Ok more) h k = absurd k
+goes_on r v (Err Wanted) (Err e) h k = tt
+
+-- one is started
+pub one_started : (m n : Manner) (k c : Call) (w v : World) (answer : Result ℤ DeedFault) (result : Result Bool NoMemory) → m ≡ n → k ≡ c → Begins (begun m k w) v answer → MoreIs answer result → IfOk result (λ more. GoesOn (begun n c w) v more)
+one_started m n k c w v answer result e f h more =
+    goes_on (begun n c w) v answer result (subst (λ (x : Call). Begins (begun n x w) v answer) f (subst (λ (x : Manner). Begins (begun x k w) v answer) e h)) more
+
+-- those that are left, where it is the first of them
+left_here : (cs : List Call) (i : ℕ) (c : Call) → i < length cs → c ≡ get_or cs i c → drop i cs ≡ c ∷ drop (i + 1) cs
+left_here cs i c lt is = drop_more cs i c lt ∙ ap (λ (x : Call). x ∷ drop (i + 1) cs) (sym is)
+
+-- and others may be behind it
+pub start_next : (cs : List Call) (i : ℕ) (c : Call) (w v : World) (more : Bool) → i < length cs → c ≡ get_or cs i c → GoesOn (begun (by_hook w) c w) v more → more ≡ true → started_all (drop i cs) w ≡ started_all (drop (i + 1) cs) v
 unfolding started_all
-start_more cs i d w v lt goes = ap (λ l. started_all l w) (drop_more cs i d lt) ∙ goes (started_all (drop (i + 1) cs))
+start_next cs i c w v more lt is goes yes =
+    ap (λ l. started_all l w) (left_here cs i c lt is) ∙ goes (started_all (drop (i + 1) cs)) ∙ ap (λ b. cond b (started_all (drop (i + 1) cs) v) v) yes
 
 -- a limit refuses it
-pub start_last : (cs : List Call) (i : ℕ) (d : Call) (w v : World) → i < length cs → ((rest : World → World) → and_then (begun (by_hook w) (get_or cs i d) w) rest ≡ v) → started_all (drop i cs) w ≡ v
+pub start_stop : (cs : List Call) (i : ℕ) (c : Call) (w v : World) (more : Bool) → i < length cs → c ≡ get_or cs i c → GoesOn (begun (by_hook w) c w) v more → more ≡ false → started_all (drop i cs) w ≡ v
 unfolding started_all
-start_last cs i d w v lt stops = ap (λ l. started_all l w) (drop_more cs i d lt) ∙ stops (started_all (drop (i + 1) cs))
+start_stop cs i c w v more lt is goes no =
+    ap (λ l. started_all l w) (left_here cs i c lt is) ∙ goes (started_all (drop (i + 1) cs)) ∙ ap (λ b. cond b (started_all (drop (i + 1) cs) v) v) no
 
 pub start_end : (cs : List Call) (i : ℕ) (w : World) → length cs ≤ i → started_all (drop i cs) w ≡ w
 unfolding started_all
-start_end cs i w le = ap (λ l. started_all l w) (drop_of_length-le cs le)
+start_end cs i w le = ap (λ l. started_all l w) (drop_all i cs le)
 
 -- Whom causes tell of.
+
+pub nobody_more : (m : Move) (ms : List Move) (cs : List Cause) → (cs ++ of_move m) ++ told Nobody ms ≡ cs ++ told Nobody (m ∷ ms)
+unfolding told
+nobody_more m ms cs = append_assoc cs (of_move m) (of_moves ms)
 
 pub went_more : (p : Dbref) (m : Move) (ms : List Move) (cs : List Cause) → int_lt m.player.0 p.0 ≡ true → (cs ++ of_move m) ++ told (Went p) ms ≡ cs ++ told (Went p) (m ∷ ms)
 unfolding told
 went_more p m ms cs lt = append_assoc cs (of_move m) (told (Went p) ms) ∙ ap (λ l. cs ++ l) (sym (cond-true _ _ _ lt))
 
-pub went_here : (p : Dbref) (m : Move) (ms : List Move) → int_lt m.player.0 p.0 ≡ false → told (Went p) (m ∷ ms) ≡ Disconnect p ∷ of_moves (m ∷ ms)
+pub went_here : (p : Dbref) (m : Move) (ms : List Move) (cs : List Cause) → int_lt m.player.0 p.0 ≡ false → ((cs ++ Disconnect p ∷ []) ++ of_move m) ++ told Nobody ms ≡ cs ++ told (Went p) (m ∷ ms)
 unfolding told
-went_here p m ms no = cond-false _ _ _ no
+went_here p m ms cs no =
+    append_assoc (cs ++ Disconnect p ∷ []) (of_move m) (of_moves ms) ∙ append_assoc cs (Disconnect p ∷ []) (of_moves (m ∷ ms)) ∙ ap (λ l. cs ++ l) (sym (cond-false _ _ _ no))
 
 pub came_more : (p : Dbref) (m : Move) (ms : List Move) (cs : List Cause) → int_lt p.0 m.player.0 ≡ false → (cs ++ of_move m) ++ told (Came p) ms ≡ cs ++ told (Came p) (m ∷ ms)
 unfolding told
 came_more p m ms cs no = append_assoc cs (of_move m) (told (Came p) ms) ∙ ap (λ l. cs ++ l) (sym (cond-false _ _ _ no))
 
-pub came_here : (p : Dbref) (m : Move) (ms : List Move) → int_lt p.0 m.player.0 ≡ true → told (Came p) (m ∷ ms) ≡ Connect p ∷ of_moves (m ∷ ms)
+pub came_here : (p : Dbref) (m : Move) (ms : List Move) (cs : List Cause) → int_lt p.0 m.player.0 ≡ true → ((cs ++ Connect p ∷ []) ++ of_move m) ++ told Nobody ms ≡ cs ++ told (Came p) (m ∷ ms)
 unfolding told
-came_here p m ms lt = cond-true _ _ _ lt
+came_here p m ms cs lt =
+    append_assoc (cs ++ Connect p ∷ []) (of_move m) (of_moves ms) ∙ append_assoc cs (Connect p ∷ []) (of_moves (m ∷ ms)) ∙ ap (λ l. cs ++ l) (sym (cond-true _ _ _ lt))
+
+-- one after the other
+pub told_next : (t r u : Turned) (moves : List Move) (i : ℕ) (d : Move) (cs ds start : List Cause) → i < length moves → ((ms : List Move) → ds ++ told u ms ≡ cs ++ told r (get_or moves i d ∷ ms)) → cs ++ told r (drop i moves) ≡ start ++ told t moves →
+    ds ++ told u (drop (i + 1) moves) ≡ start ++ told t moves
+told_next t r u moves i d cs ds start lt step inv = step (drop (i + 1) moves) ∙ ap (λ l. cs ++ told r l) (sym (drop_more moves i d lt)) ∙ inv
+
+-- until none is left
+pub told_end : (t r : Turned) (moves : List Move) (i : ℕ) (cs start : List Cause) → length moves ≤ i → cs ++ told r (drop i moves) ≡ start ++ told t moves → cs ++ told r [] ≡ start ++ told t moves
+told_end t r moves i cs start le inv = ap (λ l. cs ++ told r l) (sym (drop_all i moves le)) ∙ inv
 
 -- Behind an event.
 

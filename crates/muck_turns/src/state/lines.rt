@@ -57,11 +57,16 @@ impl State {
         ensures said { IfOk result (λ said. said_of said ≡ line_spoken (reader d self.old.queue) player (editor_in d self.old.live.board) d line self.old) }
     {
         match (self.queue.reader(d), player) {
-            (Some(pid), _) => self.give_line(d, pid, line)?,
-            (None, None) => self.at_login(d, line.as_slice())?,
-            (None, Some(player)) => return self.obey(d, player, &line),
+            (Some(pid), _) => {
+                self.give_line(d, pid, line)?;
+                Ok(None)
+            }
+            (None, None) => {
+                self.at_login(d, line.as_slice())?;
+                Ok(None)
+            }
+            (None, Some(player)) => self.obey(d, player, &line),
         }
-        Ok(None)
     }
 
     // A process that reads takes a line, or ends by it.

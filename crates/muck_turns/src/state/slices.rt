@@ -23,7 +23,6 @@ impl State {
     /// A slice of a process, which wakes, and then nobody claims it any more. It takes its units until it is over or waits, or the
     /// slice is through, outside preempt, or one would be too many. Each unit costs what it touches. Before and after those that
     /// run at once the process is looked for, which is a pass over at most 400.
-    #[tactic(auto, unfolding(spec_events::specs::Slices::sliced))]
     pub fn slice(&mut self, pid: i32) -> Result<(), NoMemory>
         requires told { AreTold self.old.live.objects }
         requires still { IsStill self.old.live.objects }
