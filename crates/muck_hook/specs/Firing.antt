@@ -1,23 +1,14 @@
 -- What is looked at in the directory of an object, and the objects upward from one.
-use Rattle.std.specs.Prelude.{ℕ, ◌==◌, if◌then◌else◌, List, [], ◌∷◌, length, codes, not, Option, Some, None}
-use Rattle.std.specs.List.{cons_option, filter, flat_map}
+use Rattle.std.specs.Prelude.{◌==◌, if◌then◌else◌, List, [], ◌∷◌, length, Option, Some, None}
+use Rattle.std.specs.List.{cons_option}
 use Rattle.muck_model.specs.declared.dbref.Dbref.{Dbref}
 use Rattle.muck_prop.specs.declared.props.Listed.{Listed}
 use Rattle.spec_live.specs.Objects.{Entry}
 use Rattle.spec_live.specs.Seen.{places_of}
 use Rattle.spec_rights.specs.Levels.{is_player_at}
 use Rattle.spec_hooks.specs.declared.cause.Cause.{Cause}
-use Rattle.spec_hooks.specs.declared.cause.Cause.TheVariants.{Arrive, Depart, Connect, Disconnect, Listen}
 use Rattle.spec_hooks.specs.declared.cause.Fire.{Fire}
 use Rattle.spec_hooks.specs.Firing.{fired, fired_by}
-
--- the directory of a cause, as it is written
-abbrev pub directory_text : Cause → List ℕ
-directory_text (Arrive player place) = codes "_arrive"
-directory_text (Depart player place) = codes "_depart"
-directory_text (Connect player) = codes "_connect"
-directory_text (Disconnect player) = codes "_disconnect"
-directory_text (Listen player place text) = codes "_listen"
 
 -- by what stands below a directory, where it stands directly in it
 abbrev pub fired_listed : List Entry → Cause → Dbref → Listed → List Fire

@@ -1,13 +1,10 @@
 // What a cause fires by one object, and by all that it meets.
-ghost use Rattle.std.specs.Prelude.{◌≡◌, ◌++◌, [], ◌==◌, length, Some, None, IfOk, OnOk};
-ghost use Rattle.std.specs.Option.{option_map_or};
-ghost use Rattle.std.specs.List.{filter_map, flat_map};
-ghost use Rattle.muck_prop.specs.Paths.{segments_of};
+ghost use Rattle.std.specs.Prelude.{◌≡◌, ◌++◌, IfOk, OnOk};
+ghost use Rattle.std.specs.List.{flat_map};
 ghost use Rattle.muck_prop.specs.Store.{listed_below};
-ghost use Rattle.muck_prop.specs.declared.value.PropValue.{PropValue};
 ghost use Rattle.spec_rights.specs.Verdict.{is_program_at};
-ghost use Rattle.spec_hooks.specs.Firing.{directory, named_program, may_fire, fire_by, fired, fired_by, argument, firing};
-ghost use Rattle.muck_hook.specs.Firing.{directory_text, fired_listed};
+ghost use Rattle.spec_hooks.specs.Firing.{directory, named_program, may_fire, fired, fired_by, argument, firing};
+ghost use Rattle.muck_hook.specs.Firing.{fired_listed};
 
 use crate::carriers::{around, upward};
 use muck_db::Db;
@@ -18,23 +15,17 @@ use spec_hooks::{Cause, Fire};
 use spec_live::{LINK, Object};
 use std::alloc::Global;
 
-// The directory of a cause, as it is written.
-fn directory_text(cause: &Cause) -> &'static [u8]
-    ensures { result.now ≡ directory_text cause.now }
-{
-    match cause {
-        Cause::Arrive { .. } => b"_arrive",
-        Cause::Depart { .. } => b"_depart",
-        Cause::Connect { .. } => b"_connect",
-        Cause::Disconnect { .. } => b"_disconnect",
-        Cause::Listen { .. } => b"_listen",
-    }
-}
-
+// The directory of a cause.
 fn directory(alloc: Global, cause: &Cause) -> Result<Path, NoMemory>
     ensures { IfOk result (λ path. path ≡ directory cause.now) }
 {
-    Path::of_text(alloc, directory_text(cause))
+    match cause {
+        Cause::Arrive { .. } => Path::of_text(alloc, b"_arrive"),
+        Cause::Depart { .. } => Path::of_text(alloc, b"_depart"),
+        Cause::Connect { .. } => Path::of_text(alloc, b"_connect"),
+        Cause::Disconnect { .. } => Path::of_text(alloc, b"_disconnect"),
+        Cause::Listen { .. } => Path::of_text(alloc, b"_listen"),
+    }
 }
 
 // What the program finds on its stack.
@@ -116,10 +107,13 @@ fn push_fired(
     if listed.rest.len() != 1 {
         return Ok(());
     }
-    if let Some(fire) = fired(alloc, db, cause, carrier, &listed.value)? {
-        fires.push(fire)?;
+    match fired(alloc, db, cause, carrier, &listed.value)? {
+        Some(fire) => {
+            fires.push(fire)?;
+            Ok(())
+        }
+        None => Ok(()),
     }
-    Ok(())
 }
 
 // By the hooks of an object that is there.
