@@ -87,7 +87,7 @@ pub fn around(
 ) -> Result<(), NoMemory>
     ensures { OnOk result (fires.new.items ≡ fires.old.items ++ flat_map (fired_by db.now cause.now) (place ∷ filter (λ d. not (is_player_at db.now d)) (listed_in false place db.now))) }
 {
-    let things = db.contents(place).collect(alloc)?;
+    let things: Vec<Dbref> = db.contents(place).collect(alloc)?;
     push_fires(alloc, db, cause, place, fires)?;
     push_others(alloc, db, cause, &things, fires)
 }
