@@ -228,12 +228,15 @@ never true b e = and_false b
 never false false e = refl
 never false true e = absurd (false≢true e)
 
+abbrev at_number : ℤ → Dbref
+at_number z = record { 0 = z }
+
 below_number : (p : Dbref) (n : ℕ) → option_map_or (λ k. ltb k n) (index_of p) false ≡ true → (k : ℕ) × (p ≡ dbref_of k) × (k < n)
 below_number p n h = at p.0 refl h
   where
     at : (i : ℤ) → p.0 ≡ i → option_map_or (λ k. ltb k n) (index_of p) false ≡ true → (k : ℕ) × (p ≡ dbref_of k) × (k < n)
-    at (pos k) e t = (k, ap (λ (z : ℤ). record { 0 = z }) e, ltb-true k n (sym (ap (λ (z : ℤ). option_map_or (λ j. ltb j n) (index_of (record { 0 = z })) false) e) ∙ t))
-    at (negsuc k) e t = absurd (false≢true (sym (ap (λ (z : ℤ). option_map_or (λ j. ltb j n) (index_of (record { 0 = z })) false) e) ∙ t))
+    at (pos k) e t = (k, ap at_number e, ltb-true k n (sym (ap (λ (z : ℤ). option_map_or (λ j. ltb j n) (index_of (at_number z)) false) e) ∙ t))
+    at (negsuc k) e t = absurd (false≢true (sym (ap (λ (z : ℤ). option_map_or (λ j. ltb j n) (index_of (at_number z)) false) e) ∙ t))
 
 module _ (w v : Live) (stood : (n : ℕ) → stood_in v.objects n ≡ stands_in w.objects n) where
   -- nothing turned
