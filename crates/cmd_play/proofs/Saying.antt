@@ -1,5 +1,5 @@
 -- A line that was said or posed.
-use Rattle.std.proofs.Common.{◌≡◌, Bool, List, ℕ, refl, sym, subst, Result, Ok, Err}
+use Rattle.std.proofs.Common.{◌≡◌, Bool, List, ℕ, sym, subst, Result, Ok, Err}
 use Rattle.muck_model.specs.declared.memory.NoMemory.{NoMemory}
 use Rattle.spec_live.specs.Lives.{Change}
 use Rattle.spec_commands.specs.declared.outcome.Outcome.{Outcome}

@@ -1,7 +1,7 @@
 -- Who stands elsewhere than when the event began.
 use Rattle.std.proofs.Common.{◌≡◌, ◌⊎◌, ℕ, ◌+◌, ◌<◌, ◌≤◌, zero, suc, List, [], ◌∷◌, ◌++◌, Option, Some, None, inl, inr, refl, sym, ◌∙◌, ap, subst, length, drop, map, arith, Bool, true, false, not, cond}
 use Rattle.std.proofs.lemmas.Bool.{cases_eq, cases_lt, false≢true}
-use Rattle.std.proofs.lemmas.List.{drop_more, append-nil}
+use Rattle.std.proofs.lemmas.List.{append-nil}
 use Rattle.std.proofs.lemmas.Option.{slice_get-map, slice_get_past, same_Some}
 use Rattle.std.proofs.Common.{append_assoc}
 use Rattle.std.specs.List.{slice_get, slice_set}
@@ -19,12 +19,12 @@ use Rattle.muck_db.specs.declared.ties.Tied.{Tied}
 use Rattle.muck_db.specs.inner.Limits.{IsWithinLimits}
 use Rattle.muck_db.specs.inner.Slots.{shown, first_of, entry_of, entries_of, IsKept}
 use Rattle.muck_db.specs.inner.Moves.{is_where, has_moved, rested, none_moved, NoneMoved, AreWithin, AreBefore, AreNoted}
-use Rattle.muck_db.specs.inner.Ties.{HasTies, IsHeld}
+use Rattle.muck_db.specs.inner.Ties.{IsHeld}
 use Rattle.muck_db.proofs.Blocked.{get_elsewhere, get_before}
 use Rattle.muck_db.proofs.LimitLaws.{limits_stilled}
 use Rattle.muck_db.proofs.Readers.{kind_in-entries_of, mark_in-entries_of}
 use Rattle.muck_db.proofs.Tying.{ties_rested}
-use Rattle.muck_db.proofs.Writes.{entries_mapped, ends_mapped, Passed, passed_none, passed_more, passed_all}
+use Rattle.muck_db.proofs.Writes.{entries_mapped, ends_mapped, Passed, passed_none, passed_all}
 
 -- What was written last is looked at.
 

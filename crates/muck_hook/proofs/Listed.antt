@@ -5,7 +5,6 @@ use Rattle.std.specs.List.{filter, filter_map, flat_map, cons_option}
 use Rattle.std.specs.FinMap.{entries}
 use Rattle.muck_model.specs.declared.dbref.Dbref.{Dbref}
 use Rattle.muck_prop.specs.declared.value.PropValue.{PropValue}
-use Rattle.muck_prop.specs.declared.props.Listed.{Listed}
 use Rattle.muck_prop.specs.Order.{is_below}
 use Rattle.muck_prop.specs.Store.{PropMap, behind, listed_below}
 use Rattle.spec_live.specs.Objects.{Entry}

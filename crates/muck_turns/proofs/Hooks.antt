@@ -26,7 +26,7 @@ use Rattle.muf_model.specs.declared.fault.MufFault.{MufFault}
 use Rattle.spec_events.specs.declared.starting.Call.{Call}
 use Rattle.spec_events.specs.declared.starting.Manner.{Manner}
 use Rattle.spec_events.specs.World.{World, connection}
-use Rattle.spec_events.specs.Hooked.{calls_of, is_limit, and_then, started_all, hooked}
+use Rattle.spec_events.specs.Hooked.{calls_of, is_limit, started_all, hooked}
 use Rattle.spec_events.specs.Lines.{spoken}
 use Rattle.spec_events.specs.Starting.{by_hook, begun}
 use Rattle.spec_events.specs.Steps.{happened, hooked_by, rested}

@@ -1,6 +1,6 @@
 -- What an entry leaves is what its event left, in which another event begins where hooks follow it, and the programs that hooks start behind it, as by_hook says. What stays so where another event
 -- begins and where such a program is started is so of the effect (`effect-keeps`), and all laws below rest on that alone.
-use Rattle.std.proofs.Common.{◌≡◌, ◌≢◌, Bool, true, false, refl, sym, ◌∙◌, ap, subst, Option, Some, None, List, [], ℕ}
+use Rattle.std.proofs.Common.{◌≡◌, ◌≢◌, Bool, true, false, refl, sym, ◌∙◌, ap, subst, Option, List, [], ℕ}
 use Rattle.std.specs.Prelude.{is_some}
 use Rattle.std.specs.List.{flat_map}
 use Rattle.muck_model.specs.declared.dbref.Dbref.{Dbref}
@@ -8,7 +8,6 @@ use Rattle.muck_model.specs.declared.event.Entry.{Entry}
 use Rattle.muck_model.specs.declared.event.Event.{Event}
 use Rattle.muck_model.specs.declared.event.Event.TheVariants.{Exec, Slice, Closed}
 use Rattle.spec_live.specs.Objects.{Entry as Object, object_at}
-use Rattle.spec_live.specs.Boards.{Board}
 use Rattle.spec_live.specs.Lives.{Live}
 use Rattle.muck_library.specs.Library.{Library}
 use Rattle.muck_queue.specs.declared.process.Process.{Process}
@@ -20,7 +19,7 @@ use Rattle.spec_events.specs.Starting.{by_hook, new_process, begun}
 use Rattle.spec_events.specs.Hooked.{calls_of, hooked}
 use Rattle.spec_events.specs.OnlyStarts.{OnlyStarts}
 use Rattle.spec_events.specs.Steps.{happened, rested, resting, hooked_by, effect}
-use Rattle.spec_events.proofs.Begun.{begun_keeps, live_begun}
+use Rattle.spec_events.proofs.Begun.{begun_keeps}
 use Rattle.spec_events.proofs.Hooking.{IsCall, calls_there, all_keep, each_flat, only_starts, none_starts}
 
 -- hooks follow it

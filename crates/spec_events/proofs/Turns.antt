@@ -1,5 +1,5 @@
 -- Each step changes only what is open.
-use Rattle.std.proofs.Common.{◌≡◌, ℕ, true, false, zero, suc, List, [], ◌∷◌, refl, sym, ◌∙◌, subst, None}
+use Rattle.std.proofs.Common.{◌≡◌, ℕ, true, false, zero, suc, List, [], ◌∷◌, refl, ◌∙◌, None}
 use Rattle.muck_model.specs.declared.event.Entry.{Entry}
 use Rattle.muck_model.specs.declared.event.Event.{Event}
 use Rattle.muck_model.specs.declared.tune.Tune.{Tune}

@@ -1,5 +1,5 @@
 -- That hooks start programs, and do nothing else.
-use Rattle.std.specs.Prelude.{◌≡◌, ◌⊎◌, ℤ, ◌<ℤ◌, ◌≤ℤ◌, true, List, ◌++◌, is_some, Option, Some, None, Ok}
+use Rattle.std.specs.Prelude.{◌≡◌, ◌⊎◌, ◌<ℤ◌, ◌≤ℤ◌, true, List, ◌++◌, is_some, Some, None, Ok}
 use Rattle.muck_model.specs.declared.dbref.Dbref.{Dbref}
 use Rattle.spec_live.specs.Objects.{object_at}
 use Rattle.muf_model.specs.Tree.{Tree}

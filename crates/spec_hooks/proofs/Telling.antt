@@ -1,12 +1,11 @@
 -- What is told by who moved and by whose connections came or went is what the worlds say.
-use Rattle.std.proofs.Common.{◌≡◌, ℕ, ◌+◌, ◌<◌, ◌≤◌, zero, suc, pos, Bool, true, false, cond, ltb, int_lt, List, [], ◌∷◌, ◌++◌, length, Option, Some, None, inl, inr, refl, sym, ◌∙◌, ap, subst, arith, append_assoc, append-nil}
+use Rattle.std.proofs.Common.{◌≡◌, ℕ, ◌+◌, ◌<◌, ◌≤◌, suc, pos, Bool, true, false, cond, int_lt, List, [], ◌∷◌, ◌++◌, length, Option, Some, None, inl, inr, refl, sym, ◌∙◌, ap, subst, arith, append_assoc, append-nil}
 use Rattle.std.proofs.lemmas.Bool.{cases_eq, cases_lt, lt-ltb, le-ltb}
 use Rattle.std.proofs.lemmas.Option.{slice_get_past}
-use Rattle.std.specs.List.{slice_get, flat_map}
+use Rattle.std.specs.List.{slice_get}
 use Rattle.std.specs.Option.{option_map, option_and_then}
 use Rattle.muck_model.specs.declared.dbref.Dbref.{Dbref}
 use Rattle.muck_model.proofs.Dbrefs.{same_eq, eq_same}
-use Rattle.spec_live.specs.declared.object.Object.{Object}
 use Rattle.spec_live.specs.declared.moved.Move.{Move}
 use Rattle.spec_live.specs.Objects.{Entry, dbref_of, same, object_in}
 use Rattle.spec_live.specs.Stood.{standing, stood_in, stands_in, move_of, moves_from}
@@ -15,8 +14,8 @@ use Rattle.spec_hooks.specs.declared.cause.Cause.{Cause}
 use Rattle.spec_hooks.specs.declared.cause.Cause.TheVariants.{Arrive, Depart, Connect, Disconnect}
 use Rattle.spec_hooks.specs.declared.turned.Turned.{Turned}
 use Rattle.spec_hooks.specs.declared.turned.Turned.TheVariants.{Nobody, Came, Went}
-use Rattle.spec_hooks.specs.Causes.{where_true, moves, has_gone, has_come, causes_of, causes_from}
-use Rattle.spec_hooks.specs.Told.{of_move, of_moves, told, is_gone, is_come, IsBelow, Turns}
+use Rattle.spec_hooks.specs.Causes.{where_true, moves, has_come, causes_of, causes_from}
+use Rattle.spec_hooks.specs.Told.{of_move, of_moves, told, is_gone, is_come, Turns}
 
 -- Lists of moves.
 

@@ -1,5 +1,5 @@
 -- The causes of an event, told by who stands elsewhere than before, and by the one player whose connections came or went.
-use Rattle.std.specs.Prelude.{◌≡◌, ℕ, ◌<◌, Bool, true, false, not, ◌&&◌, int_lt, nat_lt, if◌then◌else◌, List, [], ◌∷◌, ◌++◌, length, Option, Some, None}
+use Rattle.std.specs.Prelude.{◌≡◌, ℕ, ◌<◌, Bool, false, not, ◌&&◌, int_lt, nat_lt, if◌then◌else◌, List, [], ◌∷◌, ◌++◌, length, Option, Some, None}
 use Rattle.std.specs.List.{flat_map, list_any}
 use Rattle.std.specs.Option.{option_map_or}
 use Rattle.muck_model.specs.declared.dbref.Dbref.{Dbref}
@@ -7,7 +7,7 @@ use Rattle.spec_live.specs.declared.moved.Move.{Move}
 use Rattle.spec_live.specs.Objects.{dbref_of, same, index_of}
 use Rattle.spec_live.specs.Connections.{has_number, is_of}
 use Rattle.spec_live.specs.Boards.{player_in}
-use Rattle.spec_live.specs.Stood.{stood_in, stands_in, moves_from}
+use Rattle.spec_live.specs.Stood.{stood_in, stands_in}
 use Rattle.spec_live.specs.Lives.{Live}
 use Rattle.spec_commands.specs.Talking.{is_connected}
 use Rattle.spec_hooks.specs.declared.cause.Cause.{Cause}

@@ -20,15 +20,12 @@ use Rattle.spec_events.specs.World.{World, booted, connection, askers_of, on_liv
 use Rattle.spec_events.specs.Dumping.{resaved, dump_stored, dump_failed, told_each}
 use Rattle.spec_events.specs.Histories.{AllLawful}
 use Rattle.spec_events.specs.Lines.{line_done, done}
-use Rattle.spec_events.specs.Slices.{units_of}
 use Rattle.spec_events.specs.Steps.{is_allowed, is_died, is_lawful, effect, happened}
 use Rattle.spec_events.specs.Endings.{Lapsed}
 use Rattle.spec_events.proofs.Endings.{IsTold}
-use Rattle.spec_events.proofs.Happening.{effect-live}
 use Rattle.spec_events.proofs.Passwords.{rising_effect}
 use Rattle.spec_events.proofs.Turns.{told_effect}
-use Rattle.spec_origins.specs.Origins.{LostIn}
-use Rattle.spec_origins.specs.Seats.{editor_at, SameEditor, EditorKept, Seated, AllSeated}
+use Rattle.spec_origins.specs.Seats.{editor_at, SameEditor, Seated, AllSeated}
 use Rattle.spec_origins.proofs.Seats.{Sits, sits_order, sits_one, sits_tell, sits_parted}
 use Rattle.spec_origins.proofs.Seating.{found, lines_in, editor_in, lines_sit, editor_sits, found_changed}
 use Rattle.spec_origins.proofs.Seated.{LineStays, slice_seats, line_stays}

@@ -1,4 +1,4 @@
-use Rattle.std.proofs.Common.{ap, arith, ◌∙◌, sym}
+use Rattle.std.proofs.Common.{ap, arith, ◌∙◌}
 use Rattle.muck_db.specs.inner.Table.{Table}
 use Rattle.muck_db.specs.inner.Moves.{rested}
 use Rattle.muck_db.proofs.Writes.{passed_more}

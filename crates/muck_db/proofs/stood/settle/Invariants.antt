@@ -1,4 +1,4 @@
-use Rattle.std.proofs.Common.{◌≡◌, ◌-◌, ◌≤◌, length}
+use Rattle.std.proofs.Common.{◌≡◌, ◌-◌, ◌≤◌}
 use Rattle.muck_db.specs.inner.Moves.{rested}
 use Rattle.muck_db.proofs.Writes.{Passed}
 use Rattle.muck_db.proofs.stood.settle.Given as goal

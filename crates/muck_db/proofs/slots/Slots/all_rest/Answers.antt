@@ -1,4 +1,4 @@
-use Rattle.std.proofs.Common.{sym, subst, List}
+use Rattle.std.proofs.Common.{sym, subst}
 use Rattle.muck_db.specs.inner.Table.{Table}
 use Rattle.muck_db.specs.inner.Moves.{AreNoted, NoneMoved}
 use Rattle.muck_db.specs.declared.stood.Moves.{Moves}

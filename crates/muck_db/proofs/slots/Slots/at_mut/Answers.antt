@@ -1,7 +1,6 @@
-use Rattle.std.proofs.Common.{refl, sym, ap, ◌∙◌, subst, List, length, ◌<◌, Some}
+use Rattle.std.proofs.Common.{refl, sym, ◌∙◌, subst, List, length, ◌<◌}
 use Rattle.std.specs.List.{slice_set}
 use Rattle.muck_db.specs.inner.Blocks.{IsCovered, full}
-use Rattle.muck_db.specs.inner.Moves.{AreNoted, AreWithin}
 use Rattle.std.proofs.lemmas.Option.{slice_get_read}
 use Rattle.muck_db.specs.inner.Table.{Table}
 use Rattle.muck_db.proofs.Blocked.{written}
