@@ -3,7 +3,7 @@ ghost use Rattle.std.specs.Prelude.{◌≡◌, ◌++◌, ◌∷◌, [], false, n
 ghost use Rattle.std.specs.List.{filter, flat_map};
 ghost use Rattle.spec_live.specs.Seen.{listed_in, places_of};
 ghost use Rattle.spec_rights.specs.Levels.{is_player_at};
-ghost use Rattle.spec_hooks.specs.Firing.{fired_by};
+ghost use Rattle.spec_hooks.specs.Firing.{directory, fired_by};
 ghost use Rattle.muck_hook.specs.Firing.{fired_unplayed};
 
 use crate::fires::push_fires;
@@ -11,6 +11,7 @@ use muck_db::Db;
 use muck_match::Scene;
 use muck_model::{Dbref, NoMemory};
 use muck_perm::is_player_at;
+use muck_prop::Path;
 use spec_hooks::{Cause, Fire};
 use std::alloc::Global;
 
@@ -32,14 +33,16 @@ pub fn upward(
     alloc: Global,
     db: &Db,
     cause: &Cause,
+    dir: &Path,
     object: Dbref,
     fires: &mut Vec<Fire>,
 ) -> Result<(), NoMemory>
+    requires { dir.now ≡ directory cause.now }
     ensures { OnOk result (fires.new.items ≡ fires.old.items ++ flat_map (fired_by db.now cause.now) (object ∷ places_of db.now object)) }
 {
     let mut next = Some(object);
     while let Some(at) = next {
-        push_fires(alloc, db, cause, at, fires)?;
+        push_fires(alloc, db, cause, dir, at, fires)?;
         next = place_above(db, at);
     }
     Ok(())
@@ -50,28 +53,32 @@ fn push_other(
     alloc: Global,
     db: &Db,
     cause: &Cause,
+    dir: &Path,
     object: Dbref,
     fires: &mut Vec<Fire>,
 ) -> Result<(), NoMemory>
+    requires { dir.now ≡ directory cause.now }
     ensures { OnOk result (fires.new.items ≡ fires.old.items ++ fired_unplayed db.now cause.now object) }
 {
     if is_player_at(db, object) {
         return Ok(());
     }
-    push_fires(alloc, db, cause, object, fires)
+    push_fires(alloc, db, cause, dir, object, fires)
 }
 
 fn push_others(
     alloc: Global,
     db: &Db,
     cause: &Cause,
+    dir: &Path,
     things: &[Dbref],
     fires: &mut Vec<Fire>,
 ) -> Result<(), NoMemory>
+    requires { dir.now ≡ directory cause.now }
     ensures { OnOk result (fires.new.items ≡ fires.old.items ++ flat_map (fired_unplayed db.now cause.now) things.now) }
 {
     for object in things {
-        push_other(alloc, db, cause, *object, fires)?;
+        push_other(alloc, db, cause, dir, *object, fires)?;
     }
     Ok(())
 }
@@ -82,12 +89,14 @@ pub fn around(
     alloc: Global,
     db: &Db,
     cause: &Cause,
+    dir: &Path,
     place: Dbref,
     fires: &mut Vec<Fire>,
 ) -> Result<(), NoMemory>
+    requires { dir.now ≡ directory cause.now }
     ensures { OnOk result (fires.new.items ≡ fires.old.items ++ flat_map (fired_by db.now cause.now) (place ∷ filter (λ d. not (is_player_at db.now d)) (listed_in false place db.now))) }
 {
     let things: Vec<Dbref> = db.contents(place).collect(alloc)?;
-    push_fires(alloc, db, cause, place, fires)?;
-    push_others(alloc, db, cause, &things, fires)
+    push_fires(alloc, db, cause, dir, place, fires)?;
+    push_others(alloc, db, cause, dir, &things, fires)
 }

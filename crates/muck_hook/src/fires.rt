@@ -116,19 +116,20 @@ fn push_fired(
     }
 }
 
-// By the hooks of an object that is there.
+// By the hooks of an object that is there, in the directory of the cause.
 fn push_all(
     alloc: Global,
     db: &Db,
     cause: &Cause,
+    dir: &Path,
     carrier: Dbref,
     object: &Object,
     fires: &mut Vec<Fire>,
 ) -> Result<(), NoMemory>
+    requires { dir.now ≡ directory cause.now }
     ensures { OnOk result (fires.new.items ≡ fires.old.items ++ flat_map (fired_listed db.now cause.now carrier) (listed_below (directory cause.now) object.now.props)) }
 {
-    let dir = directory(alloc, cause)?;
-    let below = object.props().below(alloc, &dir)?;
+    let below = object.props().below(alloc, dir)?;
     for listed in below.as_slice() {
         push_fired(alloc, db, cause, carrier, listed, fires)?;
     }
@@ -141,31 +142,46 @@ pub fn push_fires(
     alloc: Global,
     db: &Db,
     cause: &Cause,
+    dir: &Path,
     carrier: Dbref,
     fires: &mut Vec<Fire>,
 ) -> Result<(), NoMemory>
+    requires { dir.now ≡ directory cause.now }
     ensures { OnOk result (fires.new.items ≡ fires.old.items ++ fired_by db.now cause.now carrier) }
 {
     match db.get(carrier) {
-        Some(object) => push_all(alloc, db, cause, carrier, object, fires),
+        Some(object) => push_all(alloc, db, cause, dir, carrier, object, fires),
         None => Ok(()),
     }
 }
 
-/// What a cause fires, in order: by the object that it meets first, then by the places upward from it; of what was said, by the place and by what is in it but players. It changes nothing.
+// By all that the cause meets.
 #[tactic(auto, unfolding(spec_hooks::specs::Firing::firing))]
+fn push_met(
+    alloc: Global,
+    db: &Db,
+    cause: &Cause,
+    dir: &Path,
+    fires: &mut Vec<Fire>,
+) -> Result<(), NoMemory>
+    requires { dir.now ≡ directory cause.now }
+    ensures { OnOk result (fires.new.items ≡ fires.old.items ++ firing db.now cause.now) }
+{
+    match cause {
+        Cause::Arrive { place, .. } => upward(alloc, db, cause, dir, *place, fires),
+        Cause::Depart { place, .. } => upward(alloc, db, cause, dir, *place, fires),
+        Cause::Connect { player } => upward(alloc, db, cause, dir, *player, fires),
+        Cause::Disconnect { player } => upward(alloc, db, cause, dir, *player, fires),
+        Cause::Listen { place, .. } => around(alloc, db, cause, dir, *place, fires),
+    }
+}
+
+/// What a cause fires, in order: by the object that it meets first, then by the places upward from it; of what was said, by the place and by what is in it but players. It changes nothing.
 pub fn fires(alloc: Global, db: &Db, cause: &Cause) -> Result<Vec<Fire>, NoMemory>
     ensures { IfOk result (λ fires. fires.items ≡ firing db.now cause.now) }
 {
+    let dir = directory(alloc, cause)?;
     let mut fires = Vec::new(alloc);
-    match cause {
-        Cause::Arrive { place, .. } | Cause::Depart { place, .. } => {
-            upward(alloc, db, cause, *place, &mut fires)?
-        }
-        Cause::Connect { player } | Cause::Disconnect { player } => {
-            upward(alloc, db, cause, *player, &mut fires)?
-        }
-        Cause::Listen { place, .. } => around(alloc, db, cause, *place, &mut fires)?,
-    }
+    push_met(alloc, db, cause, &dir, &mut fires)?;
     Ok(fires)
 }

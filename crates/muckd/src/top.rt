@@ -17,6 +17,7 @@ use muck_mirroring::mirror;
 use muck_model::Tale;
 use muck_run::{drill, run};
 use muck_watching::debug;
+use muck_why::Why;
 use std::alloc::Global;
 use std::sync::Wait;
 use std::thread::Threads;
