@@ -5,12 +5,18 @@
     next/words.py dry [TREE]        what each line of the table would change, by places; what it can't resolve; writes nothing
     next/words.py apply [TREE]      the same, and writes the files; then `rt fmt` in each crate that changed (`next/words.py layout TREE`)
     next/words.py imports [TREE]    says each import of crates/ that isn't declared where it is imported from
+    next/words.py free BEFORE AFTER says each word of a file of AFTER that nothing brings there or binds, where that wasn't so in BEFORE
+    next/words.py pages [TREE]      the places of pages where it isn't clear what a name between backticks means
     next/words.py layout [TREE]     `rt fmt` in each crate of which git says that a file changed
 
 TREE is the top of a checkout, and this one where none is given. A line of the table is
 
     CRATE MODULE OLD NEW            the definition OLD of crates/CRATE/specs/MODULE.antt (`/` between the parts of MODULE)
+    page FILE OLD NEW               in the page FILE, `OLD` between backticks by NEW
     text FILE | OLD | NEW           in FILE, which isn't code, the text OLD by NEW, wherever it stands
+
+In pages (README.md, docs) a name between backticks is renamed by itself where it is clear whose it is: `NAME of CRATE`, `CRATE's NAME`, or in the README of a crate that has one such definition
+and no function, clause, type or module of that name. `pages` lists the other places.
 
 and `#` begins a comment. A definition is renamed in its own file and in each that imports it, through `pub use` as well; where it is imported under another name, only the import changes. A
 variable of the same spelling stays: what binds it (a λ, a `let`, the left side of a clause, a type of a function, a pattern, a helper under `where`) is told from what refers to the
@@ -446,7 +452,7 @@ class Tree:
 # ---- the table
 
 def table_of(path):
-    names, texts = [], []
+    names, texts, pages = [], [], []
     with open(path, encoding="utf-8") as it:
         for number, line in enumerate(it, 1):
             line = line.rstrip("\n")
@@ -456,10 +462,13 @@ def table_of(path):
                 continue
             line = line.partition("#")[0].split()
             if line:
+                if line[0] == "page":
+                    pages.append(tuple(line[1:]))
+                    continue
                 if len(line) != 4:
                     raise Unread(f"{path}:{number}: four words are wanted")
                 names.append(tuple(line))
-    return names, texts
+    return names, texts, pages
 
 
 class Change:
@@ -728,6 +737,63 @@ class Change:
                     body = body.replace(old, rest, 1)
 
 
+# ---- pages
+
+class Pages:
+    """The pages, as they are to be, and the places where it isn't clear what a name means."""
+
+    def __init__(self, tree, table, pages):
+        self.tree, self.unclear, self.texts = tree, [], {}
+        self.new = {}
+        for crate, module, old, new in table:
+            self.new.setdefault((crate, old), set()).add(new)
+        self.old = {old for crate, module, old, new in table}
+        self.stays = {}
+        self.by_hand = {(file, old): new for file, old, new in pages}
+        for path in sorted(glob.glob("crates/*/README.md", root_dir=tree.top) + glob.glob("docs/*.md", root_dir=tree.top) + ["README.md"]):
+            if not path.endswith("TRUSTED.md"):
+                with open(f"{tree.top}/{path}", encoding="utf-8") as it:
+                    self.page(path, it.read())
+
+    def is_other(self, crate, name):
+        """Whether the crate has a function, a clause, a type or a module of that name."""
+        if (crate, name) not in self.stays:
+            code = "".join(file.text for path, file in self.tree.files.items() if file.is_code and file.crate == crate)
+            self.stays[crate, name] = bool(re.search(rf"\b(?:fn|struct|enum|trait|type) {name}\b|\b(?:ensures|requires) {name} \{{", code)) \
+                or any(path.startswith(f"crates/{crate}/specs/") and path.endswith(f"/{name}.antt") for path in self.tree.files)
+        return self.stays[crate, name]
+
+    def new_name(self, path, text, found):
+        name, own = found[1], path.split("/")[1] if path.startswith("crates/") else None
+        if (path, name) in self.by_hand:
+            return self.by_hand[path, name]
+        behind = re.match(r"`(?:, `[^`]*`)*(?:,? and `[^`]*`)? of ([a-z_]+)\b", text[found.end(1):found.end(1) + 120])
+        before = re.search(r"\b([a-z_]+)'s? `$", text[max(0, found.start(1) - 40):found.start(1)])
+        crate = behind[1] if behind and os.path.isdir(f"{self.tree.top}/crates/{behind[1]}") else None
+        crate = before[1] if before and os.path.isdir(f"{self.tree.top}/crates/{before[1]}") else crate
+        if crate:
+            new = self.new.get((crate, name), set())
+            return next(iter(new)) if len(new) == 1 and not self.is_other(crate, name) else None if new else name
+        new = self.new.get((own, name), set())
+        if len(new) == 1 and not self.is_other(own, name):
+            return next(iter(new))
+        return None if new or not own else name
+
+    def page(self, path, text):
+        out, at = [], 0
+        for found in re.finditer(r"`([A-Za-z_]+)`", text):
+            if found[1] in self.old:
+                new = self.new_name(path, text, found)
+                if new is None:
+                    line = text.count("\n", 0, found.start()) + 1
+                    self.unclear.append(f"{path}:{line}: `{found[1]}`: ..{text[max(0, found.start() - 70):found.end() + 50]}..".replace("\n", " "))
+                elif new != found[1]:
+                    out += [text[at:found.start(1)], new]
+                    at = found.end(1)
+        if out:
+            self.texts[path] = "".join(out) + text[at:]
+
+
 # ---- commands
 
 def trusted_of(top):
@@ -782,8 +848,8 @@ def made_by_code(tree, folder):
 
 def change(top, writes):
     tree = Tree(top)
-    table, texts = table_of(f"{HERE}/next/words.txt")
-    it = Change(tree, table, texts)
+    table, texts, by_hand = table_of(f"{HERE}/next/words.txt")
+    it, pages = Change(tree, table, texts), Pages(tree, table, by_hand)
     wrong = {path: it.edited(path, text, crate) for path, text, crate in it.edit_files()}
     it.check_edits(wrong)
     for (file, old), new in it.new.items():
@@ -795,6 +861,7 @@ def change(top, writes):
     for why in it.problems:
         print(f"words: {why}")
     changed = [path for path in it.edits if it.edits[path]]
+    print(f"words: {len(pages.texts)} pages; {len(pages.unclear)} places in pages to be looked at by hand: next/words.py pages")
     print(f"words: {len(it.new)} definitions, {sum(it.places.values()):,} places in {len(changed)} files; {len(it.shadows)} variables of these names stay; {len(it.problems)} problems")
     if not writes or any(why.startswith(("conflict", "unread")) for why in it.problems):
         return 1 if it.problems else 0
@@ -805,12 +872,65 @@ def change(top, writes):
         if wrong[path] != text:
             with open(f"{top}/{path}", "w", encoding="utf-8") as at:
                 at.write(wrong[path])
+    for path, text in pages.texts.items():
+        with open(f"{top}/{path}", "w", encoding="utf-8") as at:
+            at.write(text)
     for file, old, new in texts:
         with open(f"{top}/{file}", encoding="utf-8") as at:
             text = at.read()
         with open(f"{top}/{file}", "w", encoding="utf-8") as at:
             at.write(text.replace(old, new))
     return 1 if it.problems else 0
+
+
+class Everything:
+    def __contains__(self, name):
+        return True
+
+
+def free_of(tree, file):
+    """The words of a file that nothing binds and that are neither declared there nor brought."""
+    scope, modules, found = set(file.declared), {"Rattle"}, set()
+    for it in file.imports:
+        if it.leaves:
+            scope |= {alias or item.rpartition(".")[2] for start, end, item, alias in it.leaves}
+        else:
+            modules.add(it.alias or it.path.rpartition(".")[2])
+    scope |= {piece for name in scope if "◌" in name for piece in pieces(name)}
+
+    def meets(word):
+        head = word.text.partition(".")[0].strip("«»")
+        if head not in scope and head not in modules:
+            found.add(head)
+
+    if file.is_code:
+        for start, end in [(0, 0), *Change.regions(Change, file)]:
+            words, notes = lexed(file.text, file.path, start, end)
+            Walk(words, meets, Everything()).term(0, len(words), frozenset())
+    else:
+        words, notes = lexed(file.text, file.path)
+        if words:
+            Walk(words, meets, Everything()).block(0, len(words), frozenset(), False)
+    return found
+
+
+def free(before, after):
+    old, new, bad = Tree(before), Tree(after), 0
+    for path, file in new.files.items():
+        if path in old.files and old.files[path].text != file.text:
+            more = free_of(new, file) - free_of(old, old.files[path])
+            if more:
+                print(f"{path}: {' '.join(sorted(more))}")
+                bad += 1
+    print(f"free: in {bad} files")
+    return 1 if bad else 0
+
+
+def pages_unclear(top):
+    table, texts, by_hand = table_of(f"{HERE}/next/words.txt")
+    for line in Pages(Tree(top), table, by_hand).unclear:
+        print(line)
+    return 0
 
 
 def layout(top):
@@ -824,7 +944,9 @@ def layout(top):
 
 def main(words):
     top = os.path.realpath(words[1]) if len(words) > 1 else HERE
-    commands = {"count": count, "dry": lambda it: change(it, False), "apply": lambda it: change(it, True), "imports": imports, "layout": layout}
+    if words[:1] == ["free"] and len(words) == 3:
+        return free(words[1], words[2])
+    commands = {"count": count, "dry": lambda it: change(it, False), "apply": lambda it: change(it, True), "imports": imports, "pages": pages_unclear, "layout": layout}
     if not words or words[0] not in commands:
         print(__doc__)
         return 2
