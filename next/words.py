@@ -477,11 +477,10 @@ class Change:
     def __init__(self, tree, table, texts):
         self.tree, self.texts = tree, texts
         self.new, self.places, self.problems, self.shadows = {}, {}, [], []
-        self.by_name = {}
+        self.by_name, self.moved = {}, []
         for crate, module, old, new in table:
-            file = tree.files.get(f"crates/{crate}/specs/{module}.antt")
-            if file is None or file.declared.get(old) not in ("definition", "data", "record"):
-                self.problems.append(f"table: there is no {old} in crates/{crate}/specs/{module}.antt")
+            file = self.home_of(crate, module, old)
+            if file is None:
                 continue
             if (file, old) in self.new:
                 self.problems.append(f"table: {crate} {module} {old} stands twice")
@@ -491,6 +490,22 @@ class Change:
             self.by_name.setdefault(old, []).append(file)
             self.places[file, old] = 0
         self.edits = {path: self.edits_of(file) for path, file in tree.files.items()}
+
+    def home_of(self, crate, module, old):
+        """The file of a definition: that of the table, or where it was moved to, in a file of that name of another crate, or in another one of its crate."""
+        def has(file):
+            return file.declared.get(old) in ("definition", "data", "record")
+
+        file = self.tree.files.get(f"crates/{crate}/specs/{module}.antt")
+        if file is not None and has(file):
+            return file
+        specs = [file for path, file in self.tree.files.items() if "/specs/" in path and not file.is_code and has(file)]
+        moved = [file for file in specs if file.path.endswith(f"/specs/{module}.antt")] or [file for file in specs if file.crate == crate]
+        if len(moved) == 1:
+            self.moved.append(f"moved: {crate} {module} {old} is in {moved[0].path}")
+            return moved[0]
+        self.problems.append(f"table: there is no {old} in crates/{crate}/specs/{module}.antt" + (f", but in {', '.join(it.path for it in moved)}" if moved else ""))
+        return None
 
     def new_of(self, path):
         """What the last part of a whole path becomes, or None."""
@@ -858,7 +873,7 @@ def change(top, writes):
         with open(f"{top}/{file}", encoding="utf-8") as at:
             if old not in at.read():
                 it.problems.append(f"text: {file} hasn't: {old}")
-    for why in it.problems:
+    for why in it.moved + it.problems:
         print(f"words: {why}")
     changed = [path for path in it.edits if it.edits[path]]
     print(f"words: {len(pages.texts)} pages; {len(pages.unclear)} places in pages to be looked at by hand: next/words.py pages")
