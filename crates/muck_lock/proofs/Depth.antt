@@ -7,8 +7,8 @@ use Rattle.muck_model.specs.declared.lock.Lock.{Lock}
 use Rattle.muck_model.specs.declared.lock.Lock.TheVariants.{Both, Either}
 use Rattle.muck_lock.specs.Naming.{Naming}
 use Rattle.muck_lock.specs.Grammar.{Reading, ends_key, key_of, key_or_fault, key_in, negated, closed_by, closed, with_first, followed, joined, term_in, all_of_in, part_in, part_of, reading}
-use Rattle.muck_lock.specs.declared.part.Part.{Part}
-use Rattle.muck_lock.specs.declared.part.Part.TheVariants.{OneOf, AllOf, Term}
+use Rattle.muck_model.specs.declared.part.Part.{Part}
+use Rattle.muck_model.specs.declared.part.Part.TheVariants.{OneOf, AllOf, Term}
 
 -- what is left is shorter than n
 abbrev pub IsBelow : ℕ → Reading → Type 0
