@@ -1,0 +1,9 @@
+pub mod Formulas
+pub mod Primitives
+pub mod Lines
+pub mod Refused
+pub mod Locked
+pub mod Paged
+pub mod Exits
+pub mod Kept
+pub mod Forms
