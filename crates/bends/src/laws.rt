@@ -32,7 +32,6 @@ pub fn formulas_refuse()
 pub fn primitives_refuse()
     ensures shared { SharedSo shared_row }
     ensures processed { ProcessedSo process_row }
-    ensures listed { ListedSo shared_row }
     ensures nextprop { Refuted (ListedSo nextprop_free) }
     ensures envprop { Refuted (SharedSo envprop_at_first) }
     ensures propdir { Refuted (SharedSo propdir_free) }
