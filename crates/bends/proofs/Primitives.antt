@@ -4,7 +4,14 @@ use Rattle.std.specs.Prelude.{codes, is_some, pos, negsuc, ◌||◌, ◌==◌}
 use Rattle.std.specs.Option.{option_map_or}
 use Rattle.std.specs.FinMap.{get, empty, get-empty, keys, from_entries}
 use Rattle.std.specs.List.Sorted.{IsStrictlySortedBy}
+use Rattle.muck_model.specs.declared.dbref.Dbref.{Dbref}
 use Rattle.muck_model.specs.declared.dbref.Denial.{Denial}
+use Rattle.muck_model.specs.declared.lock.Lock.TheVariants.{Object}
+use Rattle.muck_lock.specs.Opens.{opens_step, opens_for}
+use Rattle.muck_lock.proofs.Locks.{at_object}
+use Rattle.muf_model.specs.StackRows.{truth}
+use Rattle.spec_live.specs.Worth.{holdings_of}
+use Rattle.spec_denials.specs.inner.PrimRows.{PrimRows, prim_rows}
 use Rattle.muck_prop.specs.Order.{path_cmp}
 use Rattle.muck_prop.specs.Paths.{path_text}
 use Rattle.muck_prop.specs.declared.value.PropValue.TheVariants.{Number}
@@ -13,13 +20,13 @@ use Rattle.muck_prop.specs.Store.{PropMap, next_among}
 use Rattle.muck_prop.specs.declared.value.PropValue.{PropValue}
 use Rattle.spec_live.specs.Lives.{Live}
 use Rattle.muck_model.specs.declared.dbref.Kind.TheVariants.{Thing}
-use Rattle.spec_live.specs.declared.object.Object.{Object}
+use Rattle.spec_live.specs.declared.object.Object.{Object as Kept}
 use Rattle.spec_live.specs.declared.saving.Saving.TheVariants.{Done}
 use Rattle.spec_live.specs.Flags.{jump}
 use Rattle.spec_live.specs.Moving.{judged, move_check}
-use Rattle.spec_live.specs.Objects.{Entry, dbref_of, object_at, number_in, kind_in, object_in, place_in, path_in, fits_in, flags_in, is_vehicle_in}
+use Rattle.spec_live.specs.Objects.{Entry, dbref_of, object_at, number_in, kind_in, object_in, list_in, place_in, path_in, fits_in, flags_in, is_vehicle_in}
 use Rattle.spec_live.specs.Chain.{walk, has}
-use Rattle.spec_live.specs.Seen.{places_of}
+use Rattle.spec_live.specs.Seen.{places_of, listed_in}
 use Rattle.spec_live.specs.Start.{room_zero, player_one}
 use Rattle.spec_rights.specs.declared.act.Actor.{Actor}
 use Rattle.spec_rights.specs.declared.act.Act.TheVariants.{Read}
@@ -34,7 +41,7 @@ use Rattle.spec_prims.specs.Asking.{level_fault, is_there, near_fault}
 use Rattle.spec_prims.specs.PropRows.{as_item}
 use Rattle.spec_prims.specs.ObjectWrites.{changed}
 use Rattle.spec_commands.specs.Finding.{is_so}
-use Rattle.spec_prims.specs.Row.{gives, given_upon}
+use Rattle.spec_prims.specs.Row.{Row, gives, given_upon}
 use Rattle.spec_prims.specs.Shared.{first_fault, shared_row, shared}
 use Rattle.spec_prims.specs.inner.Rows.{acting_at}
 use Rattle.spec_processes.specs.ProcessRows.{process_row, processed}
@@ -44,7 +51,7 @@ use Rattle.spec_denials.specs.Notes.{Breaks}
 use Rattle.spec_denials.proofs.Shared.{shared_names, next_lists}
 use Rattle.spec_denials.proofs.Processes.{processed_names}
 use Rattle.bends.specs.Formulas.{Refuted}
-use Rattle.bends.specs.Primitives.{SharedSo, ListedSo, nextprop_free, envprop_at_first, propdir_free, moveto_far, conboot_by_hand, ProcessedSo, call_free, queue_free}
+use Rattle.bends.specs.Primitives.{SharedSo, TriesSo, testlock_opens, ListedSo, nextprop_free, envprop_at_first, propdir_free, moveto_far, conboot_by_hand, ProcessedSo, call_free, queue_free}
 use Rattle.bends.proofs.Formulas.{no_rule}
 use Rattle.bends.proofs.Refused.{yes_no}
 
@@ -87,7 +94,7 @@ unfolding object_at number_in kind_in object_in room_zero player_one level_fault
 propdir_breaks law = no_rule 3 (law IsPropDir (acting_at 2 2) None 0 (text (codes "@x") ∷ object (pos 2) ∷ []) (company []))
 
 -- Two has ball `#4`, and Den `#3`, which is in Hall `#5`, has J
-abbrev holding : List ℕ → Object → Entry
+abbrev holding : List ℕ → Kept → Entry
 holding contents o = record { object = o; contents = contents; exits = []; mark = None; saving = Done }
 
 abbrev den : Live
@@ -170,3 +177,22 @@ nextprop_breaks law =
 pub listed_is : ListedSo shared_row
 unfolding shared
 listed_is = next_lists
+
+-- a key that is `#9` doesn't open for Two
+
+shut_key : opens_for (holdings_of both_there) (Object (dbref_of 9)) (dbref_of 2) ≡ false
+unfolding holdings_of listed_in object_at number_in kind_in object_in list_in room_zero player_one
+shut_key = ap (λ (opens : Dbref → Bool). opens (dbref_of 2)) (at_object (opens_step (holdings_of both_there)) (dbref_of 9))
+
+abbrev is_true : Row → Bool
+is_true (gives (int (pos n) ∷ items) w) = n == 1
+is_true row = false
+
+pub testlock_breaks : Refuted (TriesSo testlock_opens)
+unfolding object_at number_in kind_in object_in room_zero player_one level_fault is_there near_fault first_fault
+testlock_breaks row = yes_no (ap is_true (row (Object (dbref_of 9))) ∙ ap (λ b. is_true (gives (truth b ∷ []) (company []))) shut_key)
+
+-- as it is defined, it is the row
+pub tries_is : TriesSo shared_row
+unfolding PrimRows shared
+tries_is l = prim_rows.2 l

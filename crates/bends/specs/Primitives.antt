@@ -1,21 +1,27 @@
 -- Primitives by a bent definition, and their laws, said of any.
-use Rattle.std.specs.Prelude.{ℕ, ℤ, if◌then◌else◌, pos, negsuc, List, [], ◌∷◌, Option, Some, None}
+use Rattle.std.specs.Prelude.{◌≡◌, ℕ, ℤ, true, if◌then◌else◌, pos, negsuc, List, [], ◌∷◌, Option, Some, None}
 use Rattle.std.specs.Option.{option_map_or, option_and_then}
 use Rattle.std.specs.FinMap.{keys}
 use Rattle.muck_prop.specs.Store.{next_among}
 use Rattle.muck_model.specs.declared.dbref.Dbref.{Dbref}
+use Rattle.muck_model.specs.declared.lock.Lock.{Lock}
+use Rattle.muck_lock.specs.Opens.{opens_for}
+use Rattle.muf_model.specs.StackRows.{truth}
+use Rattle.spec_live.specs.Worth.{holdings_of}
+use Rattle.spec_commands.specs.inner.Company.{both_there, company}
+use Rattle.spec_prims.specs.inner.Rows.{acting_at}
 use Rattle.muck_prop.specs.Paths.{path_fault, path_text, segments_of}
 use Rattle.muck_prop.specs.declared.value.PropValue.{PropValue}
 use Rattle.spec_live.specs.Lives.{Live}
-use Rattle.spec_live.specs.Objects.{object_at}
+use Rattle.spec_live.specs.Objects.{dbref_of, object_at}
 use Rattle.spec_live.specs.Seen.{places_of}
 use Rattle.spec_rights.specs.declared.act.Actor.{Actor}
 use Rattle.spec_rights.specs.declared.act.Act.TheVariants.{Read, Move}
 use Rattle.muf_model.specs.declared.fault.MufFault.{MufFault}
 use Rattle.muf_model.specs.declared.fault.MufFault.TheVariants.{BadType, BadSleep, Denied}
 use Rattle.muf_model.specs.declared.prims.Primitive.{Primitive}
-use Rattle.muf_model.specs.declared.prims.Primitive.TheVariants.{EnvProp, NextProp, IsPropDir, MoveTo, ConBoot, Call, Queue as QueuePrim}
-use Rattle.muf_model.specs.Datum.{Datum, text, object, int}
+use Rattle.muf_model.specs.declared.prims.Primitive.TheVariants.{EnvProp, NextProp, TestLock, IsPropDir, MoveTo, ConBoot, Call, Queue as QueuePrim}
+use Rattle.muf_model.specs.Datum.{Datum, text, object, int, lock}
 use Rattle.muck_queue.specs.Queues.{Queue, process}
 use Rattle.spec_prims.specs.Asking.{numbered}
 use Rattle.spec_prims.specs.Formulas.{answers_for, is_formula}
@@ -79,6 +85,18 @@ denied_place a items w = None
 abbrev pub conboot_by_hand : Option ℕ → Primitive → Option Does
 conboot_by_hand descr ConBoot = Some (record { argued = denied_place; does = booted })
 conboot_by_hand descr p = shared_row descr p
+
+-- The last of PrimRows, by these rows.
+
+abbrev pub TriesSo : (Option ℕ → Primitive → Option Does) → Type 0
+TriesSo rows = (l : Lock) →
+    done_by (rows None TestLock) TestLock (acting_at 4 1) 0 (lock l ∷ object (pos 2) ∷ []) (company [])
+    ≡ gives (truth (opens_for (holdings_of both_there) l (dbref_of 2)) ∷ []) (company [])
+
+-- TESTLOCK always opens
+abbrev pub testlock_opens : Option ℕ → Primitive → Option Does
+testlock_opens descr TestLock = Some (unruled (λ a items w. gives (truth true ∷ []) w))
+testlock_opens descr p = shared_row descr p
 
 -- The law `listed` of primitives_ask, by these rows.
 

@@ -9,7 +9,7 @@ ghost use Rattle.spec_processes.specs.ProcessRows.{process_row};
 ghost use Rattle.spec_events.specs.World.{World};
 ghost use Rattle.spec_events.specs.Lines.{done};
 ghost use Rattle.bends.specs.Formulas.{Refuted, AskSo, prop_at_first, prop_here_free, prop_dir_free, by_next_rule, NameSo, empty_denied};
-ghost use Rattle.bends.specs.Primitives.{SharedSo, ListedSo, nextprop_free, envprop_at_first, propdir_free, moveto_far, conboot_by_hand, ProcessedSo, call_free, queue_free};
+ghost use Rattle.bends.specs.Primitives.{SharedSo, TriesSo, testlock_opens, ListedSo, nextprop_free, envprop_at_first, propdir_free, moveto_far, conboot_by_hand, ProcessedSo, call_free, queue_free};
 ghost use Rattle.bends.specs.Lines.{as_is, done_by, LocksSo, RefusesSo, WaitsSo, StopsSo};
 ghost use Rattle.bends.specs.Bent.{walks_free, goes_free, takes_free, pages_wait, names_by_password, recycles_by_change, edits_by_listing, lists_free, runs_free, stops_at_three, stops_free, edits_shut, leaves_untold, stays_open};
 ghost use Rattle.bends.specs.Exits.{ExitsSo};
@@ -28,10 +28,11 @@ pub fn formulas_refuse()
 {}
 
 /// Says it of primitives. It does nothing.
-#[tactic(auto, using(crate::proofs::Primitives::shared_is, crate::proofs::Primitives::processed_is, crate::proofs::Primitives::listed_is, crate::proofs::Primitives::nextprop_breaks, crate::proofs::Primitives::envprop_breaks, crate::proofs::Primitives::propdir_breaks, crate::proofs::Primitives::moveto_breaks, crate::proofs::Primitives::conboot_breaks, crate::proofs::Primitives::call_breaks, crate::proofs::Primitives::queue_breaks))]
+#[tactic(auto, using(crate::proofs::Primitives::shared_is, crate::proofs::Primitives::processed_is, crate::proofs::Primitives::listed_is, crate::proofs::Primitives::tries_is, crate::proofs::Primitives::testlock_breaks, crate::proofs::Primitives::nextprop_breaks, crate::proofs::Primitives::envprop_breaks, crate::proofs::Primitives::propdir_breaks, crate::proofs::Primitives::moveto_breaks, crate::proofs::Primitives::conboot_breaks, crate::proofs::Primitives::call_breaks, crate::proofs::Primitives::queue_breaks))]
 pub fn primitives_refuse()
     ensures shared { SharedSo shared_row }
     ensures processed { ProcessedSo process_row }
+    ensures testlock { Refuted (TriesSo testlock_opens) }
     ensures nextprop { Refuted (ListedSo nextprop_free) }
     ensures envprop { Refuted (SharedSo envprop_at_first) }
     ensures propdir { Refuted (SharedSo propdir_free) }
