@@ -11,8 +11,10 @@ use Rattle.spec_dumps.specs.inner.Holding.{Quietly}
 use Rattle.spec_dumps.proofs.Quiet.{quiet_grew}
 use Rattle.muck_machine.specs.declared.beginning.Beginning.{Beginning}
 use Rattle.muck_machine.specs.inner.Beginnings.{beginning, begun, IsBegun}
-use Rattle.muck_machine.specs.inner.Seats.{Sight, Chair, AllOrderly, Rests, Waited}
+use Rattle.muck_machine.specs.inner.Seats.{Chair, AllOrderly, Rests}
 use Rattle.muck_machine.proofs.Seating.{orderly_back, others_none, others_quiet, settled_begun}
+use Rattle.muck_work.specs.inner.Holds.{HasTurn}
+use Rattle.muck_work.proofs.Holding.{others_since}
 use Rattle.muck_dumper.specs.inner.Dumping.{history_from, history_seen, IsKnown}
 
 -- a history that goes on with others' items
@@ -53,10 +55,10 @@ closed_quiet root known h begins start placed front all mine =
     same e = cc
 
 -- In a hold the world goes on so from what the seat had seen.
-pub held_quiet : (me : Chair) (v : Sight) (h : History) → Rests 9 me → Waited me.0 v → logged h ≡ v.seen → beginning h ∷ [] ≡ v.root → v.own ≡ own_of logged_by v.party v.seen → AllOrderly v.seen → IsPlaced h → Quietly (history_seen me.0) h
-held_quiet me v h r waited seen root own all placed =
-    let mine : own_of logged_by 9 v.seen ≡ own_of logged_by 9 me.0.seen = ap (λ (p : ℕ). own_of logged_by p v.seen) (sym (waited.2 ∙ r.party)) ∙ sym own ∙ waited.1 ∙ r.own in
-    closed_quiet me.0.root me.0.seen h r.begun (root ∙ waited.5) placed (waited.0.0, seen ∙ waited.0.1) (subst AllOrderly (sym seen) all) (ap (own_of logged_by 9) seen ∙ mine)
+pub held_quiet : (me me' : Chair) (h : History) → HasTurn 9 me me' h → Quietly (history_seen me.0) h
+held_quiet me me' h t =
+    closed_quiet me.0.root me.0.seen h t.rests.begun (t.root ∙ t.waited.5) t.placed (t.waited.0.0, t.seen ∙ t.waited.0.1) (subst AllOrderly (sym t.seen) t.orderly)
+    (ap (own_of logged_by 9) (t.seen ∙ t.waited.0.1) ∙ others_since 9 me me' h t)
 
 -- And where it has been given back the seat has seen it whole.
 pub given_known : (me' : Chair) (k : History) (begins : IsBegun me'.0.root) → beginning k ∷ [] ≡ me'.0.root → IsPlaced k → me'.0.seen ≡ logged k → history_seen me'.0 ≡ k

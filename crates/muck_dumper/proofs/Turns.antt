@@ -1,20 +1,18 @@
 -- A turn of the dumper at its seat.
-use Rattle.std.proofs.Common.{◌≡◌, Bool, false, List, [], ◌∷◌, ◌++◌, length, refl, sym, ◌∙◌, ap, subst, append_assoc, Option, Some, None}
-use Rattle.turn_lock.specs.Histories.{own_of}
-use Rattle.turn_lock.specs.declared.view.Place.TheVariants.{Idle as AtRest}
+use Rattle.std.proofs.Common.{◌≡◌, ℕ, Bool, false, List, [], ◌∷◌, ◌++◌, length, refl, sym, ◌∙◌, ap, subst, append_assoc, Option, Some, None}
 use Rattle.muck_model.specs.declared.event.Entry.{Entry}
 use Rattle.muck_model.specs.declared.event.Event.{Event}
 use Rattle.muck_model.specs.declared.note.Note.{Note}
 use Rattle.spec_events.specs.declared.logged.Logged.{Logged}
 use Rattle.spec_events.specs.Histories.{History, entered, noted}
 use Rattle.muck_log.specs.Store.{LogState}
-use Rattle.spec_events.specs.Logged.{is_cut, logged, logged_by, bare_item, noted_item, events_of, NoCounts, IsSettled, IsPlaced, IsOrderly}
+use Rattle.spec_events.specs.Logged.{is_cut, logged, bare_item, noted_item, events_of, NoCounts, IsSettled, IsPlaced, IsOrderly}
 use Rattle.spec_events.specs.Own.{Stage, next, stage_of}
 use Rattle.spec_events.proofs.Logging.{placed_entered, placed_noted, events_append, no_counts_one, orderly_noted, orderly_bare}
 use Rattle.spec_events.proofs.Owning.{stage_more}
-use Rattle.muck_machine.specs.inner.Beginnings.{beginning}
-use Rattle.muck_machine.specs.inner.Seats.{Sight, Chair, OneMore, AllOrderly, Rests, Waited}
-use Rattle.muck_machine.proofs.Seating.{held_settled, one_bare, one_noted, given_seen, given_root, rests_turned, seen_later}
+use Rattle.muck_machine.specs.inner.Seats.{Chair, OneMore, Waited}
+use Rattle.muck_machine.proofs.Seating.{held_settled, one_bare, one_noted, given_root, seen_later}
+use Rattle.muck_work.specs.inner.Holds.{HasTurn, HasEntered, HasGiven}
 use Rattle.muck_dumping.specs.inner.Dumps.{by}
 use Rattle.muck_dumping.specs.inner.Between.{GoesByMarks}
 use Rattle.muck_dumping.proofs.Marks.{goes_entered, goes_noted, goes_quiet}
@@ -57,36 +55,34 @@ item_made m h k event settled placed (bare is) = item_bare m h k event settled p
 item_made m h k event settled placed (with_note x at is) = item_noted m h k event x settled placed at is
 
 -- The world as it was given, and as it is given back.
-module _ (me : Chair) (v : Sight) (h k : History) (event : Event) (r : Rests 9 me) (waited : Waited me.0 v) (seen : logged h ≡ v.seen) (root : beginning h ∷ [] ≡ v.root) (placed : IsPlaced h) (made : MadeBy event h k) where
-  pub its_item : Item event h k
-  its_item = item_made r.begun.mounting h k event (held_settled 9 me v h r waited root) placed made
+module _ (me me1 : Chair) (h k : History) (event : Event) (t : HasTurn 9 me me1 h) (made : MadeBy event h k) where
+  its_item : Item event h k
+  its_item = item_made t.rests.begun.mounting h k event (held_settled 9 me me1.0 h t.rests t.waited t.root) t.placed made
 
-  pub entry_given : (l : Logged) × (logged k ≡ v.seen ++ l ∷ []) × (logged_by l ≡ v.party) × IsOrderly l
-  entry_given = (its_item.it, given_seen v h k its_item.it its_item.more seen, ap (λ (e : Entry). e.party) its_item.entry ∙ sym (waited.2 ∙ r.party), its_item.orderly)
+  abbrev its_entry : HasEntered 9 me me1 k its_item.it
+  its_entry = record { history = h; turn = t; one = its_item.more; party = ap (λ (e : Entry). e.party) its_item.entry; orderly = its_item.orderly }
 
-  pub start_given : beginning k ∷ [] ≡ v.root
-  start_given = given_root v h k its_item.it its_item.more root
+  pub entry_made : (whose : ℕ) × (m : Chair) × (item : Logged) × HasEntered whose m me1 k item
+  entry_made = (9, me, its_item.it, its_entry)
 
   -- behind the turn
-  pub step_made : (me' : Chair) → v.own ≡ own_of logged_by v.party v.seen → AllOrderly v.seen → me'.1 ≡ [] → me'.0.place ≡ AtRest → me'.0.seen ≡ logged k →
-      (me'.0.party ≡ v.party) × (me'.0.root ≡ v.root) × (me'.0.given ≡ v.given) × (me'.0.joined ≡ v.joined) →
-      ((e : Logged) → logged k ≡ v.seen ++ e ∷ [] → e.entry.party ≡ v.party → IsOrderly e → me'.0.own ≡ v.own ++ e ∷ []) →
-      (s : Step event me me') × (s.world ≡ h) × (history_seen me'.0 ≡ k)
-  step_made me' own all free idle seen' same mine =
+  pub step_made : (me' : Chair) → ((whose : ℕ) (m : Chair) (item : Logged) (e : HasEntered whose m me1 k item) → HasGiven whose m me' e.turn.waited.0.0 item) → (s : Step event me me') × (s.world ≡ h) × (history_seen me'.0 ≡ k)
+  step_made me' gave =
       let i = its_item in
       let l = i.it in
-      let both = rests_turned 9 me v me' h k l r waited seen own all i.more (ap (λ (e : Entry). e.party) i.entry) i.orderly free idle seen' same mine in
-      let known : history_seen me'.0 ≡ k = given_known me' k both.0.begun (start_given ∙ sym same.1) i.placed seen' in
+      let o : HasGiven 9 me me' t.waited.0.0 l = gave 9 me l its_entry in
+      let seen : me'.0.seen ≡ logged k = o.seen ∙ ap (λ (ls : List Logged). ls ++ l ∷ []) (sym (t.seen ∙ t.waited.0.1)) ∙ sym i.more.logged in
+      let known : history_seen me'.0 ≡ k = given_known me' k o.rests.begun (given_root me1.0 h k l i.more t.root ∙ t.waited.5 ∙ sym o.lists.0) i.placed seen in
       let s : Step event me me' = record {
-        rests = both.0;
+        rests = o.rests;
         world = h;
-        quiet = held_quiet me v h r waited seen root own all placed;
+        quiet = held_quiet me me1 h t;
         made = subst (MadeBy event h) (sym known) made;
-        lists = both.1.lists;
-        sight = (both.1.others ++ l ∷ [], both.1.seen ∙ append_assoc me.0.seen both.1.others (l ∷ []));
-        events = ap events_of both.1.own ∙ events_append me.0.own (l ∷ []) ∙ ap (λ (e : Event). events_of me.0.own ++ e ∷ []) (ap (λ (e : Entry). e.event) i.entry);
-        counts = λ none. subst NoCounts (sym both.1.own) (no_counts_one me.0.own l none i.counted);
-        last = (me.0.own, l, both.1.own, i.entry);
+        lists = o.lists;
+        sight = (t.waited.0.0 ++ l ∷ [], o.seen ∙ append_assoc me.0.seen t.waited.0.0 (l ∷ []));
+        events = ap events_of o.own ∙ events_append me.0.own (l ∷ []) ∙ ap (λ (e : Event). events_of me.0.own ++ e ∷ []) (ap (λ (e : Entry). e.event) i.entry);
+        counts = λ none. subst NoCounts (sym o.own) (no_counts_one me.0.own l none i.counted);
+        last = (me.0.own, l, o.own, i.entry);
       } in
       (s, refl, known)
 

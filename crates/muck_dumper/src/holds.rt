@@ -20,6 +20,7 @@ use muck_dumping::{Pending, Store, write};
 use muck_io::{Gate, Rest};
 use muck_log::LogFault;
 use muck_machine::World;
+use muck_work::{gives, takes};
 use std::alloc::Global;
 use std::sync::Wait;
 use turn_lock::{Spent, Turn, TurnSeat};
@@ -51,12 +52,10 @@ pub(crate) fn watch_turn<W: Wait, D: Disk, G: Gate, R: Rest>(
     ensures ok { IfOk result (λ did. Watched D.tells D.seen D.moment D.images D.faults store.now first.now second.now did seat.old.me seat.new.me) }
     ensures err { OnErr result (Left 9 seat.new.me × Waited seat.old.me.0 seat.new.me.0 × (2 ^ 62 ≤ length seat.new.me.0.seen)) }
 {
-    let held = turn.hold(rt, seat, rest)?;
+    let held = takes(rt, turn, seat, rest)?;
     let mut held = held;
-    // For contracts alone: each note stands in its place.
-    let _dead = held.state.is_dead();
     let did = watches(&mut held.state, task, store, first, second, gate);
-    turn.give(seat, held, rest);
+    gives(turn, seat, held, rest);
     Ok(did)
 }
 
@@ -84,11 +83,10 @@ fn finish_turn<W: Wait, D: Disk, R: Rest>(
         → IfOk result (λ told. told ≡ false → IsSafe D.moment D.images D.faults first.now second.now (history_seen seat.new.me.0).start mounted (history_seen seat.new.me.0).entries (history_seen seat.new.me.0).notes) }
     ensures err { OnErr result (Left 9 seat.new.me × Waited seat.old.me.0 seat.new.me.0 × (2 ^ 62 ≤ length seat.new.me.0.seen)) }
 {
-    let held = turn.hold(rt, seat, rest)?;
+    let held = takes(rt, turn, seat, rest)?;
     let mut held = held;
-    let _dead = held.state.is_dead();
     let told = finishes(&mut held.state, first, second, number, stored);
-    turn.give(seat, held, rest);
+    gives(turn, seat, held, rest);
     Ok(told)
 }
 
@@ -105,11 +103,10 @@ fn die_turn<W: Wait, R: Rest>(
     ensures ok { OnOk result ((s : Step Died seat.old.me seat.new.me) × (history_seen seat.new.me.0 ≡ entered s.world (by 9 Died))) }
     ensures err { OnErr result (Left 9 seat.new.me × Waited seat.old.me.0 seat.new.me.0 × (2 ^ 62 ≤ length seat.new.me.0.seen)) }
 {
-    let held = turn.hold(rt, seat, rest)?;
+    let held = takes(rt, turn, seat, rest)?;
     let mut held = held;
-    let _dead = held.state.is_dead();
     held.state.died(DUMPER);
-    turn.give(seat, held, rest);
+    gives(turn, seat, held, rest);
     Ok(())
 }
 

@@ -5,3 +5,4 @@ pub mod Taken
 pub mod Seating
 pub mod Licences
 pub mod Seeing
+pub mod Situated

@@ -2,3 +2,4 @@ pub mod Keeping
 pub mod Claims
 pub mod Beginnings
 pub mod Seats
+pub mod Situations

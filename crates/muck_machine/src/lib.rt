@@ -6,4 +6,4 @@ mod past;
 mod world;
 
 pub use beginning::Beginning;
-pub use world::{Sliced, World};
+pub use world::{Situation, Sliced, World};

@@ -18,6 +18,7 @@ ghost use Rattle.muck_machine.specs.inner.Keeping.{AreTold};
 mod dumping;
 mod seeing;
 mod sharing;
+mod situation;
 
 use crate::past::Past;
 use muck_board::{Board, Connection};
@@ -26,6 +27,7 @@ use muck_library::Library;
 use muck_model::{Entry, Event, Line, NoMemory, Tale, Tune};
 use muck_queue::Queue;
 use muck_turns::{Begun, Dumps, Origin, State, WELCOME};
+pub use situation::Situation;
 use std::alloc::Global;
 use std::marker::Model;
 
@@ -206,17 +208,6 @@ impl World {
             Some(c) => c.takes_line(),
             None => false,
         }
-    }
-
-    /// Whether the connection of this number may go.
-    pub fn may_close(&self, d: u32) -> bool
-        ensures { result ≡ is_lawful (now self.now) (by_porter (Event.Closed d)) }
-    {
-        if self.past.dead {
-            return false;
-        }
-        let state = &self.state;
-        state.board.connection(d).is_some()
     }
 
     /// A connection comes; `false` exactly where it may not, and then nothing happened. After `NoMemory` the world is

@@ -5,15 +5,18 @@ use Rattle.std.proofs.lemmas.Bool.{ltb-true, ltb-false, lt-ltb}
 use Rattle.std.proofs.lemmas.List.{length-drop, length-take, length-take-le}
 use Rattle.muck_links.specs.inner.Cutting.{Cut, Rest, fed}
 use Rattle.muck_links.specs.Sessions.{Told, on_session, with_read, with_end, with_fault, with_written, with_refusal}
-use Rattle.muck_model.specs.declared.event.Event.TheVariants.{Input, Take}
+use Rattle.muck_model.specs.declared.event.Event.TheVariants.{Input, Closed, Take}
 use Rattle.spec_live.specs.Connections.{is_ready}
 use Rattle.spec_events.specs.World.{World, queue_of}
-use Rattle.spec_events.specs.Steps.{passes}
+use Rattle.spec_events.specs.Steps.{passes, is_lawful}
+use Rattle.spec_events.specs.Histories.{by_porter}
 use Rattle.spec_serve.specs.Marks.{LinksNote}
 use Rattle.spec_serve.specs.inner.Keeping.{Peer}
 use Rattle.spec_serve.proofs.Accounting.{keeps_read, keeps_end, keeps_fault, keeps_written, keeps_refusal, agrees_read}
 use Rattle.spec_serve.proofs.Causes.{worked_done}
-use Rattle.muck_peer.specs.Moves.{LinkStep, LinkLoss, PeerStep, IsWorkedOff}
+use Rattle.muck_peer.specs.declared.steps.Want.{Want}
+use Rattle.muck_peer.specs.declared.steps.Want.TheVariants.{Close, Time}
+use Rattle.muck_peer.specs.Moves.{LinkStep, LinkLoss, PeerStep, IsWorkedOff, HasCause, IsWanted}
 
 -- Calls of the links.
 
@@ -108,6 +111,15 @@ took_count false n a b alive is some room = omega arith
 
 pub took_some : {A : Type 0} (n : ℕ) (old new : A) → 0 < n → (if nat_lt 0 n then new else old) ≡ new
 took_some n old new some = ap (λ (b : Bool). if b then new else old) (lt-ltb 0 n some)
+
+-- where there is a cause to close it
+pub ending_wanted : (there : Bool) (p : Peer) (w : World) → is_lawful w (by_porter (Closed p.number)) ≡ there → HasCause p w → IsWanted (if there then Close else Time) p w
+ending_wanted true p w is cause = (is, cause)
+ending_wanted false p w is cause = tt
+
+-- what is wanted, by another name
+pub wanted_as : (want other : Want) (p : Peer) (w : World) → want ≡ other → IsWanted want p w → IsWanted other p w
+wanted_as want other p w is i = subst (λ (x : Want). IsWanted x p w) is i
 
 -- what was done, as it is answered
 pub did_so : {A : Type 0} (answer : Bool) (old new : A) → answer ≡ true → (if answer then new else old) ≡ new

@@ -1,14 +1,18 @@
 -- What a call of the links and an entry of the world do to what is kept of a link.
-use Rattle.std.specs.Prelude.{◌≡◌, ℕ, max, ◌≤◌, List, [], ◌∷◌, take, Option}
+use Rattle.std.specs.Prelude.{◌≡◌, ◌≢◌, ℕ, max, ◌≤◌, ◌<◌, true, List, [], ◌∷◌, length, take, Option}
 use Rattle.muck_io.specs.inner.Clock.{Answers}
 use Rattle.muck_links.specs.Sessions.{Session, Told, number_of, on_session}
 use Rattle.muck_model.specs.declared.event.Event.{Event}
 use Rattle.muck_model.specs.declared.event.Event.TheVariants.{Input, Closed as ClosedEvent, Moment, Take, Died}
 use Rattle.spec_events.specs.World.{World, queue_of}
+use Rattle.spec_events.specs.Histories.{by_porter}
+use Rattle.spec_events.specs.Steps.{is_lawful}
 use Rattle.spec_talks.specs.Talks.{Talk}
 use Rattle.spec_serve.specs.Marks.{LinksNote}
 use Rattle.spec_serve.specs.Accounts.{WorkedOff, HeardAll, Cause, Agrees}
 use Rattle.spec_serve.specs.inner.Keeping.{Peer, Keeps}
+use Rattle.muck_peer.specs.declared.steps.Want.{Want}
+use Rattle.muck_peer.specs.declared.steps.Want.TheVariants.{Close, Bytes, Line, Time}
 use Rattle.muck_peer.specs.declared.steps.Chose.{Chose}
 use Rattle.muck_peer.specs.declared.steps.Chose.TheVariants.{Went, Closed, Dead}
 
@@ -39,6 +43,13 @@ HasHeard p w = (counted : LinksNote) (t : Talk) (s : Session) → Keeps counted 
 
 abbrev pub HasCause : Peer → World → Type 0
 HasCause p w = (counted : LinksNote) (t : Talk) (s : Session) → Keeps counted p t s → Cause counted w t s
+
+-- what may be done for a connection in this world, as it is wanted
+abbrev pub IsWanted : Want → Peer → World → Type 0
+IsWanted Close p w = (is_lawful w (by_porter (ClosedEvent p.number)) ≡ true) × HasCause p w
+IsWanted (Bytes n) p w = (p.unsent ≡ []) × (0 < length (queue_of p.number w))
+IsWanted Line p w = ((line : List ℕ) → is_lawful w (by_porter (Input p.number line)) ≡ true) × (p.cut.ready ≢ [])
+IsWanted Time p w = Unit {0}
 
 -- An entry for a connection that isn't its last one: a line that waits in the account, bytes of its queue where none are kept, or a moment.
 pub data PeerStep (p p' : Peer) (w : World) (event : Event) : Type 0 where

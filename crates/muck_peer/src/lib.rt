@@ -8,5 +8,5 @@ mod steps;
 mod time;
 
 pub use peer::Peer;
-pub use steps::Chose;
+pub use steps::{Chose, Want};
 pub use time::tells_time;

@@ -13,13 +13,14 @@ use Rattle.spec_serve.specs.Promises.{Tally}
 use Rattle.spec_serve.specs.inner.Keeping.{Peer}
 use Rattle.muck_machine.specs.inner.Seats.{Chair, Rests, Left as LeftSeat, Waited}
 use Rattle.muck_peer.specs.Moves.{Clocked}
+use Rattle.muck_work.specs.declared.jobs.Job.TheVariants.{Line, Claim as JobClaim, Idle as JobIdle, Died as JobDied}
 use Rattle.muck_porter.specs.declared.desk.Fault.TheVariants.{NoMemory, Spent}
 use Rattle.muck_porter.specs.declared.deeds.Deed.{Deed}
 use Rattle.muck_porter.specs.declared.deeds.Deed.TheVariants.{Open, Slice, Time, Stop, Leave, Die}
 use Rattle.muck_porter.specs.declared.deeds.Did.{Did}
 use Rattle.muck_porter.specs.declared.deeds.Did.TheVariants.{Done, Timed, Dead}
 use Rattle.muck_porter.specs.declared.deeds.Worked.{Worked}
-use Rattle.muck_porter.specs.declared.deeds.Worked.TheVariants.{Done as WorkedDone, Claimed, Idle, Ready as WorkedReady, Dead as WorkedDead}
+use Rattle.muck_porter.specs.declared.deeds.Worked.TheVariants.{Did as DidJob, Waits, Ready as WorkReady}
 use Rattle.muck_porter.specs.inner.Kept.{tally, IsAt, IsFree, Resting, Ready, ReadyTimed, BooksAt}
 use Rattle.muck_porter.specs.inner.Deeds.{IsMoment, WorkedAs, DidAs}
 use Rattle.muck_porter.specs.inner.Turns.{PorterTurn}
@@ -185,14 +186,14 @@ module _ (d : Stand) (me' : Chair) (table' : TableId) (id' : ℕ) (noted' : Bool
 
   -- A turn of work, at once behind a moment.
   pub work_goes : ReadyTimed d.noted d.me → (worked : Worked) → WorkedAs worked event → Goes (work_far worked) d held
-  work_goes timed WorkedDone x = goes_held Far.free (sits_held, ready_at (at_stage (Exec x.0) Stage.timed Stage.unbound x.1 timed.timed refl)) (λ t. unseen (Exec x.0) x.1 (record { halts = refl; talked = λ v ts. refl }))
-  work_goes timed (Claimed pid) x = goes_held (Far.claimed pid)
+  work_goes timed (DidJob Line) x = goes_held Far.free (sits_held, ready_at (at_stage (Exec x.0) Stage.timed Stage.unbound x.1 timed.timed refl)) (λ t. unseen (Exec x.0) x.1 (record { halts = refl; talked = λ v ts. refl }))
+  work_goes timed (DidJob (JobClaim pid)) x = goes_held (Far.claimed pid)
       (sits_held, resting_held, (d.me.0.seen ++ taken.1.others, taken.1.item, taken.1.seen, taken.1.entry ∙ ap by_porter x), at_stage (Claim pid) Stage.timed (Stage.claimed pid) x timed.timed refl)
       (λ t. unseen (Claim pid) x (record { halts = refl; talked = λ v ts. refl }))
-  work_goes timed Idle (inl x) = goes_held Far.free (sits_held, ready_at (at_stage IdleEvent Stage.timed Stage.unbound x timed.timed refl)) (λ t. unseen IdleEvent x (record { halts = refl; talked = λ v ts. refl }))
-  work_goes timed Idle (inr x) = moment_free (IsFree.timed timed.timed) x
-  work_goes timed WorkedReady x = moment_free (IsFree.timed timed.timed) x
-  work_goes timed WorkedDead x = died_goes d.peers d.coming (at_stage Died Stage.timed Stage.ended x timed.timed refl) x
+  work_goes timed (DidJob JobIdle) x = goes_held Far.free (sits_held, ready_at (at_stage IdleEvent Stage.timed Stage.unbound x timed.timed refl)) (λ t. unseen IdleEvent x (record { halts = refl; talked = λ v ts. refl }))
+  work_goes timed Waits x = moment_free (IsFree.timed timed.timed) x
+  work_goes timed WorkReady x = moment_free (IsFree.timed timed.timed) x
+  work_goes timed (DidJob JobDied) x = died_goes d.peers d.coming (at_stage Died Stage.timed Stage.ended x timed.timed refl) x
 
   -- Deeds.
 

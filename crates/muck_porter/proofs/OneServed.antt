@@ -17,7 +17,7 @@ use Rattle.spec_serve.proofs.Booking.{set_there}
 use Rattle.muck_machine.specs.inner.Seats.{Chair, Rests}
 use Rattle.muck_peer.specs.Moves.{PeerStep}
 use Rattle.muck_porter.specs.declared.deeds.Served.{Served}
-use Rattle.muck_porter.specs.declared.deeds.Served.TheVariants.{Went as ServedOne, Closed as ClosedOne, Nobody}
+use Rattle.muck_porter.specs.declared.deeds.Served.TheVariants.{Went as ServedOne, Closed as ClosedOne, Nobody, Dead as ServedDead}
 use Rattle.muck_porter.specs.inner.Notes.{note_in}
 use Rattle.muck_porter.specs.inner.Kept.{tally, BooksAt, IsFree, Ready, ReadyTimed}
 use Rattle.muck_porter.specs.inner.Deeds.{ServedAs, ServedFrom}
@@ -32,6 +32,13 @@ peer_free : (own own' : List Logged) (item : Logged) (p p' : Peer) (w : World) (
 peer_free own own' item p p' w event is entry free (PeerStep.heard line more e ready same) = IsFree.unbound (stage_free own own' item is (Input p.number line) Stage.unbound (entry ∙ ap by_porter e) free refl refl)
 peer_free own own' item p p' w event is entry free (PeerStep.taken n e none same) = IsFree.unbound (stage_free own own' item is (Take p.number n) Stage.unbound (entry ∙ ap by_porter e) free refl refl)
 peer_free own own' item p p' w event is entry free (PeerStep.timed t e same) = IsFree.timed (stage_free own own' item is (Moment t) Stage.timed (entry ∙ ap by_porter e) free refl refl)
+
+-- what is one from a place on is one from each before it
+pub served_on : (from at : ℕ) (served : Served) → from ≤ at → ServedFrom at served → ServedFrom from served
+served_on from at (ServedOne i) le place = omega (arith, le, place)
+served_on from at (ClosedOne i) le place = omega (arith, le, place)
+served_on from at Nobody le place = tt
+served_on from at ServedDead le place = tt
 
 -- where the link stands
 pub went_below : (served : Served) (i : ℕ) (ps ps1 : List Peer) (w : World) (event : Event) → served ≡ ServedOne i → ServedAs served ps ps1 w event → i < length ps1

@@ -1,10 +1,13 @@
 -- What the porter enters is no dump.
-use Rattle.std.proofs.Common.{◌≡◌, inl, inr, Bool, false, List, ap}
+use Rattle.std.proofs.Common.{◌≡◌, inl, inr, Bool, false, List, refl, sym, ap, subst}
 use Rattle.muck_model.specs.declared.event.Event.{Event}
 use Rattle.spec_events.specs.World.{World}
 use Rattle.spec_events.specs.Logged.{is_dump}
 use Rattle.spec_serve.specs.inner.Keeping.{Peer}
-use Rattle.muck_peer.specs.Moves.{PeerStep}
+use Rattle.muck_peer.specs.Moves.{PeerStep, IsUntimed}
+use Rattle.muck_work.specs.declared.jobs.Job.{Job}
+use Rattle.muck_work.specs.declared.jobs.Job.TheVariants.{Line, Claim, Idle, Died as JobDied}
+use Rattle.muck_work.specs.inner.Jobs.{JobAs}
 use Rattle.muck_porter.specs.declared.deeds.Deed.{Deed}
 use Rattle.muck_porter.specs.declared.deeds.Deed.TheVariants.{Open, Slice, Time, Stop, Leave, Die}
 use Rattle.muck_porter.specs.declared.deeds.Did.{Did}
@@ -12,7 +15,7 @@ use Rattle.muck_porter.specs.declared.deeds.Did.TheVariants.{Done, Timed, Dead}
 use Rattle.muck_porter.specs.declared.deeds.Served.{Served}
 use Rattle.muck_porter.specs.declared.deeds.Served.TheVariants.{Went as ServedOne, Closed as ClosedOne, Nobody, Dead as ServedDead}
 use Rattle.muck_porter.specs.declared.deeds.Worked.{Worked}
-use Rattle.muck_porter.specs.declared.deeds.Worked.TheVariants.{Done as WorkedDone, Claimed, Idle, Ready, Dead as WorkedDead}
+use Rattle.muck_porter.specs.declared.deeds.Worked.TheVariants.{Did as DidJob, Waits, Ready}
 use Rattle.muck_porter.specs.inner.Deeds.{IsMoment, ServedAs, WorkedAs, DidAs}
 
 moment_quiet : (event : Event) → IsMoment event → is_dump event ≡ false
@@ -30,12 +33,19 @@ served_quiet Nobody ps ps' w event s = moment_quiet event s.0
 served_quiet ServedDead ps ps' w event s = ap is_dump s
 
 pub worked_quiet : (worked : Worked) (event : Event) → WorkedAs worked event → is_dump event ≡ false
-worked_quiet WorkedDone event is = ap is_dump is.1
-worked_quiet (Claimed pid) event is = ap is_dump is
-worked_quiet Idle event (inl is) = ap is_dump is
-worked_quiet Idle event (inr is) = moment_quiet event is
+worked_quiet (DidJob Line) event is = ap is_dump is.1
+worked_quiet (DidJob (Claim pid)) event is = ap is_dump is
+worked_quiet (DidJob Idle) event is = ap is_dump is
+worked_quiet (DidJob JobDied) event is = ap is_dump is
+worked_quiet Waits event is = moment_quiet event is
 worked_quiet Ready event is = moment_quiet event is
-worked_quiet WorkedDead event is = ap is_dump is
+
+-- a job is no moment
+pub job_untimed : (job : Job) (event : Event) → JobAs job event → IsUntimed event
+job_untimed Line event is = subst IsUntimed (sym is.1) (λ w a. refl)
+job_untimed (Claim pid) event is = subst IsUntimed (sym is) (λ w a. refl)
+job_untimed Idle event is = subst IsUntimed (sym is) (λ w a. refl)
+job_untimed JobDied event is = subst IsUntimed (sym is) (λ w a. refl)
 
 pub did_quiet : (deed : Deed) (did : Did) (noted : Bool) (ps : List Peer) (w : World) (event : Event) → DidAs deed did noted ps w event → is_dump event ≡ false
 did_quiet (Open d) Dead noted ps w event is = ap is_dump is

@@ -1,15 +1,16 @@
 // What the porter does in a hold: each deed makes one entry.
-ghost use Rattle.std.specs.Prelude.{◌≡◌, ◌≤◌, ℕ, [], true, false};
+ghost use Rattle.std.specs.Prelude.{◌≡◌, ◌<◌, ℕ, [], IfSome, length, true, false};
 ghost use Rattle.muck_model.specs.declared.event.Event.{Event};
 ghost use Rattle.spec_events.specs.Histories.{now, entered, by_porter};
 ghost use Rattle.spec_events.specs.Steps.{has_claim};
 ghost use Rattle.muck_peer.specs.Moves.{Clocked, IsUntimed};
-ghost use Rattle.muck_porter.specs.inner.Deeds.{AllOff, ServedAs, ServedFrom, WorkedAs, DidAs, ClaimOf};
+ghost use Rattle.muck_porter.specs.inner.Deeds.{AllOff, IsWantedAt, IsFound, ServedAs, ServedFrom, WorkedAs, DidAs, ClaimOf};
 
 use muck_io::Clock;
 use muck_machine::World;
 use muck_model::NoMemory;
-use muck_peer::{Chose, Peer, tells_time};
+use muck_peer::{Chose, Peer, Want, tells_time};
+use muck_work::{Job, does_job};
 
 /// A deed that isn't for one peer, nor work.
 #[derive(Drop)]
@@ -52,16 +53,12 @@ pub enum Served {
 /// What a turn of work did.
 #[derive(Drop)]
 pub enum Worked {
-    /// A line was done.
-    Done,
-    /// A process was claimed.
-    Claimed(i32),
-    /// There was nothing to do.
-    Idle,
-    /// The run is stopping, and each link that is open is worked off.
+    /// A job was done.
+    Did(Job),
+    /// The run is stopping: a moment was entered.
+    Waits,
+    /// The same, and each link that is open is worked off.
     Ready,
-    /// Memory was wanted.
-    Dead,
 }
 
 fn all_worked_off(peers: &Vec<Peer>, world: &World) -> bool
@@ -76,19 +73,42 @@ fn all_worked_off(peers: &Vec<Peer>, world: &World) -> bool
     true
 }
 
-// The first peer from a place on that wants something; their count where none does.
-fn finds(peers: &Vec<Peer>, from: usize, world: &World) -> usize
+// The first peer from a place on that wants something, and what.
+fn finds(peers: &Vec<Peer>, from: usize, world: &World) -> Option<(usize, Want)>
     requires { (now world.now).dead ≡ false }
-    ensures { from ≤ result }
+    ensures { IfSome result (λ found. IsFound from peers.now.items (now world.now) found.0 found.1) }
 {
     let mut at = from;
     while at < peers.len() {
-        if peers[at].wants(world) {
-            return at;
+        let peer = &peers[at];
+        match peer.wants(world) {
+            Some(want) => return Some((at, want)),
+            None => at += 1,
         }
-        at += 1;
     }
-    at
+    None
+}
+
+// One entry, for the peer at this place, which wants this.
+fn serves_at<C: Clock>(
+    world: &mut World,
+    clock: &mut C,
+    peers: &mut Vec<Peer>,
+    at: usize,
+    want: Want,
+) -> Served
+    requires alive { (now world.old).dead ≡ false }
+    requires below { at < length peers.old.items }
+    requires wanted { IsWantedAt peers.old.items (now world.old) at want }
+    ensures step { (event : Event) × (world.new ≡ entered world.old (by_porter event)) × ServedAs result peers.old.items peers.new.items (now world.old) event × Clocked (C.answers clock.old) (C.answers clock.new) (now world.old) event }
+    ensures place { ServedFrom at result }
+{
+    let peer = &mut peers[at];
+    match peer.chooses(want, world, clock) {
+        Chose::Went => Served::Went(at),
+        Chose::Closed => Served::Closed(at),
+        Chose::Dead => Served::Dead,
+    }
 }
 
 /// One entry, for the first peer from a place on that wants something.
@@ -105,39 +125,12 @@ pub fn serves<C: Clock>(
         world.died(0);
         return Served::Dead;
     }
-    let at = finds(peers, from, world);
-    if at >= peers.len() {
-        tells_time(world, clock);
-        return Served::Nobody;
-    }
-    let peer = &mut peers[at];
-    match peer.chooses(world, clock) {
-        Chose::Went => Served::Went(at),
-        Chose::Closed => Served::Closed(at),
-        Chose::Dead => Served::Dead,
-    }
-}
-
-// There is nothing to do.
-fn idles<C: Clock>(world: &mut World, clock: &mut C) -> Worked
-    requires { (now world.old).dead ≡ false }
-    ensures { (event : Event) × (world.new ≡ entered world.old (by_porter event)) × WorkedAs result event × Clocked (C.answers clock.old) (C.answers clock.new) (now world.old) event }
-{
-    if world.idle(0) {
-        return Worked::Idle;
-    }
-    tells_time(world, clock);
-    Worked::Idle
-}
-
-// A process is claimed, or there is nothing to do.
-fn claims<C: Clock>(world: &mut World, clock: &mut C) -> Worked
-    requires { (now world.old).dead ≡ false }
-    ensures { (event : Event) × (world.new ≡ entered world.old (by_porter event)) × WorkedAs result event × Clocked (C.answers clock.old) (C.answers clock.new) (now world.old) event }
-{
-    match world.claim(0) {
-        Some(pid) => Worked::Claimed(pid),
-        None => idles(world, clock),
+    match finds(peers, from, world) {
+        Some((at, want)) => serves_at(world, clock, peers, at, want),
+        None => {
+            tells_time(world, clock);
+            Served::Nobody
+        }
     }
 }
 
@@ -147,24 +140,14 @@ pub fn works<C: Clock>(world: &mut World, clock: &mut C, peers: &Vec<Peer>) -> W
 {
     if world.is_dead() {
         world.died(0);
-        return Worked::Dead;
+        return Worked::Did(Job::Died);
     }
-    if world.is_stopping() {
-        let ready = all_worked_off(peers, world);
-        tells_time(world, clock);
-        if ready {
-            return Worked::Ready;
-        }
-        return Worked::Idle;
+    if !world.is_stopping() {
+        return Worked::Did(does_job(world, 0));
     }
-    let found = match world.exec(0) {
-        Ok(found) => found,
-        Err(NoMemory) => return Worked::Dead,
-    };
-    match found {
-        Some(_) => Worked::Done,
-        None => claims(world, clock),
-    }
+    let ready = all_worked_off(peers, world);
+    tells_time(world, clock);
+    if ready { Worked::Ready } else { Worked::Waits }
 }
 
 // A connection is opened, where it may, and not once the note of the links was made.

@@ -14,6 +14,7 @@ use crate::desk::{Desk, Fault};
 use muck_io::{Clock, Gate, Rest};
 use muck_links::Links;
 use muck_machine::World;
+use muck_work::{gives, takes};
 use std::sync::Wait;
 use turn_lock::{Held, Spent, Turn, TurnSeat};
 
@@ -51,10 +52,9 @@ pub fn begins<W: Wait, L: Links, R: Rest>(
     ensures waited { OnErr result (Waited seat.old.me.0 seat.new.me.0 × (noted.new ≡ noted.old)) }
     ensures left { OnErr result (Left 0 seat.new.me × (2 ^ 62 ≤ length seat.new.me.0.seen)) }
 {
-    match turn.hold(rt, seat, rest) {
+    match takes(rt, turn, seat, rest) {
         Ok(held) => {
             let mut held = held;
-            held.state.is_dead();
             marks(&mut held.state, links, noted);
             Ok(held)
         }
@@ -104,7 +104,7 @@ impl<'a, 'w, 't, 's, 'l, 'c, 'g, 'r, W: Wait, L: Links, C: Clock, G: Gate, R: Re
             Ok(held) => {
                 let mut held = held;
                 let worked = works(&mut held.state, self.clock, &*self.peers);
-                self.turn.give(self.seat, held, self.rest);
+                gives(self.turn, self.seat, held, self.rest);
                 Ok(worked)
             }
             Err(_) => Err(Fault::Spent),
@@ -128,7 +128,7 @@ impl<'a, 'w, 't, 's, 'l, 'c, 'g, 'r, W: Wait, L: Links, C: Clock, G: Gate, R: Re
             Ok(held) => {
                 let mut held = held;
                 let did = does(deed, &mut held.state, self.clock, &*self.peers, self.noted);
-                self.turn.give(self.seat, held, self.rest);
+                gives(self.turn, self.seat, held, self.rest);
                 settled(did)
             }
             Err(_) => Err(Fault::Spent),

@@ -12,6 +12,7 @@ use muck_io::{Clock, Gate, Rest, place};
 use muck_links::{Accepted, Links};
 use muck_model::NoMemory;
 use muck_peer::Peer;
+use muck_work::{Job, gives};
 use std::sync::Wait;
 
 // The most links that are open at once.
@@ -126,7 +127,7 @@ impl<'a, 'w, 't, 's, 'l, 'c, 'g, 'r, W: Wait, L: Links, C: Clock, G: Gate, R: Re
                     let mut held = held;
                     let deed = Deed::Open(peer.number());
                     let did = does(&deed, &mut held.state, self.clock, &*self.peers, self.noted);
-                    self.turn.give(self.seat, held, self.rest);
+                    gives(self.turn, self.seat, held, self.rest);
                     match did {
                         Did::Done => {
                             self.peers.push_reserved(peer);
@@ -170,14 +171,17 @@ impl<'a, 'w, 't, 's, 'l, 'c, 'g, 'r, W: Wait, L: Links, C: Clock, G: Gate, R: Re
     {
         match self.works() {
             Ok(worked) => match worked {
-                Worked::Done => Ok(Work::Line),
-                Worked::Claimed(pid) => match self.does(&Deed::Slice(pid)) {
-                    Ok(_) => Ok(Work::Busy),
-                    Err(fault) => Err(fault),
+                Worked::Did(job) => match job {
+                    Job::Line => Ok(Work::Line),
+                    Job::Claim(pid) => match self.does(&Deed::Slice(pid)) {
+                        Ok(_) => Ok(Work::Busy),
+                        Err(fault) => Err(fault),
+                    },
+                    Job::Idle => Ok(Work::Idle),
+                    Job::Died => Err(Fault::NoMemory),
                 },
-                Worked::Idle => Ok(Work::Idle),
+                Worked::Waits => Ok(Work::Idle),
                 Worked::Ready => Ok(Work::Ready),
-                Worked::Dead => Err(Fault::NoMemory),
             },
             Err(fault) => Err(fault),
         }

@@ -12,6 +12,7 @@ use crate::holds::begins;
 use muck_io::{Clock, Gate, Rest};
 use muck_links::Links;
 use muck_peer::Peer;
+use muck_work::gives;
 use std::sync::Wait;
 
 // What is kept of a link is written, at once behind its hold. Answers the place behind it.
@@ -100,7 +101,7 @@ impl<'a, 'w, 't, 's, 'l, 'c, 'g, 'r, W: Wait, L: Links, C: Clock, G: Gate, R: Re
             Ok(held) => {
                 let mut held = held;
                 let served = serves(&mut held.state, self.clock, self.peers, from);
-                self.turn.give(self.seat, held, self.rest);
+                gives(self.turn, self.seat, held, self.rest);
                 match served {
                     Served::Went(at) => {
                         let next = writes(self.links, self.noted, self.peers, at);

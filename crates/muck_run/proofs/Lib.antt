@@ -16,7 +16,3 @@ pub mod Noted
 pub mod Untouched
 pub mod Called
 pub mod Drilled
-pub mod Seeing
-pub mod Onward
-pub mod Scripts
-pub mod Debugged

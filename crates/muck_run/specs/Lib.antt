@@ -1,5 +1,4 @@
 pub mod Outcome
 pub mod Drill
 pub mod Done
-pub mod Debugged
 pub mod inner

@@ -3,4 +3,3 @@ pub mod Dumps
 pub mod Ends
 pub mod Drills
 pub mod Opens
-pub mod Seen

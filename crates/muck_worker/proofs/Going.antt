@@ -1,70 +1,51 @@
 -- From turn to turn.
-use Rattle.std.proofs.Common.{◌≡◌, ℕ, ℤ, Bool, true, false, ◌==◌, List, [], ◌∷◌, ◌++◌, refl, sym, ◌∙◌, ap, subst, arith, append-nil, append_assoc, Some}
-use Rattle.std.proofs.lemmas.Bool.Decides.{nat_tests}
-use Rattle.turn_lock.specs.Histories.{StartsWith, kept, own_of}
-use Rattle.muck_model.specs.declared.event.Entry.{Entry}
+use Rattle.std.proofs.Common.{◌≡◌, ℕ, ℤ, ◌<◌, ◌==◌, Bool, true, false, cond, List, [], ◌∷◌, ◌++◌, refl, sym, ◌∙◌, ap, subst, arith, append-nil, append_assoc, Some, None}
+use Rattle.std.specs.Prelude.{nat_lt}
+use Rattle.std.proofs.lemmas.Bool.{ne_eqb, lt-ltb}
+use Rattle.turn_lock.specs.Histories.{StartsWith}
 use Rattle.muck_model.specs.declared.event.Event.{Event}
-use Rattle.muck_model.specs.declared.event.Event.TheVariants.{Claim}
+use Rattle.muck_model.specs.declared.event.Event.TheVariants.{Exec, Claim, Idle, Died}
 use Rattle.spec_events.specs.declared.logged.Logged.{Logged}
-use Rattle.spec_events.specs.Histories.{History, now, after, AllLawful}
-use Rattle.spec_events.specs.Steps.{has_claim}
-use Rattle.spec_events.specs.Logged.{is_dump, logged, logged_by, bare_item, entries_of, events_of, NoNotes, NoCounts, IsOrderly}
-use Rattle.spec_events.specs.Own.{Stage, next, stage_of}
-use Rattle.spec_events.proofs.Logging.{entries_logged, entries_append, events_append, no_notes_one, no_counts_one, orderly_bare}
+use Rattle.spec_events.specs.Histories.{History, now}
+use Rattle.spec_events.specs.Logged.{bare_item, events_of, NoNotes, NoCounts}
+use Rattle.spec_events.specs.Own.{Stage, porter_next, worker_next, dumper_next, party_next, next, stage_of}
+use Rattle.spec_events.proofs.Logging.{events_append, no_notes_one, no_counts_one}
 use Rattle.spec_events.proofs.Owning.{stage_more, well_formed, over_with}
-use Rattle.spec_claims.specs.inner.Claims.{AreOthers}
-use Rattle.spec_claims.proofs.Staying.{claim_stays}
-use Rattle.muck_machine.specs.inner.Seats.{Sight, Chair, Rests, Waited, SameLists, Turned}
-use Rattle.muck_machine.proofs.Seating.{others_none, left_rests, none_or_more, seen_later}
+use Rattle.muck_machine.specs.inner.Seats.{Sight, Chair, Rests, SameLists, Turned}
+use Rattle.muck_machine.proofs.Seating.{left_rests, seen_later}
+use Rattle.muck_work.specs.declared.jobs.Job.{Job}
+use Rattle.muck_work.specs.declared.jobs.Job.TheVariants.{Line, Claim as JobClaim, Idle as JobIdle, Died as JobDied}
+use Rattle.muck_work.specs.inner.Jobs.{by, JobAs}
+use Rattle.muck_work.specs.inner.Holds.{HasTurn}
+use Rattle.muck_work.proofs.Holding.{claim_held}
 use Rattle.muck_worker.specs.declared.working.Why.TheVariants.{Fine, NoMemory}
 use Rattle.muck_worker.specs.declared.deeds.Task.{Task}
 use Rattle.muck_worker.specs.declared.deeds.Task.TheVariants.{Work, Slice, End}
-use Rattle.muck_worker.specs.declared.deeds.Did.TheVariants.{Over, Failed}
+use Rattle.muck_worker.specs.declared.deeds.Did.TheVariants.{Went, Claimed, Over, Failed}
 use Rattle.muck_worker.specs.inner.Working.{WorkerReady, WorkerDone}
-use Rattle.muck_worker.specs.inner.Deeds.{by, stage_for, IsClaimed, DidAs, IsOpen, IsHeld, Works}
-
--- A claim that is held.
-
-others_are : (p : ℕ) (ls : List Logged) → own_of logged_by p ls ≡ [] → AreOthers p (entries_of ls)
-others_are p [] none = tt
-others_are p (l ∷ ls) none = from (l.entry.party == p) refl none (others_are p ls)
-  where
-    other : (a b : ℕ) → (a == b) ≡ false → ¬ (a ≡ b)
-    other a b is = λ same. grind (arith, nat_tests)
-
-    from : (t : Bool) → (l.entry.party == p) ≡ t → kept t l (own_of logged_by p ls) ≡ [] → (own_of logged_by p ls ≡ [] → AreOthers p (entries_of ls)) → (¬ (l.entry.party ≡ p)) × AreOthers p (entries_of ls)
-    from true is e rest = absurd (none_or_more l (own_of logged_by p ls) e)
-    from false is e rest = (other l.entry.party p is, rest e)
-
-is_now : (h : History) → now h ≡ after h.start h.entries
-unfolding now
-is_now h = refl
+use Rattle.muck_worker.specs.inner.Deeds.{stage_for, did_as, IsClaimed, DidAs, IsOpen, IsHeld, Works}
 
 -- what a seat has claimed last is claimed in the world that it is given
-pub open_held : (party : ℕ) (task : Task) (me : Chair) (v : Sight) (h : History) → Rests party me → Waited me.0 v → logged h ≡ v.seen → v.own ≡ own_of logged_by v.party v.seen → AllLawful h.start h.entries →
-    IsHeld party task me.0 → IsOpen party task (now h)
-open_held party Work me v h rests waited seen own lawful held = tt
-open_held party End me v h rests waited seen own lawful held = tt
-open_held party (Slice pid) me v h rests waited seen own lawful held =
-    let entry : Entry = by party (Claim pid) in
-    let rest : List Logged = waited.0.0 in
-    let mine : own_of logged_by party (me.0.seen ++ rest) ≡ own_of logged_by party me.0.seen =
-    ap (own_of logged_by party) (sym waited.0.1) ∙ ap (λ (p : ℕ). own_of logged_by p v.seen) (sym (waited.2 ∙ rests.party)) ∙ sym own ∙ waited.1 ∙ rests.own
-    in
-    let others : AreOthers party (entries_of rest) = others_are party rest (others_none party me.0.seen rest mine) in
-    let whole : h.entries ≡ entries_of held.0 ++ entry ∷ entries_of rest =
-    sym (entries_logged h)
-    ∙ ap entries_of (seen ∙ waited.0.1 ∙ ap (λ (ls : List Logged). ls ++ rest) held.1)
-    ∙ entries_append (held.0 ++ bare_item entry ∷ []) rest
-    ∙ ap (λ (es : List Entry). es ++ entries_of rest) (entries_append held.0 (bare_item entry ∷ []))
-    ∙ append_assoc (entries_of held.0) (entry ∷ []) (entries_of rest)
-    in
-    ap (has_claim party pid) (is_now h ∙ ap (after h.start) whole)
-    ∙ claim_stays h.start (entries_of held.0) party pid (entries_of rest) (subst (AllLawful h.start) whole lawful) others
+pub open_held : (party : ℕ) (task : Task) (me me' : Chair) (h : History) → HasTurn party me me' h → IsHeld party task me.0 → IsOpen party task (now h)
+open_held party Work me me' h turn held = tt
+open_held party End me me' h turn held = tt
+open_held party (Slice pid) me me' h turn held = claim_held party pid me me' h turn held
 
--- what is no dump may be anybody's
-pub bare_orderly : (party : ℕ) (event : Event) → is_dump event ≡ false → IsOrderly (bare_item (by party event))
-bare_orderly party event other = orderly_bare (by party event) (λ dump. absurd (let both : ◌≡◌ {A = Bool} true false = sym dump ∙ other in cc))
+-- A job, as a worker's.
+
+-- what a worker may is what workers may
+as_worker : (party : ℕ) (stage : Stage) (event : Event) → (0 < party) × (party < 9) → party_next party stage event ≡ worker_next stage event
+as_worker party stage event worker =
+    let some : 0 < party = worker.0 in
+    ap (λ b. cond b (porter_next stage event) (cond (nat_lt party 9) (worker_next stage event) (cond (party == 9) (dumper_next stage event) None))) (ne_eqb party 0 (λ none. omega (arith, some, none)))
+    ∙ ap (λ b. cond b (worker_next stage event) (cond (party == 9) (dumper_next stage event) None)) (lt-ltb party 9 worker.1)
+
+pub job_done : (party : ℕ) (job : Job) (stops : Bool) (event : Event) → (0 < party) × (party < 9) → JobAs job event → DidAs party Work (did_as job stops) event
+job_done party Line stops event worker is = subst (λ (e : Event). DidAs party Work Went e) (sym is.1) (as_worker party Stage.unbound (Exec is.0) worker, tt, refl)
+job_done party (JobClaim pid) stops event worker is = subst (λ (e : Event). DidAs party Work (Claimed (Slice pid)) e) (sym is) (as_worker party Stage.unbound (Claim pid) worker, refl, refl)
+job_done party JobIdle true event worker is = subst (λ (e : Event). DidAs party Work (did_as JobIdle true) e) (sym is) (as_worker party Stage.unbound Idle worker, tt, refl)
+job_done party JobIdle false event worker is = subst (λ (e : Event). DidAs party Work (did_as JobIdle false) e) (sym is) (as_worker party Stage.unbound Idle worker, tt, refl)
+job_done party JobDied stops event worker is = subst (λ (e : Event). DidAs party Work Failed e) (sym is) (refl, refl, refl)
 
 -- The list of a seat grows.
 
@@ -151,7 +132,7 @@ module _ (party : ℕ) (me : Chair) where
 
 -- a claim is the last thing that the seat has seen
 held_claim : (party : ℕ) (pid : ℤ) (v v' : Sight) (event : Event) → event ≡ Claim pid → Turned v v' (bare_item (by party event)) → IsHeld party (Slice pid) v'
-held_claim party pid v v' event is t = (v.seen ++ t.others, t.seen ∙ ap (λ (e : Event). (v.seen ++ t.others) ++ bare_item (by party e) ∷ []) is)
+held_claim party pid v v' event is t = (v.seen ++ t.others, bare_item (by party event), t.seen, ap (by party) is)
 
 pub held_next : (party : ℕ) (next : Task) (v v' : Sight) (event : Event) → IsClaimed next event → Turned v v' (bare_item (by party event)) → IsHeld party next v'
 held_next party Work v v' event said t = tt

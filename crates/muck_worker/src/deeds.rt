@@ -1,12 +1,14 @@
 // What a worker does in a hold: one entry.
-ghost use Rattle.std.specs.Prelude.{◌≡◌, ◌<◌, ℕ, None, true, false};
+ghost use Rattle.std.specs.Prelude.{◌≡◌, ◌<◌, true, false, if◌then◌else◌};
 ghost use Rattle.muck_model.specs.declared.event.Event.{Event};
 ghost use Rattle.spec_events.specs.Histories.{now, entered};
-ghost use Rattle.spec_events.specs.Steps.{has_claim, next_ready, next_process};
-ghost use Rattle.muck_worker.specs.inner.Deeds.{by, DidAs, IsOpen};
+ghost use Rattle.spec_events.specs.Steps.{has_claim};
+ghost use Rattle.muck_work.specs.inner.Jobs.{by};
+ghost use Rattle.muck_worker.specs.inner.Deeds.{did_as, DidAs, IsOpen};
 
 use muck_machine::{Sliced, World};
 use muck_model::NoMemory;
+use muck_work::{Job, does_job};
 
 /// What a worker has to do in its next turn.
 #[derive(Clone, Copy)]
@@ -50,31 +52,22 @@ fn slices(world: &mut World, party: u8, pid: i32) -> Did
     }
 }
 
-// There is nothing to do.
-fn idles(world: &mut World, party: u8) -> Did
-    requires alive { (now world.old).dead ≡ false }
-    requires worker { (0 < party) × (party < 9) }
-    requires no_line { next_ready (now world.old) ≡ None }
-    requires no_process { next_process (now world.old) ≡ None }
-    ensures { (event : Event) × (world.new ≡ entered world.old (by party event)) × DidAs party Task.Work result event }
+// There was nothing to do.
+fn idled(stops: bool) -> Did
+    ensures { result ≡ (if stops then Did.Stops else Did.Idled) }
 {
-    let stops = world.is_stopping();
-    if !world.idle(party) {
-        unreachable!()
-    }
     if stops { Did::Stops } else { Did::Idled }
 }
 
-// A process is claimed, or there is nothing to do.
-fn claims(world: &mut World, party: u8) -> Did
-    requires alive { (now world.old).dead ≡ false }
-    requires worker { (0 < party) × (party < 9) }
-    requires no_line { next_ready (now world.old) ≡ None }
-    ensures { (event : Event) × (world.new ≡ entered world.old (by party event)) × DidAs party Task.Work result event }
+// What a job is to a worker, which is to end once there is nothing to do and the run is stopping.
+fn outcome_of(job: Job, stops: bool) -> Did
+    ensures { result ≡ did_as job stops }
 {
-    match world.claim(party) {
-        Some(pid) => Did::Claimed(Task::Slice(pid)),
-        None => idles(world, party),
+    match job {
+        Job::Line => Did::Went,
+        Job::Claim(pid) => Did::Claimed(Task::Slice(pid)),
+        Job::Idle => idled(stops),
+        Job::Died => Did::Failed,
     }
 }
 
@@ -84,11 +77,9 @@ fn serves(world: &mut World, party: u8) -> Did
     requires worker { (0 < party) × (party < 9) }
     ensures { (event : Event) × (world.new ≡ entered world.old (by party event)) × DidAs party Task.Work result event }
 {
-    match world.exec(party) {
-        Ok(Some(_)) => Did::Went,
-        Ok(None) => claims(world, party),
-        Err(NoMemory) => Did::Failed,
-    }
+    let stops = world.is_stopping();
+    let job = does_job(world, party);
+    outcome_of(job, stops)
 }
 
 // It has seen the stop; or else it works on.

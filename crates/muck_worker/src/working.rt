@@ -4,11 +4,13 @@ ghost use Rattle.muck_model.specs.declared.event.Event.{Event};
 ghost use Rattle.spec_events.specs.Logged.{bare_item};
 ghost use Rattle.muck_machine.specs.inner.Seats.{Rests, Left, Waited, Turned};
 ghost use Rattle.muck_worker.specs.inner.Working.{WorkerReady, WorkerDone};
-ghost use Rattle.muck_worker.specs.inner.Deeds.{by, DidAs, IsHeld};
+ghost use Rattle.muck_work.specs.inner.Jobs.{by};
+ghost use Rattle.muck_worker.specs.inner.Deeds.{DidAs, IsHeld};
 
 use crate::deeds::{Did, Task, works};
 use muck_io::{Gate, Rest, place};
 use muck_machine::World;
+use muck_work::{gives, takes};
 use std::sync::Wait;
 use turn_lock::{Spent, Turn, TurnSeat};
 
@@ -40,12 +42,10 @@ fn worker_turn<W: Wait, R: Rest>(
     ensures ok { IfOk result (λ did. Rests party seat.new.me × ((event : Event) × Turned seat.old.me.0 seat.new.me.0 (bare_item (by party event)) × DidAs party task did event)) }
     ensures err { OnErr result (Left party seat.new.me × Waited seat.old.me.0 seat.new.me.0 × (2 ^ 62 ≤ length seat.new.me.0.seen)) }
 {
-    let held = turn.hold(rt, seat, rest)?;
+    let held = takes(rt, turn, seat, rest)?;
     let mut held = held;
-    // For contracts alone: each entry so far is lawful where it stands.
-    let _dead = held.state.is_dead();
     let did = works(&mut held.state, party, task);
-    turn.give(seat, held, rest);
+    gives(turn, seat, held, rest);
     Ok(did)
 }
 

@@ -2,7 +2,7 @@
 ghost use Rattle.std.specs.Prelude.{◌≡◌, ◌↔◌, ℕ, true, false, map, string_bytes, [], List, Some, None};
 ghost use Rattle.std.specs.Option.{option_map};
 ghost use Rattle.muck_mirroring.specs.Mirroring.{MirrorDone};
-ghost use Rattle.muck_run.specs.Debugged.{DebugDone};
+ghost use Rattle.muck_watching.specs.Debugged.{DebugDone};
 ghost use Rattle.muck_run.specs.Done.{RunDone, DrillDone};
 ghost use Rattle.muck_run.specs.Outcome.{status_of};
 ghost use Rattle.muckd.specs.Serving.{is_served, ServeDone};
@@ -15,7 +15,8 @@ use muck_io::{Clock, Gate, Rest, Sink, Source};
 use muck_links::Links;
 use muck_mirroring::mirror;
 use muck_model::Tale;
-use muck_run::{Why, debug, drill, run};
+use muck_run::{Why, drill, run};
+use muck_watching::debug;
 use std::alloc::Global;
 use std::sync::Wait;
 use std::thread::Threads;

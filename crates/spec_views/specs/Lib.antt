@@ -1,1 +1,3 @@
+pub mod inner
 pub mod Views
+pub mod Showing

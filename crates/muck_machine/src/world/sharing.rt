@@ -2,9 +2,8 @@
 ghost use Rattle.std.specs.Prelude.{◌≡◌, false, if◌then◌else◌, is_some, not};
 ghost use Rattle.std.specs.List.{count_by};
 ghost use Rattle.muck_model.specs.declared.event.Event.{Event};
-ghost use Rattle.spec_live.specs.Connections.{is_ready};
 ghost use Rattle.spec_live.specs.Objects.{is_garbage};
-ghost use Rattle.spec_events.specs.Steps.{is_lawful, passes, is_dump_due};
+ghost use Rattle.spec_events.specs.Steps.{is_lawful, is_dump_due};
 ghost use Rattle.spec_events.specs.Histories.{now, entered, links_noted};
 ghost use Rattle.spec_talks.specs.Counts.{counts};
 
@@ -61,16 +60,6 @@ impl World {
         ensures { self.new ≡ links_noted self.old (counts (L.told links.now).sessions) }
     {
         self.past.note_links::<Brand, L>(links);
-    }
-
-    /// Whether the connection is there, and a line waits on it that may be done. On a dead world nothing is said of the answer.
-    pub fn is_ready(&self, d: u32) -> bool
-        ensures { (now self.now).dead ≡ false → result ≡ passes is_ready d (now self.now) }
-    {
-        match self.connection(d) {
-            Some(c) => c.is_ready(),
-            None => false,
-        }
     }
 
     /// Whether a dump is asked, or so many seconds passed since the last one began that another is due. On a dead world nothing is said of

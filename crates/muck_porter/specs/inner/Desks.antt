@@ -7,10 +7,11 @@ use Rattle.spec_events.specs.Own.{Stage}
 use Rattle.spec_serve.specs.Promises.{Tally}
 use Rattle.spec_serve.specs.inner.Keeping.{Peer}
 use Rattle.muck_machine.specs.inner.Seats.{Chair, SameLists}
+use Rattle.muck_work.specs.inner.Holds.{HasClaimed}
 use Rattle.muck_porter.specs.declared.desk.Desk.{Desk}
 use Rattle.muck_porter.specs.declared.desk.Fault.{Fault}
 use Rattle.muck_porter.specs.inner.Kept.{tally, BooksAt, KeptBy, Stopped, EndsWithStop, IsAt, Resting, Ready, ReadyTimed, Over}
-use Rattle.muck_porter.specs.inner.Moves.{number_in, IsNew, HasClaimed}
+use Rattle.muck_porter.specs.inner.Moves.{number_in, IsNew}
 use Rattle.muck_porter.specs.inner.Porter.{PorterReady}
 use Rattle.muck_porter.specs.inner.Rounds.{EndsEarly}
 use Rattle.muck_porter.specs.Times.{ByClock}
@@ -72,7 +73,7 @@ Sits d = (d.seat_table ≡ d.table) × IsNew d.coming
 abbrev pub Stands : Far → Stand → Type 0
 Stands Far.free d = Sits d × Ready d.noted d.me
 Stands Far.timed d = Sits d × ReadyTimed d.noted d.me
-Stands (Far.claimed pid) d = Sits d × Resting d.noted d.me × HasClaimed pid d.me.0 × IsAt (Stage.claimed pid) d.me.0.own
+Stands (Far.claimed pid) d = Sits d × Resting d.noted d.me × HasClaimed 0 pid d.me.0 × IsAt (Stage.claimed pid) d.me.0.own
 Stands Far.left d = EndsWithStop d.me.0.own × Over d.me
 Stands (Far.ended fault) d = Over d.me × EndsEarly fault d.me.0
 

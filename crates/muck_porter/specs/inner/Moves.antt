@@ -1,15 +1,13 @@
 -- How the books go over from step to step.
-use Rattle.std.specs.Prelude.{◌≡◌, ℕ, ℤ, Bool, true, ◌⊎◌, List, [], ◌∷◌, ◌++◌, slice_set, is_some, Option, Some, None}
+use Rattle.std.specs.Prelude.{◌≡◌, ℕ, Bool, true, ◌⊎◌, List, [], slice_set, is_some, Option, Some, None}
 use mathlib.Core.Option.{some}
 use lib.ListN.{get_elem?}
 use Rattle.muck_io.specs.Faults.{Rose}
 use Rattle.muck_links.specs.Sessions.{Told}
-use Rattle.muck_model.specs.declared.event.Event.TheVariants.{Claim}
-use Rattle.spec_events.specs.declared.logged.Logged.{Logged}
-use Rattle.spec_events.specs.Histories.{by_porter}
 use Rattle.spec_serve.specs.Promises.{Tally}
 use Rattle.spec_serve.specs.inner.Keeping.{Peer, new_peer}
 use Rattle.muck_machine.specs.inner.Seats.{Sight}
+use Rattle.muck_work.specs.inner.Holds.{HasClaimed}
 use Rattle.muck_porter.specs.declared.deeds.Deed.{Deed}
 use Rattle.muck_porter.specs.declared.deeds.Deed.TheVariants.{Slice}
 use Rattle.muck_porter.specs.inner.Notes.{note_in}
@@ -51,12 +49,8 @@ Loses noted k k' peers = (v : Sight) (b : Tally) (coming : Option ℕ) (n : ℕ)
 abbrev pub LastEntry : Tally → Tally → Sight → Sight → Type 0
 LastEntry k k' v v' = (b : Tally) → PromisedIn b v v.seen k → KeptBy b v' k'
 
--- the last that the seat has seen is the porter's claim
-abbrev pub HasClaimed : ℤ → Sight → Type 0
-HasClaimed pid v = (front : List Logged) × (item : Logged) × (v.seen ≡ front ++ item ∷ []) × (item.entry ≡ by_porter (Claim pid))
-
 abbrev pub ClaimAt : Deed → Sight → Type 0
-ClaimAt (Slice pid) v = HasClaimed pid v
+ClaimAt (Slice pid) v = HasClaimed 0 pid v
 ClaimAt deed v = Unit {0}
 
 -- A cause to stop the run: listening failed, or no link will come any more and none is open.

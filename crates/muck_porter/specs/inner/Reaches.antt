@@ -1,5 +1,7 @@
 -- How far each call of a desk comes, by its answer.
 use Rattle.std.specs.Prelude.{◌≡◌, ℕ, Bool, true, false, ◌⊎◌, [], Option, Some, None, Result, Ok, Err}
+use Rattle.muck_work.specs.declared.jobs.Job.{Job}
+use Rattle.muck_work.specs.declared.jobs.Job.TheVariants.{Line, Claim, Idle as JobIdle, Died as JobDied}
 use Rattle.muck_porter.specs.declared.desk.Fault.{Fault}
 use Rattle.muck_porter.specs.declared.desk.Fault.TheVariants.{NoMemory, Spent}
 use Rattle.muck_porter.specs.declared.deeds.Deed.{Deed}
@@ -7,7 +9,7 @@ use Rattle.muck_porter.specs.declared.deeds.Deed.TheVariants.{Open, Slice, Time,
 use Rattle.muck_porter.specs.declared.deeds.Did.{Did}
 use Rattle.muck_porter.specs.declared.deeds.Did.TheVariants.{Done, Timed, Dead}
 use Rattle.muck_porter.specs.declared.deeds.Worked.{Worked}
-use Rattle.muck_porter.specs.declared.deeds.Worked.TheVariants.{Done as WorkedDone, Claimed, Idle as WorkedIdle, Ready as WorkedReady, Dead as WorkedDead}
+use Rattle.muck_porter.specs.declared.deeds.Worked.TheVariants.{Did as DidJob, Waits, Ready}
 use Rattle.muck_porter.specs.declared.rounds.Round.{Round}
 use Rattle.muck_porter.specs.declared.rounds.Round.TheVariants.{Busy, Idle, Left}
 use Rattle.muck_porter.specs.declared.porting.Why.{Why}
@@ -42,12 +44,16 @@ settled_as Timed = Ok false
 settled_as Dead = Err NoMemory
 
 -- a turn of work
+abbrev pub job_far : Job → Far
+job_far Line = Far.free
+job_far (Claim pid) = Far.claimed pid
+job_far JobIdle = Far.free
+job_far JobDied = Far.ended NoMemory
+
 abbrev pub work_far : Worked → Far
-work_far WorkedDone = Far.free
-work_far (Claimed pid) = Far.claimed pid
-work_far WorkedIdle = Far.free
-work_far WorkedReady = Far.free
-work_far WorkedDead = Far.ended NoMemory
+work_far (DidJob job) = job_far job
+work_far Waits = Far.free
+work_far Ready = Far.free
 
 abbrev pub work_reach : Result Worked Fault → Far
 work_reach (Ok worked) = work_far worked

@@ -1,18 +1,18 @@
 -- One turn of the porter, as its seat sees it.
 use Rattle.std.specs.Prelude.{◌≡◌, ℕ, Bool, true, false, List, [], ◌∷◌, ◌++◌, Some, None}
 use Rattle.turn_lock.specs.Histories.{own_of}
-use Rattle.turn_lock.specs.declared.view.Place.TheVariants.{Holds}
 use Rattle.muck_links.specs.Sessions.{Told}
 use Rattle.muck_model.specs.declared.event.Event.{Event}
 use Rattle.muck_model.specs.declared.note.Note.{Note}
 use Rattle.spec_events.specs.declared.logged.Logged.{Logged}
 use Rattle.spec_events.specs.World.{World}
 use Rattle.spec_events.specs.Histories.{History, now, after, AllLawful, by_porter, links_noted}
-use Rattle.spec_events.specs.Logged.{logged, logged_by, entries_of}
+use Rattle.spec_events.specs.Logged.{logged_by, entries_of}
 use Rattle.spec_talks.specs.Counts.{counts}
 use Rattle.spec_serve.specs.Marks.{LinksNote}
-use Rattle.muck_machine.specs.inner.Beginnings.{beginning, begun}
-use Rattle.muck_machine.specs.inner.Seats.{Sight, Chair, AllOrderly, Waited, SameLists}
+use Rattle.muck_machine.specs.inner.Beginnings.{begun}
+use Rattle.muck_machine.specs.inner.Seats.{Sight, Chair, SameLists}
+use Rattle.muck_work.specs.inner.Holds.{HasTurn}
 
 -- The note of the links is made in a hold, where the world is stopping, memory wasn't wanted, and there is none yet; or not.
 pub data Marked (noted noted' : Bool) (k : Told) (w : World) (counted : LinksNote) : Type 0 where
@@ -24,17 +24,10 @@ pub data MarkedIn (noted noted' : Bool) (k : Told) (h h' : History) : Type 0 whe
   kept : noted' ≡ noted → h' ≡ h → (noted ≡ false → (now h).dead ≡ false → (now h).stopping ≡ false) → MarkedIn noted noted' k h h'
   made : noted ≡ false → noted' ≡ true → (now h).stopping ≡ true → (now h).dead ≡ false → h.counted ≡ None → h' ≡ links_noted h (counts k.sessions) → MarkedIn noted noted' k h h'
 
--- What the porter knows once it has the turn: the history that it was given, which is what its seat has seen, and that it is lawful.
+-- What the porter knows once it has the turn: the history that it was given, and whether it has made the note of the links since.
 pub record Given (noted noted' : Bool) (k : Told) (me me' : Chair) (h' : History) : Type 0 where
-  pub waited : Waited me.0 me'.0
-  pub turn : (n : ℕ) × (me'.0.place ≡ Holds n)
-  pub out : me'.1 ≡ (0, None) ∷ []
-  pub known : me'.0.own ≡ own_of logged_by me'.0.party me'.0.seen
-  pub orderly : AllOrderly me'.0.seen
   pub given : History
-  pub seen : logged given ≡ me'.0.seen
-  pub root : beginning given ∷ [] ≡ me'.0.root
-  pub lawful : AllLawful given.start given.entries
+  pub turn : HasTurn 0 me me' given
   pub marked : MarkedIn noted noted' k given h'
 
 -- One turn: others' items since, and then this entry, made in this world, with the note of the links where it was made.

@@ -1,23 +1,20 @@
 -- What a worker does in a turn, and what it knows between turns.
-use Rattle.std.specs.Prelude.{◌≡◌, ℕ, true, false, List, [], ◌∷◌, ◌++◌, Some}
+use Rattle.std.specs.Prelude.{◌≡◌, ℕ, Bool, true, false, if◌then◌else◌, Some}
 use Rattle.turn_lock.specs.Histories.{StartsWith}
-use Rattle.muck_model.specs.declared.event.Entry.{Entry}
 use Rattle.muck_model.specs.declared.event.Event.{Event}
 use Rattle.muck_model.specs.declared.event.Event.TheVariants.{Claim, StopSeen, Died}
-use Rattle.spec_events.specs.declared.logged.Logged.{Logged}
 use Rattle.spec_events.specs.World.{World}
 use Rattle.spec_events.specs.Steps.{has_claim}
-use Rattle.spec_events.specs.Logged.{is_dump, bare_item, events_of, NoNotes, NoCounts}
+use Rattle.spec_events.specs.Logged.{is_dump, events_of, NoNotes, NoCounts}
 use Rattle.spec_events.specs.Own.{Stage, next, stage_of}
 use Rattle.muck_machine.specs.inner.Seats.{Sight, Chair, Rests, SameLists}
+use Rattle.muck_work.specs.declared.jobs.Job.{Job}
+use Rattle.muck_work.specs.declared.jobs.Job.TheVariants.{Line, Claim as JobClaim, Idle as JobIdle, Died as JobDied}
+use Rattle.muck_work.specs.inner.Holds.{HasClaimed}
 use Rattle.muck_worker.specs.declared.deeds.Task.{Task}
 use Rattle.muck_worker.specs.declared.deeds.Task.TheVariants.{Work, Slice, End}
 use Rattle.muck_worker.specs.declared.deeds.Did.{Did}
 use Rattle.muck_worker.specs.declared.deeds.Did.TheVariants.{Went, Idled, Claimed, Stops, Over, Failed}
-
--- an event of a party
-abbrev pub by : ℕ → Event → Entry
-by party event = record { party = party; event = event }
 
 -- what a worker did last that has this to do
 abbrev pub stage_for : Task → Stage
@@ -33,6 +30,13 @@ stage_after (Claimed task) = stage_for task
 stage_after Stops = Stage.unbound
 stage_after Over = Stage.stopped
 stage_after Failed = Stage.ended
+
+-- what a job is to a worker, by whether the run is stopping
+abbrev pub did_as : Job → Bool → Did
+did_as Line stops = Went
+did_as (JobClaim pid) stops = Claimed (Slice pid)
+did_as JobIdle stops = if stops then Stops else Idled
+did_as JobDied stops = Failed
 
 -- the process of what is to be done was claimed
 abbrev pub IsClaimed : Task → Event → Type 0
@@ -61,7 +65,7 @@ IsOpen party End w = Unit {0}
 
 -- the claim is the last that the seat has seen
 abbrev pub IsHeld : ℕ → Task → Sight → Type 0
-IsHeld party (Slice pid) v = (front : List Logged) × (v.seen ≡ front ++ bare_item (by party (Claim pid)) ∷ [])
+IsHeld party (Slice pid) v = HasClaimed party pid v
 IsHeld party Work v = Unit {0}
 IsHeld party End v = Unit {0}
 

@@ -1,5 +1,5 @@
 -- For whom what is kept as a lock opens, by examples.
-use Rattle.std.specs.Prelude.{◌≡◌, ℕ, pos, negsuc, true, false, List, [], ◌∷◌, codes, Option, Some, None, refl}
+use Rattle.std.specs.Prelude.{◌≡◌, ℕ, Bool, pos, negsuc, true, false, List, [], ◌∷◌, codes, Option, Some, None, refl}
 use Rattle.std.specs.Option.{option_map_or}
 use Rattle.std.specs.Fmt.{digits}
 use Rattle.std.specs.FinMap.{get, insert, empty, get-insert, get-empty}
@@ -14,10 +14,12 @@ use Rattle.muck_prop.specs.declared.value.PropValue.{PropValue}
 use Rattle.muck_prop.specs.declared.value.PropValue.TheVariants.{Text, Number}
 use Rattle.muck_lock.specs.Grammar.{part_of}
 use Rattle.muck_lock.specs.Answers.{text_opens}
+use Rattle.muck_lock.specs.Opens.{opens_step}
+use Rattle.muck_lock.proofs.Locks.{at_free}
 use Rattle.spec_live.specs.Objects.{Entry, dbref_of, nothing, object_at, number_in, kind_in, object_in}
 use Rattle.spec_live.specs.Setting.{with_prop}
 use Rattle.spec_live.specs.Start.{room_zero, player_one}
-use Rattle.spec_live.specs.Worth.{value_text, value_is, kept_opens, opens_at, lock_text}
+use Rattle.spec_live.specs.Worth.{value_text, value_is, holdings_of, kept_opens, opens_at, lock_text}
 use Rattle.spec_live.specs.inner.Rows.{made, holding}
 
 abbrev lock_path : List (List ℕ)
@@ -74,7 +76,7 @@ lock_rows = (
   λ x. refl,
   ap shown five_lock,
   ap shown no_lock,
-  λ x. refl,
+  λ x. ap (λ (f : Dbref → Bool). f x) (at_free (opens_step (holdings_of (gate_world five)))),
   refl,
   refl,
   refl,

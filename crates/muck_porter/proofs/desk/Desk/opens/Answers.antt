@@ -12,7 +12,7 @@ use Rattle.muck_porter.proofs.Carrying.{promised_in}
 use Rattle.muck_porter.proofs.Going.{at_most, still_with}
 use Rattle.muck_porter.proofs.Holding.{spent_goes, opened_goes, opened_late, died_free}
 use Rattle.muck_porter.proofs.Linking.{lost_goes}
-use Rattle.muck_porter.proofs.Turning.{turn_entry, turn_start, turn_made}
+use Rattle.muck_porter.proofs.Turning.{turn_entry, turn_made}
 use Rattle.muck_porter.proofs.Quiet.{did_quiet}
 use Rattle.muck_porter.proofs.desk.Desk.opens.Goals as goal
 
@@ -29,40 +29,32 @@ returns-in-None g c =
 pub does-did-requires : goal.does-did-requires
 does-did-requires g c = tt
 
-pub give-requires-clause-turn : goal.give-requires-clause-turn
-give-requires-clause-turn g c = c.in-Ok-begins.ensures.ok.turn
-
-pub give-requires-clause-entry : goal.give-requires-clause-entry
-give-requires-clause-entry g c =
+pub gives-requires-clause-entered : goal.gives-requires-clause-entered
+gives-requires-clause-entered g c =
     let s = c.does-did.ensures in
-    turn_entry c.args.self.now.noted c.begins.new.noted (g.L.Links.told c.args.self.now.links.now) c.args.self.now.seat.now.me c.begins.new.seat.me c.in-Ok-begins.held.state c.does-did.new.world s.0 c.requires.1.resting c.in-Ok-begins.ensures.ok (did_quiet (Open c.number.result) c.does-did.result c.begins.new.noted c.reserve.new.self.items (now c.in-Ok-begins.held.state) s.0 s.2) s.1
-
-pub give-requires-clause-start : goal.give-requires-clause-start
-give-requires-clause-start g c =
-    let s = c.does-did.ensures in
-    turn_start c.args.self.now.noted c.begins.new.noted (g.L.Links.told c.args.self.now.links.now) c.args.self.now.seat.now.me c.begins.new.seat.me c.in-Ok-begins.held.state c.does-did.new.world s.0 c.requires.1.resting c.in-Ok-begins.ensures.ok (did_quiet (Open c.number.result) c.does-did.result c.begins.new.noted c.reserve.new.self.items (now c.in-Ok-begins.held.state) s.0 s.2) s.1
+    turn_entry c.args.self.now.noted c.begins.new.noted (g.L.Links.told c.args.self.now.links.now) c.args.self.now.seat.now.me c.begins.new.seat.me c.in-Ok-begins.held.state c.does-did.new.world s.0 c.in-Ok-begins.ensures.ok (did_quiet (Open c.number.result) c.does-did.result c.begins.new.noted c.reserve.new.self.items (now c.in-Ok-begins.held.state) s.0 s.2) s.1
 
 pub returns-in-Done : goal.returns-in-Done
 returns-in-Done g c =
     let d = stand g.L.Links.tells g.L.Links.told g.L.Links.listening g.C.Clock.answers c.args.self.now in
     let s = c.does-did.ensures in
-    let taken = turn_made c.args.self.now.noted c.begins.new.noted (g.L.Links.told c.args.self.now.links.now) c.args.self.now.seat.now.me c.begins.new.seat.me c.in-Ok-begins.held.state c.does-did.new.world s.0 c.requires.1.resting c.in-Ok-begins.ensures.ok (did_quiet (Open c.number.result) c.does-did.result c.begins.new.noted c.reserve.new.self.items (now c.in-Ok-begins.held.state) s.0 s.2) s.1 c.give.new.seat.me c.give.ensures.own.2 c.give.ensures.idle c.give.ensures.seen c.give.ensures.same c.give.ensures.mine in
-    opened_goes d c.give.new.seat.me c.give.new.seat.table_id c.give.new.seat.id c.begins.new.noted (g.C.Clock.answers c.does-did.new.clock) (now c.in-Ok-begins.held.state) s.0 c.requires.0 c.requires.1.resting (c.give.ensures.own.0 ∙ c.begins.ensures.own.0, c.give.ensures.own.1 ∙ c.begins.ensures.own.1) taken s.3 c.in-Some.peer c.number.result _ _ c.requires.1 (sym c.take.ensures.value ∙ c.in-Some.is) c.number.ensures (subst (λ (x : Did). DidAs (Open c.number.result) x c.begins.new.noted c.reserve.new.self.items (now c.in-Ok-begins.held.state) s.0) c.in-Done.is s.2)
+    let taken = turn_made c.args.self.now.noted c.begins.new.noted (g.L.Links.told c.args.self.now.links.now) c.args.self.now.seat.now.me c.begins.new.seat.me c.in-Ok-begins.held.state c.does-did.new.world s.0 c.in-Ok-begins.ensures.ok (did_quiet (Open c.number.result) c.does-did.result c.begins.new.noted c.reserve.new.self.items (now c.in-Ok-begins.held.state) s.0 s.2) s.1 c.gives.new.seat.me c.gives.ensures.given in
+    opened_goes d c.gives.new.seat.me c.gives.new.seat.table_id c.gives.new.seat.id c.begins.new.noted (g.C.Clock.answers c.does-did.new.clock) (now c.in-Ok-begins.held.state) s.0 c.requires.0 c.requires.1.resting (c.gives.ensures.own.0 ∙ c.begins.ensures.own.0, c.gives.ensures.own.1 ∙ c.begins.ensures.own.1) taken s.3 c.in-Some.peer c.number.result _ _ c.requires.1 (sym c.take.ensures.value ∙ c.in-Some.is) c.number.ensures (subst (λ (x : Did). DidAs (Open c.number.result) x c.begins.new.noted c.reserve.new.self.items (now c.in-Ok-begins.held.state) s.0) c.in-Done.is s.2)
     (c.push_reserved.ensures.items ∙ ap (λ (l : List Peer). l ++ c.in-Some.peer ∷ []) c.reserve.ensures.items) c.take.ensures.after
 
 pub returns-in-Timed : goal.returns-in-Timed
 returns-in-Timed g c =
     let d = stand g.L.Links.tells g.L.Links.told g.L.Links.listening g.C.Clock.answers c.args.self.now in
     let s = c.does-did.ensures in
-    let taken = turn_made c.args.self.now.noted c.begins.new.noted (g.L.Links.told c.args.self.now.links.now) c.args.self.now.seat.now.me c.begins.new.seat.me c.in-Ok-begins.held.state c.does-did.new.world s.0 c.requires.1.resting c.in-Ok-begins.ensures.ok (did_quiet (Open c.number.result) c.does-did.result c.begins.new.noted c.reserve.new.self.items (now c.in-Ok-begins.held.state) s.0 s.2) s.1 c.give.new.seat.me c.give.ensures.own.2 c.give.ensures.idle c.give.ensures.seen c.give.ensures.same c.give.ensures.mine in
-    opened_late d c.give.new.seat.me c.give.new.seat.table_id c.give.new.seat.id c.begins.new.noted (g.C.Clock.answers c.does-did.new.clock) (now c.in-Ok-begins.held.state) s.0 c.requires.0 c.requires.1.resting (c.give.ensures.own.0 ∙ c.begins.ensures.own.0, c.give.ensures.own.1 ∙ c.begins.ensures.own.1) taken s.3 _ _ c.requires.1 (subst (λ (x : Did). DidAs (Open c.number.result) x c.begins.new.noted c.reserve.new.self.items (now c.in-Ok-begins.held.state) s.0) c.in-Timed.is s.2) c.reserve.ensures.items (sym c.in-Some.is ∙ c.take.ensures.value)
+    let taken = turn_made c.args.self.now.noted c.begins.new.noted (g.L.Links.told c.args.self.now.links.now) c.args.self.now.seat.now.me c.begins.new.seat.me c.in-Ok-begins.held.state c.does-did.new.world s.0 c.in-Ok-begins.ensures.ok (did_quiet (Open c.number.result) c.does-did.result c.begins.new.noted c.reserve.new.self.items (now c.in-Ok-begins.held.state) s.0 s.2) s.1 c.gives.new.seat.me c.gives.ensures.given in
+    opened_late d c.gives.new.seat.me c.gives.new.seat.table_id c.gives.new.seat.id c.begins.new.noted (g.C.Clock.answers c.does-did.new.clock) (now c.in-Ok-begins.held.state) s.0 c.requires.0 c.requires.1.resting (c.gives.ensures.own.0 ∙ c.begins.ensures.own.0, c.gives.ensures.own.1 ∙ c.begins.ensures.own.1) taken s.3 _ _ c.requires.1 (subst (λ (x : Did). DidAs (Open c.number.result) x c.begins.new.noted c.reserve.new.self.items (now c.in-Ok-begins.held.state) s.0) c.in-Timed.is s.2) c.reserve.ensures.items (sym c.in-Some.is ∙ c.take.ensures.value)
 
 pub returns-in-Dead : goal.returns-in-Dead
 returns-in-Dead g c =
     let d = stand g.L.Links.tells g.L.Links.told g.L.Links.listening g.C.Clock.answers c.args.self.now in
     let s = c.does-did.ensures in
-    let taken = turn_made c.args.self.now.noted c.begins.new.noted (g.L.Links.told c.args.self.now.links.now) c.args.self.now.seat.now.me c.begins.new.seat.me c.in-Ok-begins.held.state c.does-did.new.world s.0 c.requires.1.resting c.in-Ok-begins.ensures.ok (did_quiet (Open c.number.result) c.does-did.result c.begins.new.noted c.reserve.new.self.items (now c.in-Ok-begins.held.state) s.0 s.2) s.1 c.give.new.seat.me c.give.ensures.own.2 c.give.ensures.idle c.give.ensures.seen c.give.ensures.same c.give.ensures.mine in
-    died_free d c.give.new.seat.me c.give.new.seat.table_id c.give.new.seat.id c.begins.new.noted (g.C.Clock.answers c.does-did.new.clock) (now c.in-Ok-begins.held.state) s.0 c.requires.0 c.requires.1.resting (c.give.ensures.own.0 ∙ c.begins.ensures.own.0, c.give.ensures.own.1 ∙ c.begins.ensures.own.1) taken s.3 _ _ c.requires.1.free (subst (λ (x : Did). DidAs (Open c.number.result) x c.begins.new.noted c.reserve.new.self.items (now c.in-Ok-begins.held.state) s.0) c.in-Dead.is s.2)
+    let taken = turn_made c.args.self.now.noted c.begins.new.noted (g.L.Links.told c.args.self.now.links.now) c.args.self.now.seat.now.me c.begins.new.seat.me c.in-Ok-begins.held.state c.does-did.new.world s.0 c.in-Ok-begins.ensures.ok (did_quiet (Open c.number.result) c.does-did.result c.begins.new.noted c.reserve.new.self.items (now c.in-Ok-begins.held.state) s.0 s.2) s.1 c.gives.new.seat.me c.gives.ensures.given in
+    died_free d c.gives.new.seat.me c.gives.new.seat.table_id c.gives.new.seat.id c.begins.new.noted (g.C.Clock.answers c.does-did.new.clock) (now c.in-Ok-begins.held.state) s.0 c.requires.0 c.requires.1.resting (c.gives.ensures.own.0 ∙ c.begins.ensures.own.0, c.gives.ensures.own.1 ∙ c.begins.ensures.own.1) taken s.3 _ _ c.requires.1.free (subst (λ (x : Did). DidAs (Open c.number.result) x c.begins.new.noted c.reserve.new.self.items (now c.in-Ok-begins.held.state) s.0) c.in-Dead.is s.2)
 
 pub returns-in-Err-begins : goal.returns-in-Err-begins
 returns-in-Err-begins g c =

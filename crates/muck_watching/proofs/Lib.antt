@@ -1,0 +1,4 @@
+pub mod Seeing
+pub mod Onward
+pub mod Scripts
+pub mod Debugged

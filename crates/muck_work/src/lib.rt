@@ -1,0 +1,8 @@
+//! What each party of a world that several share does alike: it takes the world, makes one entry, and gives it back; and its turn of work.
+#![tactic(auto)]
+
+mod holds;
+mod jobs;
+
+pub use holds::{gives, takes};
+pub use jobs::{Job, does_job};
