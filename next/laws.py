@@ -88,7 +88,6 @@ STD = {
     "(#0 : Bool) → (#0 ≡ true) ⊎ (#0 ≡ false)": ("Rattle.std.proofs.lemmas.Bool", "cases_Bool"),
     "(#0 #1 #2 : List ℕ) → (#0 ++ #1) ++ #2 ≡ #0 ++ (#1 ++ #2)": ("Rattle.std.proofs.lemmas.List", "append_assoc"),
     "(#0 #1 #2 : List (List ℕ)) → (#0 ++ #1) ++ #2 ≡ #0 ++ (#1 ++ #2)": ("Rattle.std.proofs.lemmas.List", "append_assoc"),
-    "{#0 : Type 0} (#1 : List #0) → #1 ++ [] ≡ #1": ("Rattle.std.proofs.lemmas.List", "append-nil"),
 }
 
 # What stays where it is: it says nothing by itself
@@ -702,6 +701,7 @@ def rust_changes(tree, stands, names, place):
             if key not in stands:
                 return found[0]
             target = stands[key]
+            assert re.fullmatch(r"\w+", names[target] if target in names else target[1]), f"{path} lists {found[0]}, whose new name code can't write"
             if target in names:
                 return f"laws::proofs::{SUBJECTS[place[target]][0]}::{names[target]}"
             return target[0].replace("Rattle.", "", 1).replace(".", "::") + "::" + target[1]
