@@ -4,37 +4,20 @@ ghost use Rattle.spec_dumps.specs.inner.Holding.{Keeps};
 ghost use Rattle.spec_events.specs.Histories.{now};
 ghost use Rattle.muck_dumping.specs.inner.Between.{Knows};
 ghost use Rattle.muck_crew.specs.inner.Runs.{HasStopped};
-ghost use Rattle.muck_crew.specs.inner.Finished.{why_of, why_by, HasDump, IsFinish};
+ghost use Rattle.muck_crew.specs.inner.Finished.{why_by, HasDump, IsFinish};
 
 use crate::serving::Way;
-use crate::why::Why;
 use muck_disk::Disk;
 use muck_dumping::{Store, dump};
 use muck_io::{Gate, place};
 use muck_log::LogFault;
 use muck_machine::World;
 use muck_model::NoMemory;
+use muck_why::{Why, why_of};
 use std::alloc::Global;
 
 // How many turns there are.
 const MOST: u64 = 1 << 62;
-
-// Why a run ends whose last dump failed.
-fn why_of(fault: LogFault) -> Why
-    ensures { result ≡ why_of fault }
-{
-    match fault {
-        LogFault::NoMemory => Why::NoMemory,
-        LogFault::DiskFault => Why::DiskFault,
-        LogFault::Damaged { second, at } => Why::Damaged { second, at },
-        LogFault::StoreFull { end, more } => Why::StoreFull { end, more },
-        // No dump of a world answers this on disks that tell their bytes.
-        LogFault::Stale => Why::Damaged {
-            second: false,
-            at: 0,
-        },
-    }
-}
 
 // Why a run ends that was stopped, by how the last dump came out.
 fn why_by(deaf: bool, answer: Result<Option<LogFault>, NoMemory>) -> Why

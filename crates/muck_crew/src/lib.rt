@@ -6,9 +6,7 @@ mod finishing;
 mod seats;
 mod serving;
 mod whole;
-mod why;
 
 pub use seats::{Parts, room};
 pub use serving::{Way, run};
 pub use whole::serve_links;
-pub use why::Why;

@@ -3,8 +3,8 @@ use Rattle.std.proofs.Common.{◌≡◌, ◌⊎◌, inl, inr, ℕ, Bool, List, r
 use Rattle.muck_log.specs.Store.{Chosen, Damage}
 use Rattle.muck_follow.specs.declared.fault.FollowFault.{FollowFault}
 use Rattle.muck_follow.specs.declared.fault.FollowFault.TheVariants as follow
-use Rattle.muck_run.specs.declared.why.Why.{Why}
-use Rattle.muck_run.specs.declared.why.Why.TheVariants.{Fine, BadScript, NoMemory, ReadFault, WriteFault, DiskFault, Damaged}
+use Rattle.muck_why.specs.declared.why.Why.{Why}
+use Rattle.muck_why.specs.declared.why.Why.TheVariants.{Fine, BadScript, NoMemory, ReadFault, WriteFault, DiskFault, Damaged}
 use Rattle.muck_run.specs.inner.Ends.{MayRefuse}
 use Rattle.muck_mirroring.specs.Mirroring.{IsInGrammar, IsFirstOutside, HasWritten, AreReplies, MirrorsAs}
 use Rattle.muck_follow.specs.declared.act.Act.{Act}

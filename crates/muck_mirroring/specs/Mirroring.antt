@@ -8,8 +8,9 @@ use Rattle.muck_follow.specs.Script.{script_of}
 use Rattle.muck_follow.specs.Following.{told}
 use Rattle.muck_follow.specs.Fronts.{AreBytes, FollowsFront}
 use Rattle.muck_run.specs.Outcome.{IsReadOut, IsUntouched}
-use Rattle.muck_run.specs.declared.why.Why.{Why}
-use Rattle.muck_run.specs.declared.why.Why.TheVariants.{Fine, BadScript, NoMemory, ReadFault, WriteFault, DiskFault, Damaged}
+use Rattle.muck_why.specs.declared.why.Why.{Why}
+use Rattle.muck_why.specs.declared.why.Why.TheVariants.{Fine, BadScript, NoMemory, ReadFault, WriteFault, DiskFault, Damaged}
+use Rattle.muck_why.specs.Causes.{admitted, row_of}
 
 -- what was left in the source is this script of a mirror, where the source tells its bytes
 abbrev pub IsScriptIn : Option (List ℕ) → List Act → Type 0
@@ -56,14 +57,7 @@ pub record HasFollowed {S K D : Type 0} (left : S → Option (List ℕ)) (faults
 
 -- Which of the two is so, by the answer: nothing was written to the sink, or the store was followed. No other answer comes.
 abbrev pub MirrorsAs : Why → Type 0 → Type 0 → Type 0
-MirrorsAs Fine silent followed = followed
-MirrorsAs WriteFault silent followed = followed
-MirrorsAs NoMemory silent followed = silent ⊎ followed
-MirrorsAs DiskFault silent followed = silent ⊎ followed
-MirrorsAs (BadScript line) silent followed = silent
-MirrorsAs ReadFault silent followed = silent
-MirrorsAs (Damaged second at) silent followed = silent
-MirrorsAs why silent followed = ⊥
+MirrorsAs why silent followed = admitted (row_of why).mirror silent followed
 
 -- A call for `mirror`, by its answer.
 pub record MirrorDone {S K D : Type 0} (left : S → Option (List ℕ)) (faults : S → ℕ) (written : K → Option (List ℕ)) (breaks : K → ℕ)

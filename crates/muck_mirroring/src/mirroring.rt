@@ -7,7 +7,8 @@ use crate::reading::read_script;
 use muck_disk::Disk;
 use muck_follow::{FollowFault, follow};
 use muck_io::{Sink, Source};
-use muck_run::{Why, mount};
+use muck_run::mount;
+use muck_why::Why;
 use std::alloc::Global;
 
 // Why a call ends that ceased to follow.

@@ -6,7 +6,7 @@ ghost use Rattle.muck_mirroring.specs.inner.Reading.{IsScriptWhy};
 
 use muck_follow::{SCRIPT_MOST, Script, ScriptFault, read};
 use muck_io::{ReadFault, Source, read_all};
-use muck_run::Why;
+use muck_why::Why;
 use std::alloc::Global;
 
 /// Reads the script whole. `BadScript` comes only where this line is the first outside the grammar, `ReadFault` only where the count of faults of the source rose;

@@ -14,8 +14,10 @@ use Rattle.muck_script.specs.declared.act.Act.{Act}
 use Rattle.muck_run.specs.Done.{RunDone}
 use Rattle.muck_run.specs.Outcome.{HasRead, HasBegun, IsUnbegun, IsUntouched, EndsAs, EndsFull, IsInGrammar, IsFirstOutside}
 use Rattle.muck_run.specs.inner.Ends.{refusal_of, MayNotOpen, IsMountWhy, MayRefuse, IsScriptWhy, HasPlayed, NeverPlayed, MayEnd, MayEndDump, booted_from}
-use Rattle.muck_run.specs.declared.why.Why.{Why}
-use Rattle.muck_run.specs.declared.why.Why.TheVariants.{Fine, Usage, BadScript, NoMemory, ReadFault, WriteFault, DiskFault, Damaged, ListenFault, StoreFull, Spent}
+use Rattle.muck_why.specs.declared.why.Why.{Why}
+use Rattle.muck_why.specs.declared.why.Why.TheVariants.{Fine, Usage, BadScript, NoMemory, ReadFault, WriteFault, DiskFault, Damaged, StoreFull}
+use Rattle.muck_why.specs.Causes.{end_of}
+use Rattle.muck_why.proofs.Causes.{began_run, dumps_run}
 use Rattle.muck_run.proofs.Started.{licensed_from, sourced_from, denials_from, origins_from, seats_from, stops_from, there_from, known_from}
 use Rattle.muck_run.proofs.Untouched.{untouched_still, untouched_on}
 
@@ -56,21 +58,12 @@ pub wanted_ends : (why : Why) (U B : Type 0) → why ≡ NoMemory → U → Ends
 wanted_ends why U B is u = subst (λ x. EndsAs x U B) (sym is) (inl u)
 
 pub began_ends : (tells : Bool) (why : Why) (U B : Type 0) → MayEnd tells why → B → EndsAs why U B
-began_ends tells Fine U B may b = b
-began_ends tells NoMemory U B may b = inr b
-began_ends tells WriteFault U B may b = b
-began_ends tells DiskFault U B may b = inr b
-began_ends tells (StoreFull end more) U B may b = b
 began_ends tells (Damaged second at) U B may b = inr b
-began_ends tells why U B may b = absurd may
+began_ends tells why U B may b = began_run why U B may b
 
 pub dump_may : (tells : Bool) (why : Why) → MayEndDump tells why → MayEnd tells why
-dump_may tells Fine may = tt
-dump_may tells NoMemory may = tt
-dump_may tells DiskFault may = tt
-dump_may tells (StoreFull end more) may = tt
 dump_may tells (Damaged second at) may = may
-dump_may tells why may = absurd may
+dump_may tells why may = dumps_run (end_of why) may
 
 -- the last dump of a run doesn't hide that the sink failed
 pub not_write : (tells : Bool) (why : Why) → MayEndDump tells why → why ≡ WriteFault → ⊥
@@ -173,16 +166,14 @@ pub completes : (r : Result Chosen Damage) (s : Chosen) (U B : Type 0) (why : Wh
     → ((file : Bool) (at : ℕ) → why ≡ Damaged file at → r ≡ Err (record { second = file; at = at })) → r ≡ Ok s
     → (F : ℕ → ℕ → Type 0) → ((end more : ℕ) → why ≡ StoreFull end more → B → F end more) → (why ≡ Fine) ⊎ ((why ≡ NoMemory) ⊎ ((end more : ℕ) × (why ≡ StoreFull end more) × F end more))
 completes r s U B Fine ends usage bad read write disk damaged ok F full = inl refl
-completes r s U B Usage ends usage bad read write disk damaged ok F full = absurd (usage refl)
 completes r s U B (BadScript line) ends usage bad read write disk damaged ok F full = absurd (bad line refl)
 completes r s U B NoMemory ends usage bad read write disk damaged ok F full = inr (inl refl)
 completes r s U B ReadFault ends usage bad read write disk damaged ok F full = absurd (read refl)
 completes r s U B WriteFault ends usage bad read write disk damaged ok F full = absurd (write refl)
 completes r s U B DiskFault ends usage bad read write disk damaged ok F full = absurd (disk refl)
 completes r s U B (Damaged file at) ends usage bad read write disk damaged ok F full = let both = sym ok ∙ damaged file at refl in cc
-completes r s U B ListenFault ends usage bad read write disk damaged ok F full = absurd ends
-completes r s U B (Spent turns) ends usage bad read write disk damaged ok F full = absurd ends
 completes r s U B (StoreFull end more) ends usage bad read write disk damaged ok F full = inr (inr (end, more, refl, full end more refl ends))
+completes r s U B why ends usage bad read write disk damaged ok F full = absurd ends
 
 -- What a call for `run` comes to: where nothing stood in its way follows from the causes of its answers.
 module _ {S K D : Type 0} (left : S → Option (List ℕ)) (faults : S → ℕ) (written : K → Option (List ℕ)) (breaks : K → ℕ) (tells : Bool) (attached : D → Option (List ℕ)) (seen : D → List ℕ) (moment : D → ℕ) (images : D → ℕ → List ℕ → Type 0) (fails : D → ℕ) (store : List ℕ)

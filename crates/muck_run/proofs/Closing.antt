@@ -4,7 +4,7 @@ use Rattle.muck_model.specs.declared.event.Event.TheVariants.{Halt, Died, Cut, S
 use Rattle.muck_model.specs.declared.note.Note.{Note}
 use Rattle.muck_log.specs.Store.{LogState}
 use Rattle.muck_log.specs.declared.fault.LogFault.{LogFault}
-use Rattle.muck_log.specs.declared.fault.LogFault.TheVariants.{NoMemory as LogMemory, DiskFault as LogDisk, Damaged as LogDamaged, StoreFull as LogFull, Stale}
+use Rattle.muck_log.specs.declared.fault.LogFault.TheVariants.{NoMemory as LogMemory, Damaged as LogDamaged, Stale}
 use Rattle.spec_events.specs.World.{World}
 use Rattle.spec_events.specs.Histories.{History, after, now, entered, noted, Longer, by_porter}
 use Rattle.spec_events.proofs.Living.{dead-effect}
@@ -12,12 +12,14 @@ use Rattle.spec_events.proofs.Runs.{now-longer, longer_on, longer_noted}
 use Rattle.muck_script.specs.Story.{Part, dumping}
 use Rattle.muck_run.specs.Outcome.{halted}
 use Rattle.muck_run.specs.inner.Dumps.{Dumps, IsDumpFault, ComesOut, ending_event}
-use Rattle.muck_run.specs.inner.Ends.{why_of, EndsPlay, ComesOutAs, LastKept, MayEndDump}
+use Rattle.muck_run.specs.inner.Ends.{EndsPlay, ComesOutAs, LastKept, MayEndDump}
 use Rattle.muck_run.specs.inner.Plays.{Plays, Breaks, ending_of}
 use Rattle.muck_run.specs.declared.playing.RunFault.{RunFault}
 use Rattle.muck_run.specs.declared.playing.RunFault.TheVariants.{NoMemory as OutOfMemory, WriteFault as WriteFailed}
-use Rattle.muck_run.specs.declared.why.Why.{Why}
-use Rattle.muck_run.specs.declared.why.Why.TheVariants.{Fine, NoMemory, DiskFault, StoreFull}
+use Rattle.muck_why.specs.declared.why.Why.{Why}
+use Rattle.muck_why.specs.declared.why.Why.TheVariants.{Fine, NoMemory}
+use Rattle.muck_why.specs.Causes.{why_of}
+use Rattle.muck_why.proofs.Causes.{never_fine, is_full, is_disk}
 
 -- a dump that began came out
 
@@ -30,10 +32,7 @@ came_failed h k m n before behind fault cuts ends = (n, longer_on h k m (by_port
 -- how the last dump came out, by its fault
 comes_by : (h k : History) (fault : LogFault) → ComesOut h k (Some fault) → ComesOutAs h k (why_of fault)
 comes_by h k LogMemory came = tt
-comes_by h k LogDisk came = came
-comes_by h k (LogDamaged second at) came = came
-comes_by h k (LogFull end more) came = came
-comes_by h k Stale came = came
+comes_by h k fault came = came
 
 pub comes_failed : (h k : History) (o : Option LogFault) (fault : LogFault) → o ≡ Some fault → ComesOut h k o → ComesOutAs h k (why_of fault)
 comes_failed h k o fault is came = comes_by h k fault (subst (λ (x : Option LogFault). ComesOut h k x) is came)
@@ -41,17 +40,12 @@ comes_failed h k o fault is came = comes_by h k fault (subst (λ (x : Option Log
 -- a dump that failed was played, but for want of memory
 pub ends_by : (h k : History) (o : Option (List ℕ)) (fault : LogFault) → (fault ≡ LogMemory → ⊥) → Plays dumping h k o o → EndsPlay h k o (why_of fault)
 ends_by h k o LogMemory apart p = absurd (apart refl)
-ends_by h k o LogDisk apart p = p
-ends_by h k o (LogDamaged second at) apart p = p
-ends_by h k o (LogFull end more) apart p = p
-ends_by h k o Stale apart p = p
+ends_by h k o fault apart p = p
 
 may_answer : (tells : Bool) (fault : LogFault) → (tells ≡ true → IsDumpFault (Some fault)) → MayEndDump tells (why_of fault)
-may_answer tells LogMemory f = tt
-may_answer tells LogDisk f = tt
 may_answer tells (LogDamaged second at) f = f
-may_answer tells (LogFull end more) f = tt
 may_answer tells Stale f = f
+may_answer tells fault f = tt
 
 pub may_end : (tells : Bool) (o : Option LogFault) (fault : LogFault) → o ≡ Some fault → (tells ≡ true → IsDumpFault o) → MayEndDump tells (why_of fault)
 may_end tells o fault is f = may_answer tells fault (λ on. subst (λ (x : Option LogFault). IsDumpFault x) is (f on))
@@ -60,27 +54,6 @@ may_end tells o fault is f = may_answer tells fault (λ on. subst (λ (x : Optio
 pub broke_memory : {T : Type 0} (f : Part) (h k : History) (a b : Option (List ℕ)) (fault : RunFault) → (let r : Result T RunFault = Err fault in r) ≡ Err OutOfMemory → Breaks f (ending_of fault) h k a b → Breaks f (by_porter Died ∷ []) h k a b
 broke_memory f h k a b OutOfMemory e p = p
 broke_memory f h k a b WriteFailed e p = cc
-
-not_fine : (fault : LogFault) → why_of fault ≡ Fine → ⊥
-not_fine LogMemory e = cc
-not_fine LogDisk e = cc
-not_fine (LogDamaged second at) e = cc
-not_fine (LogFull end more) e = cc
-not_fine Stale e = cc
-
-is_full : (fault : LogFault) (end more : ℕ) → why_of fault ≡ StoreFull end more → fault ≡ LogFull end more
-is_full LogMemory end more e = cc
-is_full LogDisk end more e = cc
-is_full (LogDamaged second at) end more e = cc
-is_full (LogFull x y) end more e = cc
-is_full Stale end more e = cc
-
-is_failed : (fault : LogFault) → why_of fault ≡ DiskFault → fault ≡ LogDisk
-is_failed LogMemory e = cc
-is_failed LogDisk e = refl
-is_failed (LogDamaged second at) e = cc
-is_failed (LogFull x y) e = cc
-is_failed Stale e = cc
 
 module _ {D : Type 0} (seen : D → List ℕ) (moment : D → ℕ) (images : D → ℕ → List ℕ → Type 0) (faults : D → ℕ) (log : Option LogState) (first second : D) (mounted : ℕ) (h : History) where
   abbrev Out : Result (Option LogFault) RunFault → Type 0
@@ -95,9 +68,9 @@ module _ {D : Type 0} (seen : D → List ℕ) (moment : D → ℕ) (images : D �
   pub kept_failed : (o : Option LogFault) (fault : LogFault) → o ≡ Some fault → Out (Ok o) → Last (why_of fault)
   kept_failed o fault is d = record {
     safe = d.safe;
-    whole = λ e. absurd (not_fine fault e);
+    whole = λ e. absurd (never_fine fault e);
     full = λ end more e. d.full end more (is ∙ ap Some (is_full fault end more e));
-    failed = λ e. d.rose (is ∙ ap Some (is_failed fault e));
+    failed = λ e. d.rose (is ∙ ap Some (is_disk fault e));
   }
 
   pub kept_broken : (r : Result (Option LogFault) RunFault) → Out r → Last NoMemory

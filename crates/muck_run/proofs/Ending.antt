@@ -7,12 +7,14 @@ use Rattle.spec_events.specs.World.{World}
 use Rattle.spec_events.specs.Histories.{History, Longer, AllLawful}
 use Rattle.muck_script.specs.declared.act.Act.{Act}
 use Rattle.muck_script.specs.Story.{stored, failed, dump_entries, lines_story}
-use Rattle.muck_run.specs.Outcome.{HasRun, EndsStored, EndsFailed, IsTooLarge}
+use Rattle.muck_run.specs.Outcome.{RunsTo, HasRun, EndsStored, EndsFailed, IsTooLarge}
 use Rattle.muck_run.specs.inner.Plays.{Plays}
 use Rattle.muck_run.specs.inner.Dumps.{IsFull}
-use Rattle.muck_run.specs.inner.Ends.{EndsPlay, ComesOutAs, MayEndDump}
-use Rattle.muck_run.specs.declared.why.Why.{Why}
-use Rattle.muck_run.specs.declared.why.Why.TheVariants.{Fine, Usage, BadScript, NoMemory, ReadFault, WriteFault, DiskFault, Damaged, ListenFault, StoreFull, Spent}
+use Rattle.muck_run.specs.inner.Ends.{PlaysTo, ComesOutTo, EndsPlay, ComesOutAs, MayEndDump}
+use Rattle.muck_why.specs.declared.why.Why.{Why}
+use Rattle.muck_why.specs.declared.why.Why.TheVariants.{Damaged}
+use Rattle.muck_why.specs.Causes.{Ending, end_of}
+use Rattle.muck_why.specs.inner.Endings.{EndsDump}
 use Rattle.muck_run.proofs.Whole.{begun, played_whole, died_dumping}
 
 pub ends_stored : (k m : History) (tale : List Entry) → tale ≡ m.entries → ((n : ℕ) × Longer k m (dump_entries (stored n))) → EndsStored tale
@@ -21,20 +23,23 @@ ends_stored k m tale end came = (k.entries, came.0, end ∙ came.1.entries)
 pub ends_failed : (k m : History) (tale : List Entry) → tale ≡ m.entries → ((n : ℕ) × Longer k m (dump_entries (failed n))) → EndsFailed tale
 ends_failed k m tale end came = (k.entries, came.0, end ∙ came.1.entries)
 
--- a run that was played whole, by its last dump
+-- a run that was played whole, by the ending to which its last dump led
+runs_to : {K : Type 0} (written : K → Option (List ℕ)) (breaks : K → ℕ) (w : World) (note : Note) (end : Ending) (acts : List Act) (h k m : History) (before after : K) (tale : List Entry) → h ≡ begun w note → EndsDump end →
+    Plays (lines_story acts) h k (written before) (written after) → ((o : Option (List ℕ)) → PlaysTo k m o end) → ComesOutTo k m end → tale ≡ m.entries → breaks after ≡ breaks before → RunsTo written breaks w end acts before after tale
+runs_to written breaks w note Ending.stored acts h k m before after tale is may p d came entries same = (played_whole w note acts h is k m _ _ tale p (d (written after)) entries, ends_stored k m tale entries came, same)
+runs_to written breaks w note Ending.failed acts h k m before after tale is may p d came entries same = (played_whole w note acts h is k m _ _ tale p (d (written after)) entries, ends_failed k m tale entries came, same)
+runs_to written breaks w note Ending.died acts h k m before after tale is may p d came entries same = (died_dumping w note acts h is k m _ _ tale p (d (written after)) entries, same)
+runs_to written breaks w note end acts h k m before after tale is may p d came entries same = absurd may
+
+-- whichever cause it is, it is one of a last dump
+pub dump_ends : (tells : Bool) (why : Why) → MayEndDump tells why → EndsDump (end_of why)
+dump_ends tells (Damaged second at) may = tt
+dump_ends tells why may = may
+
 pub has_run : {K : Type 0} (written : K → Option (List ℕ)) (breaks : K → ℕ) (tells : Bool) (w : World) (note : Note) (why : Why) (acts : List Act) (h k m : History) (before after : K) (tale : List Entry) → h ≡ begun w note → MayEndDump tells why →
     Plays (lines_story acts) h k (written before) (written after) → ((o : Option (List ℕ)) → EndsPlay k m o why) → ComesOutAs k m why → tale ≡ m.entries → breaks after ≡ breaks before → HasRun written breaks w why acts before after tale
-has_run written breaks tells w note Fine acts h k m before after tale is may p d came end same = (played_whole w note acts h is k m _ _ tale p (d (written after)) end, ends_stored k m tale end came, same)
-has_run written breaks tells w note DiskFault acts h k m before after tale is may p d came end same = (played_whole w note acts h is k m _ _ tale p (d (written after)) end, ends_failed k m tale end came, same)
-has_run written breaks tells w note (Damaged second at) acts h k m before after tale is may p d came end same = (played_whole w note acts h is k m _ _ tale p (d (written after)) end, ends_failed k m tale end came, same)
-has_run written breaks tells w note (StoreFull size more) acts h k m before after tale is may p d came end same = (played_whole w note acts h is k m _ _ tale p (d (written after)) end, ends_failed k m tale end came, same)
-has_run written breaks tells w note NoMemory acts h k m before after tale is may p d came end same = (died_dumping w note acts h is k m _ _ tale p (d (written after)) end, same)
-has_run written breaks tells w note Usage acts h k m before after tale is may p d came end same = absurd may
-has_run written breaks tells w note (BadScript line) acts h k m before after tale is may p d came end same = absurd may
-has_run written breaks tells w note ReadFault acts h k m before after tale is may p d came end same = absurd may
-has_run written breaks tells w note ListenFault acts h k m before after tale is may p d came end same = absurd may
-has_run written breaks tells w note (Spent turns) acts h k m before after tale is may p d came end same = absurd may
-has_run written breaks tells w note WriteFault acts h k m before after tale is may p d came end same = absurd may
+has_run written breaks tells w note why acts h k m before after tale is may p d came entries same =
+    runs_to written breaks w note (end_of why) acts h k m before after tale is (dump_ends tells why may) p d came entries same
 
 -- a batch that is too large for the history so far
 too_large : {D : Type 0} (seen : D → List ℕ) (f s : D) (mounted : ℕ) (m : History) (end more : ℕ) → IsFull seen f s mounted m end more → IsTooLarge seen f s m.start mounted m.entries m.notes end more

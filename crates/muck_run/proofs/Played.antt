@@ -14,8 +14,8 @@ use Rattle.muck_run.specs.Outcome.{halted}
 use Rattle.muck_run.specs.inner.Dumps.{DumpsLast, IsNotedOn}
 use Rattle.muck_run.specs.inner.Ends.{HasPlayed, IsNoteOf, IsNotedAt, EndsPlay, ComesOutAs, LastKept, MayEndDump, booted_from, begun_at}
 use Rattle.muck_run.specs.inner.Plays.{Plays, Breaks}
-use Rattle.muck_run.specs.declared.why.Why.{Why}
-use Rattle.muck_run.specs.declared.why.Why.TheVariants.{NoMemory, WriteFault}
+use Rattle.muck_why.specs.declared.why.Why.{Why}
+use Rattle.muck_why.specs.declared.why.Why.TheVariants.{NoMemory, WriteFault}
 use Rattle.muck_run.proofs.Ending.{has_run, start_is, lawful_from, safe_from, whole_from, full_from, failed_from}
 use Rattle.muck_run.proofs.Whole.{died_playing, halted_off}
 

@@ -15,7 +15,7 @@ use Rattle.muck_script.specs.declared.act.Act.{Act}
 use Rattle.muck_script.specs.Script.{script_of, script_most, read_part, refused_at, acts_of}
 use Rattle.muck_script.specs.Lines.{lines_of}
 use Rattle.muck_script.specs.Story.{Part, both, dumping, outcomes_of, text_of, lines_story, story}
-use Rattle.muck_run.specs.declared.why.Why.TheVariants.{NoMemory, WriteFault}
+use Rattle.muck_why.specs.declared.why.Why.TheVariants.{NoMemory, WriteFault}
 use Rattle.muck_run.specs.declared.playing.RunFault.{RunFault}
 use Rattle.muck_run.specs.inner.Plays.{Plays, Breaks, ending_of}
 use Rattle.muck_run.proofs.Parts.{appends_as, plays_both, breaks_first, breaks_second}

@@ -6,8 +6,8 @@ use Rattle.muck_model.specs.declared.note.Note.{Note}
 use Rattle.muck_log.specs.Store.{Chosen, stored}
 use Rattle.muck_run.specs.Drill.{HasDrilled}
 use Rattle.muck_run.specs.Outcome.{EndsAs, EndsFull, HasBegun, IsFirstOutside, IsInGrammar, IsUnbegun}
-use Rattle.muck_run.specs.declared.why.Why.{Why}
-use Rattle.muck_run.specs.declared.why.Why.TheVariants.{Fine, Usage, BadScript, NoMemory, ReadFault, WriteFault, DiskFault, Damaged, StoreFull}
+use Rattle.muck_why.specs.declared.why.Why.{Why}
+use Rattle.muck_why.specs.declared.why.Why.TheVariants.{Fine, Usage, BadScript, NoMemory, ReadFault, WriteFault, DiskFault, Damaged, StoreFull}
 
 -- A call for `run`, by its answer.
 pub record RunDone {S K D : Type 0} (left : S → Option (List ℕ)) (faults : S → ℕ) (written : K → Option (List ℕ)) (breaks : K → ℕ)

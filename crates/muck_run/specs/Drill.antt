@@ -14,8 +14,8 @@ use Rattle.muck_script.specs.declared.act.Act.TheVariants.{Open, Send, Wait}
 use Rattle.muck_script.specs.Lines.{is_line_feed}
 use Rattle.muck_script.specs.Story.{Dumped, outcomes_of, lines_story, transcript}
 use Rattle.muck_run.specs.Outcome.{IsPending}
-use Rattle.muck_run.specs.declared.why.Why.{Why}
-use Rattle.muck_run.specs.declared.why.Why.TheVariants.{Fine, NoMemory, WriteFault}
+use Rattle.muck_why.specs.declared.why.Why.{Why}
+use Rattle.muck_why.specs.declared.why.Why.TheVariants.{Fine, NoMemory, WriteFault}
 
 -- how the thing of this number is described
 unfoldable pub describing : ℕ → List ℕ

@@ -23,21 +23,9 @@ use Rattle.spec_origins.specs.There.{StaysThere}
 use Rattle.muck_script.specs.declared.act.Act.{Act}
 use Rattle.muck_script.specs.Script.{script_of}
 use Rattle.muck_script.specs.Story.{Dumped, stored, failed, outcomes_of, dump_entries, story, text_of, transcript}
-use Rattle.muck_run.specs.declared.why.Why.{Why}
-use Rattle.muck_run.specs.declared.why.Why.TheVariants.{Fine, Usage, BadScript, NoMemory, ReadFault, WriteFault, DiskFault, Damaged, ListenFault, StoreFull, Spent}
-
-abbrev pub status_of : Why → ℕ
-status_of Fine = 0
-status_of Usage = 1
-status_of (BadScript line) = 2
-status_of NoMemory = 3
-status_of ReadFault = 4
-status_of WriteFault = 5
-status_of DiskFault = 6
-status_of (Damaged second at) = 7
-status_of ListenFault = 8
-status_of (StoreFull end more) = 9
-status_of (Spent turns) = 10
+use Rattle.muck_why.specs.declared.why.Why.{Why}
+use Rattle.muck_why.specs.declared.why.Why.TheVariants.{Fine, NoMemory, WriteFault, DiskFault, StoreFull}
+use Rattle.muck_why.specs.Causes.{admitted, Ending, row_of, end_of}
 
 -- what was left in the source is this script, where the source tells its bytes
 abbrev pub IsScriptIn : Option (List ℕ) → List Act → Type 0
@@ -123,14 +111,16 @@ pub record IsUnbegun {K D : Type 0} (tells : Bool) (seen : D → List ℕ) (mome
 
 -- How a run of these acts in the world w ends, with the count of faults of the sink. The faults of a store are those of the last dump, of
 -- a run that was played whole.
+abbrev pub RunsTo : {K : Type 0} → (K → Option (List ℕ)) → (K → ℕ) → World → Ending → List Act → K → K → List Entry → Type 0
+RunsTo written faults w Ending.stored acts before now tale = PlayedWhole w acts (written before) (written now) tale × EndsStored tale × (faults now ≡ faults before)
+RunsTo written faults w Ending.failed acts before now tale = PlayedWhole w acts (written before) (written now) tale × EndsFailed tale × (faults now ≡ faults before)
+RunsTo written faults w Ending.cut acts before now tale = BrokeOff w WriteFault acts (written before) (written now) tale × Rose (faults before) (faults now)
+RunsTo written faults w Ending.died acts before now tale = BrokeOff w NoMemory acts (written before) (written now) tale × (faults now ≡ faults before)
+RunsTo written faults w end acts before now tale = ⊥
+
+-- that by the answer
 abbrev pub HasRun : {K : Type 0} → (K → Option (List ℕ)) → (K → ℕ) → World → Why → List Act → K → K → List Entry → Type 0
-HasRun written faults w Fine acts before now tale = PlayedWhole w acts (written before) (written now) tale × EndsStored tale × (faults now ≡ faults before)
-HasRun written faults w DiskFault acts before now tale = PlayedWhole w acts (written before) (written now) tale × EndsFailed tale × (faults now ≡ faults before)
-HasRun written faults w (Damaged second at) acts before now tale = PlayedWhole w acts (written before) (written now) tale × EndsFailed tale × (faults now ≡ faults before)
-HasRun written faults w (StoreFull end more) acts before now tale = PlayedWhole w acts (written before) (written now) tale × EndsFailed tale × (faults now ≡ faults before)
-HasRun written faults w WriteFault acts before now tale = BrokeOff w WriteFault acts (written before) (written now) tale × Rose (faults before) (faults now)
-HasRun written faults w NoMemory acts before now tale = BrokeOff w NoMemory acts (written before) (written now) tale × (faults now ≡ faults before)
-HasRun written faults w why acts before now tale = ⊥
+HasRun written faults w why acts before now tale = RunsTo written faults w (end_of why) acts before now tale
 
 -- what a call that has read its script says of the source
 pub record HasRead {S : Type 0} (left : S → Option (List ℕ)) (faults : S → ℕ) (before now : S) (acts : List Act) : Type 0 where
@@ -220,14 +210,6 @@ pub record HasBegun {S K D : Type 0} (left : S → Option (List ℕ)) (faults : 
   pub full : (end more : ℕ) → tells ≡ true → why ≡ StoreFull end more → IsTooLarge seen first' second' start mounted tale notes end more
   pub failed : tells ≡ true → why ≡ DiskFault → RoseInLast notes
 
--- Which of the two is so, by the answer: the run wasn't begun, or it was. What ends a server alone is no answer.
+-- Which of the two is so, by the answer: the run wasn't begun, or it was. What ends a server alone, or what are no words of a command, is no answer.
 abbrev pub EndsAs : Why → Type 0 → Type 0 → Type 0
-EndsAs Usage unbegun begun = unbegun
-EndsAs (BadScript line) unbegun begun = unbegun
-EndsAs ReadFault unbegun begun = unbegun
-EndsAs Fine unbegun begun = begun
-EndsAs WriteFault unbegun begun = begun
-EndsAs (StoreFull end more) unbegun begun = begun
-EndsAs ListenFault unbegun begun = ⊥
-EndsAs (Spent turns) unbegun begun = ⊥
-EndsAs why unbegun begun = unbegun ⊎ begun
+EndsAs why unbegun begun = admitted (row_of why).run unbegun begun

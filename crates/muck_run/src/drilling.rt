@@ -12,7 +12,6 @@ ghost use Rattle.muck_run.specs.inner.Drills.{fresh, IsPlayedAs, IsDrilledAs, Is
 
 use crate::dumping::{FILE_MOST, Store};
 use crate::playing::{RunFault, buffer, play};
-use crate::why::Why;
 use itoa::Buffer;
 use muck_disk::{Disk, DiskFault};
 use muck_io::{MemSink, Sink, WriteFailed, write_all};
@@ -20,6 +19,7 @@ use muck_log::Log;
 use muck_machine::World;
 use muck_model::{Line, NoMemory, Tale};
 use muck_script::Act;
+use muck_why::Why;
 use std::alloc::Global;
 
 // A disk with an empty file, which no write reaches: in a drill no dump is asked, and one that were would fail.

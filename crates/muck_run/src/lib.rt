@@ -7,10 +7,8 @@ mod dumping;
 mod mounting;
 mod playing;
 mod running;
-mod why;
 
 pub use drilling::drill;
 pub use mounting::{awake, mount};
 pub use playing::{RunFault, act, greatest, make_asked, serve_all};
 pub use running::{begin, last_dump, run, stop};
-pub use why::Why;

@@ -10,12 +10,12 @@ ghost use Rattle.muck_run.specs.inner.Ends.{refusal_of, MayNotOpen, IsMountWhy, 
 ghost use Rattle.muck_run.specs.Outcome.{IsUntouched};
 
 use crate::dumping::FILE_MOST;
-use crate::why::Why;
 use muck_db::{Db, Persisted};
 use muck_disk::{Disk, DiskFault};
 use muck_log::{Kept, Log, LogFault};
 use muck_machine::World;
 use muck_model::NoMemory;
+use muck_why::Why;
 use std::alloc::{AllocError, Global};
 
 // Why a call ends whose store couldn't be mounted.

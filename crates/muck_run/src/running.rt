@@ -10,38 +10,21 @@ ghost use Rattle.spec_dumps.specs.Fronts.{file_most};
 ghost use Rattle.spec_dumps.specs.inner.Holding.{Quietly, Rests};
 ghost use Rattle.muck_dumping.specs.inner.Between.{Knows};
 ghost use Rattle.muck_run.specs.inner.Dumps.{note_of, DumpsLast, IsNotedOn};
-ghost use Rattle.muck_run.specs.inner.Ends.{why_of, MayEnd, MayEndDump, IsScriptWhy, IsBootable, unbegun_at, begun_at, EndsPlay, ComesOutAs, LastKept, HasPlayed, NeverPlayed};
+ghost use Rattle.muck_run.specs.inner.Ends.{MayEnd, MayEndDump, IsScriptWhy, IsBootable, unbegun_at, begun_at, EndsPlay, ComesOutAs, LastKept, HasPlayed, NeverPlayed};
 ghost use Rattle.muck_run.specs.Done.{RunDone};
 ghost use Rattle.muck_run.specs.Outcome.{halted, HasRead};
 
 use crate::dumping::{Store, dump};
 use crate::mounting::{awake, mount};
 use crate::playing::{RunFault, buffer, play};
-use crate::why::Why;
 use muck_disk::Disk;
 use muck_io::{ReadFault, Sink, Source, read_all};
-use muck_log::{Log, LogFault};
+use muck_log::Log;
 use muck_machine::World;
 use muck_model::{NoMemory, Tale};
 use muck_script::{Act, SCRIPT_MOST, Script, ScriptFault, read};
+use muck_why::{Why, why_of};
 use std::alloc::Global;
-
-// Why a call ends whose last dump failed.
-fn why_of(fault: LogFault) -> Why
-    ensures { result ≡ why_of fault }
-{
-    match fault {
-        LogFault::NoMemory => Why::NoMemory,
-        LogFault::DiskFault => Why::DiskFault,
-        LogFault::Damaged { second, at } => Why::Damaged { second, at },
-        LogFault::StoreFull { end, more } => Why::StoreFull { end, more },
-        // No dump of a world answers these on disks that tell their bytes.
-        LogFault::Stale => Why::Damaged {
-            second: false,
-            at: 0,
-        },
-    }
-}
 
 // Reads the script whole.
 fn read_script<S: Source>(alloc: Global, script: &mut S) -> Result<Script, Why>

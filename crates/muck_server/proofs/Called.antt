@@ -19,8 +19,8 @@ use Rattle.muck_dumping.specs.inner.Between.{IsReady as HasLog}
 use Rattle.muck_dumping.specs.inner.Dumps.{HasDumped, Dumps}
 use Rattle.muck_porter.specs.inner.Kept.{Account}
 use Rattle.muck_crew.specs.inner.Finished.{HasDump}
-use Rattle.muck_crew.specs.declared.why.Why.{Why}
-use Rattle.muck_crew.specs.declared.why.Why.TheVariants.{ListenFault}
+use Rattle.muck_why.specs.declared.why.Why.{Why}
+use Rattle.muck_why.specs.declared.why.Why.TheVariants.{ListenFault}
 use Rattle.muck_crew.specs.inner.Runs.{IsFresh}
 use Rattle.muck_crew.specs.inner.Wholes.{HasServed}
 use Rattle.muck_server.specs.inner.{halted}

@@ -30,7 +30,7 @@ use Rattle.muck_porter.specs.inner.Kept.{Account}
 use Rattle.muck_porter.specs.Times.{Timely}
 use Rattle.muck_crew.specs.Shared.{IsShared, AllOver, EndsStopped, LeavesWorkedOff}
 use Rattle.muck_crew.specs.inner.Finished.{HasDump}
-use Rattle.muck_crew.specs.declared.why.Why.TheVariants.{ListenFault}
+use Rattle.muck_why.specs.declared.why.Why.TheVariants.{ListenFault}
 use Rattle.muck_crew.specs.inner.Runs.{IsFresh}
 use Rattle.muck_server.specs.inner.{halted}
 use Rattle.muck_server.specs.Served.{IsServed, HasStopped}

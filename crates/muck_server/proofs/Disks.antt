@@ -1,5 +1,5 @@
 -- What is kept of both disks, by the answer.
-use Rattle.std.proofs.Common.{◌≡◌, ◌⊎◌, inl, inr, ℕ, ◌≤◌, Bool, true, false, List, refl, sym, ◌∙◌, subst, Option, Some, None, Result, Ok, Err}
+use Rattle.std.proofs.Common.{◌≡◌, ◌⊎◌, inl, inr, ℕ, ◌≤◌, Bool, true, false, List, refl, sym, ap, ◌∙◌, subst, Option, Some, None, Result, Ok, Err}
 use Rattle.std.specs.Prelude.{IfOk}
 use Rattle.muck_io.specs.Faults.{Rose}
 use Rattle.muck_log.specs.Store.{LogState}
@@ -11,51 +11,41 @@ use Rattle.spec_dumps.specs.Survival.{IsSafe, RoseInLast, StandsWhole}
 use Rattle.spec_events.specs.Histories.{History}
 use Rattle.muck_dumping.specs.inner.Dumps.{Dumps, IsFull, IsDumpFault}
 use Rattle.muck_crew.specs.inner.Finished.{why_by, HasDump}
-use Rattle.muck_crew.specs.declared.why.Why.{Why}
-use Rattle.muck_crew.specs.declared.why.Why.TheVariants.{Fine, NoMemory, DiskFault, Damaged, StoreFull, Spent}
+use Rattle.muck_why.specs.declared.why.Why.{Why}
+use Rattle.muck_why.specs.declared.why.Why.TheVariants.{Fine, NoMemory, DiskFault, Damaged, StoreFull, Spent}
+use Rattle.muck_why.proofs.Causes.{never_fine, is_full, is_disk}
 use Rattle.muck_porter.proofs.InRounds.{rose_since}
 
 -- Which answers come of which last dump.
 
+abbrev failed_by : LogFault → Result (Option LogFault) Wanting
+failed_by fault = Ok (Some fault)
+
 only_fine : (deaf : Bool) (answer : Result (Option LogFault) Wanting) → why_by deaf answer ≡ Fine → answer ≡ Ok None
 only_fine true answer e = cc
 only_fine false (Ok None) e = refl
-only_fine false (Ok (Some fault.NoMemory)) e = cc
-only_fine false (Ok (Some fault.DiskFault)) e = cc
-only_fine false (Ok (Some (fault.Damaged second at))) e = cc
-only_fine false (Ok (Some (fault.StoreFull end more))) e = cc
-only_fine false (Ok (Some fault.Stale)) e = cc
+only_fine false (Ok (Some f)) e = absurd (never_fine f e)
 only_fine false (Err x) e = cc
 
 only_full : (deaf : Bool) (answer : Result (Option LogFault) Wanting) (end more : ℕ) → why_by deaf answer ≡ StoreFull end more → answer ≡ Ok (Some (fault.StoreFull end more))
 only_full true answer end more e = cc
 only_full false (Ok None) end more e = cc
-only_full false (Ok (Some fault.NoMemory)) end more e = cc
-only_full false (Ok (Some fault.DiskFault)) end more e = cc
-only_full false (Ok (Some (fault.Damaged second at))) end more e = cc
-only_full false (Ok (Some (fault.StoreFull x y))) end more e = cc
-only_full false (Ok (Some fault.Stale)) end more e = cc
+only_full false (Ok (Some f)) end more e = ap failed_by (is_full f end more e)
 only_full false (Err x) end more e = cc
 
 only_disk : (deaf : Bool) (answer : Result (Option LogFault) Wanting) → why_by deaf answer ≡ DiskFault → answer ≡ Ok (Some fault.DiskFault)
 only_disk true answer e = cc
 only_disk false (Ok None) e = cc
-only_disk false (Ok (Some fault.NoMemory)) e = cc
-only_disk false (Ok (Some fault.DiskFault)) e = refl
-only_disk false (Ok (Some (fault.Damaged second at))) e = cc
-only_disk false (Ok (Some (fault.StoreFull end more))) e = cc
-only_disk false (Ok (Some fault.Stale)) e = cc
+only_disk false (Ok (Some f)) e = ap failed_by (is_disk f e)
 only_disk false (Err x) e = cc
 
 -- on disks that tell their bytes no dump fails for damage
 never_damaged : (deaf : Bool) (answer : Result (Option LogFault) Wanting) (second : Bool) (at : ℕ) → why_by deaf answer ≡ Damaged second at → IfOk answer IsDumpFault → ⊥
 never_damaged true answer second at e may = cc
 never_damaged false (Ok None) second at e may = cc
-never_damaged false (Ok (Some fault.NoMemory)) second at e may = cc
-never_damaged false (Ok (Some fault.DiskFault)) second at e may = cc
 never_damaged false (Ok (Some (fault.Damaged x y))) second at e may = may
-never_damaged false (Ok (Some (fault.StoreFull end more))) second at e may = cc
 never_damaged false (Ok (Some fault.Stale)) second at e may = may
+never_damaged false (Ok (Some f)) second at e may = cc
 never_damaged false (Err x) second at e may = cc
 
 -- What is kept of both disks behind the history k, which began with first and second.

@@ -1,5 +1,5 @@
 -- How a run ended, by its answer.
-use Rattle.std.proofs.Common.{◌≡◌, ◌⊎◌, inl, inr, ℕ, Bool, true, false, List, [], ◌∷◌, ◌++◌, refl, sym, ap, ◌∙◌, append_assoc, Option, Some, None, Result, Ok, Err}
+use Rattle.std.proofs.Common.{◌≡◌, ◌⊎◌, inl, inr, ℕ, Bool, true, false, List, [], ◌∷◌, ◌++◌, sym, ap, subst, ◌∙◌, append_assoc, Option, Some, None, Result, Ok, Err}
 use Rattle.std.specs.Prelude.{IfOk}
 use Rattle.muck_log.specs.declared.fault.LogFault.{LogFault}
 use Rattle.muck_log.specs.declared.fault.LogFault.TheVariants as fault
@@ -9,8 +9,10 @@ use Rattle.muck_model.specs.declared.memory.NoMemory.{NoMemory as Wanting}
 use Rattle.spec_events.specs.World.{World}
 use Rattle.spec_events.specs.Histories.{after, by_porter}
 use Rattle.muck_crew.specs.Shared.{IsParty, EndsStopped}
-use Rattle.muck_crew.specs.inner.Finished.{why_of, why_from}
-use Rattle.muck_server.specs.Served.{last_dump, Closes, HasEnded}
+use Rattle.muck_crew.specs.inner.Finished.{why_from}
+use Rattle.muck_why.specs.Causes.{Ending, why_of}
+use Rattle.muck_why.proofs.Causes.{fails}
+use Rattle.muck_server.specs.Served.{last_dump, Closes, EndsTo, HasEnded}
 use Rattle.muck_server.proofs.Dumped.{LastBy, dead_behind}
 
 -- each party saw the stop, and the last dump came out so
@@ -24,11 +26,7 @@ module _ (workers faults faults' : ℕ) (w : World) (front : List Entry) (last :
       ap (λ (x : List Entry). (after w x).dead) (whole ∙ ap (λ (x : List Entry). front ++ x) is ∙ sym (append_assoc front (by_porter (Cut k) ∷ []) (by_porter Died ∷ []))) ∙ dead_behind w (front ++ by_porter (Cut k) ∷ []) 0
 
   ended_failed : (f : LogFault) (es tale : List Entry) → (f ≡ fault.NoMemory → ⊥) → LastBy (Ok (Some f)) es → tale ≡ front ++ es → HasEnded workers faults faults' w (why_of f) tale
-  ended_failed fault.NoMemory es tale apart (k, is) whole = absurd (apart refl)
-  ended_failed fault.DiskFault es tale apart (k, is) whole = (k, closes k false es tale is whole)
-  ended_failed (fault.Damaged second at) es tale apart (k, is) whole = (k, closes k false es tale is whole)
-  ended_failed (fault.StoreFull end more) es tale apart (k, is) whole = (k, closes k false es tale is whole)
-  ended_failed fault.Stale es tale apart (k, is) whole = (k, closes k false es tale is whole)
+  ended_failed f es tale apart (k, is) whole = subst (λ (end : Ending). EndsTo workers faults faults' w end tale) (sym (fails f apart)) (k, closes k false es tale is whole)
 
   pub ended_by : (answer : Result (Option LogFault) Wanting) (es tale : List Entry) → IfOk answer (λ o. o ≡ Some fault.NoMemory → ⊥) → LastBy answer es → tale ≡ front ++ es → HasEnded workers faults faults' w (why_from answer) tale
   ended_by (Ok None) es tale apart (k, is) whole = (k, closes k true es tale is whole)

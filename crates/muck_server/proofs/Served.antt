@@ -25,8 +25,8 @@ use Rattle.muck_crew.specs.Shared.{IsParty, IsShared, AllOver, EndsStopped}
 use Rattle.muck_crew.specs.inner.Finished.{why_by, HasDump, IsFinish}
 use Rattle.muck_crew.specs.declared.serving.Way.{Way}
 use Rattle.muck_crew.specs.declared.serving.Way.TheVariants as ends
-use Rattle.muck_crew.specs.declared.why.Why.{Why}
-use Rattle.muck_crew.specs.declared.why.Why.TheVariants.{NoMemory, Spent}
+use Rattle.muck_why.specs.declared.why.Why.{Why}
+use Rattle.muck_why.specs.declared.why.Why.TheVariants.{NoMemory, Spent}
 use Rattle.muck_crew.specs.inner.Runs.{IsFresh, HasRun, HasStopped as AllStopped}
 use Rattle.muck_crew.specs.inner.Wholes.{HasServed}
 use Rattle.muck_server.specs.Served.{IsServed, HasEnded, HasStopped, HasRunOut}

@@ -18,8 +18,9 @@ use Rattle.muck_porter.specs.inner.Kept.{Account}
 use Rattle.muck_porter.specs.Times.{Timely}
 use Rattle.muck_dumping.specs.inner.Dumps.{IsFull}
 use Rattle.muck_crew.specs.Shared.{IsParty, IsShared, AllOver, EndsStopped, LeavesWorkedOff}
-use Rattle.muck_crew.specs.declared.why.Why.{Why}
-use Rattle.muck_crew.specs.declared.why.Why.TheVariants.{Fine, NoMemory, DiskFault, Damaged, ListenFault, StoreFull, Spent}
+use Rattle.muck_why.specs.declared.why.Why.{Why}
+use Rattle.muck_why.specs.declared.why.Why.TheVariants.{Fine, NoMemory, DiskFault, Damaged, StoreFull}
+use Rattle.muck_why.specs.Causes.{Ending, end_of}
 
 -- What the links carried.
 
@@ -53,27 +54,36 @@ IsLast es = ((k : ℕ) × (done : Bool) × (es ≡ last_dump k done)) ⊎ ((es �
 abbrev pub StopsAll : List Entry → Type 0
 StopsAll tale = (front : List Entry) × (dump : List Entry) × (tale ≡ front ++ dump) × EndsStopped 0 front × IsLast dump
 
--- How it ended, by the answer, with the count of faults in listening.
+-- How it ended, with the count of faults in listening.
+abbrev pub EndsTo : ℕ → ℕ → ℕ → World → Ending → List Entry → Type 0
+EndsTo workers faults faults' w Ending.stored tale = (k : ℕ) × Closes workers k true tale
+EndsTo workers faults faults' w Ending.failed tale = (k : ℕ) × Closes workers k false tale
+EndsTo workers faults faults' w Ending.deaf tale = Rose faults faults' × StopsAll tale
+EndsTo workers faults faults' w Ending.died tale = (after w tale).dead ≡ true
+EndsTo workers faults faults' w (Ending.spent turns) tale = (turns ≡ 2 ^ 62) × (2 ^ 62 ≤ length tale)
+EndsTo workers faults faults' w end tale = ⊥
+
+-- that by the answer
 abbrev pub HasEnded : ℕ → ℕ → ℕ → World → Why → List Entry → Type 0
-HasEnded workers faults faults' w Fine tale = (k : ℕ) × Closes workers k true tale
-HasEnded workers faults faults' w DiskFault tale = (k : ℕ) × Closes workers k false tale
-HasEnded workers faults faults' w (Damaged second at) tale = (k : ℕ) × Closes workers k false tale
-HasEnded workers faults faults' w (StoreFull end more) tale = (k : ℕ) × Closes workers k false tale
-HasEnded workers faults faults' w ListenFault tale = Rose faults faults' × StopsAll tale
-HasEnded workers faults faults' w NoMemory tale = (after w tale).dead ≡ true
-HasEnded workers faults faults' w (Spent turns) tale = (turns ≡ 2 ^ 62) × (2 ^ 62 ≤ length tale)
+HasEnded workers faults faults' w why tale = EndsTo workers faults faults' w (end_of why) tale
 
 -- it ended behind the stop that each party saw, or the first one alone
+abbrev pub EndsBehindStop : Ending → Type 0
+EndsBehindStop Ending.died = ⊥
+EndsBehindStop (Ending.spent turns) = ⊥
+EndsBehindStop end = Unit {0}
+
 abbrev pub HasStopped : Why → Type 0
-HasStopped NoMemory = ⊥
-HasStopped (Spent turns) = ⊥
-HasStopped why = Unit {0}
+HasStopped why = EndsBehindStop (end_of why)
 
 -- all turns were had, before each party was told why the run ended
+abbrev pub EndsRunOut : Ending → List Entry → Type 0
+EndsRunOut (Ending.spent turns) tale = Unit {0}
+EndsRunOut Ending.died tale = 2 ^ 62 ≤ length tale
+EndsRunOut end tale = ⊥
+
 abbrev pub HasRunOut : Why → List Entry → Type 0
-HasRunOut (Spent turns) tale = Unit {0}
-HasRunOut NoMemory tale = 2 ^ 62 ≤ length tale
-HasRunOut why tale = ⊥
+HasRunOut why tale = EndsRunOut (end_of why) tale
 
 -- It never began: memory was wanted, nothing happened, nobody was let in, the clock wasn't asked, and the files weren't touched. The links were asked to listen on no port, or
 -- once, on this one.

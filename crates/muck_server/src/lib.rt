@@ -3,5 +3,4 @@
 
 mod serving;
 
-pub use muck_crew::Why;
 pub use serving::serve;

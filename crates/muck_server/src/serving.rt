@@ -10,7 +10,7 @@ ghost use Rattle.muck_crew.specs.inner.Runs.{IsFresh};
 ghost use Rattle.muck_server.specs.inner.{halted};
 ghost use Rattle.muck_server.specs.Served.{IsUnserved, IsServed};
 
-use muck_crew::{Why, room, serve_links};
+use muck_crew::{room, serve_links};
 use muck_disk::Disk;
 use muck_dumping::{Store, dump};
 use muck_io::{Clock, Gate, Rest, place};
@@ -18,6 +18,7 @@ use muck_links::{Links, Listened};
 use muck_log::Log;
 use muck_machine::World;
 use muck_model::Tale;
+use muck_why::Why;
 use std::alloc::Global;
 use std::sync::Wait;
 use std::thread::Threads;

@@ -21,16 +21,19 @@ use Rattle.muck_debugging.specs.Seen.{Piece, text_of_all, units_of_all, plain_ac
 use Rattle.muck_debugging.specs.Laws.{are_texts}
 use Rattle.muck_debugging.proofs.Apart.{shows_apart}
 use Rattle.muck_run.specs.Outcome.{halted, IsUnbegun, IsUntouched, EndsAs, EndsFull}
-use Rattle.muck_watching.specs.Debugged.{IsFirstOutside, IsInGrammar, WroteWhole, WroteFront, HasRead, HasWritten, HasDebugged, DebugDone}
+use Rattle.muck_watching.specs.Debugged.{IsFirstOutside, IsInGrammar, WroteWhole, WroteFront, HasRead, WritesTo, HasWritten, HasDebugged, DebugDone}
 use Rattle.muck_run.specs.declared.playing.RunFault.{RunFault}
-use Rattle.muck_run.specs.declared.why.Why.{Why}
-use Rattle.muck_run.specs.declared.why.Why.TheVariants.{Fine, Usage, BadScript, NoMemory, ReadFault, WriteFault, DiskFault, Damaged, ListenFault, StoreFull, Spent}
+use Rattle.muck_why.specs.declared.why.Why.{Why}
+use Rattle.muck_why.specs.declared.why.Why.TheVariants.{Usage, BadScript, NoMemory, ReadFault, WriteFault, DiskFault, Damaged, StoreFull}
+use Rattle.muck_why.specs.Causes.{Ending, end_of}
+use Rattle.muck_why.specs.inner.Endings.{EndsDump}
 use Rattle.muck_run.specs.inner.Dumps.{DumpsLast}
-use Rattle.muck_run.specs.inner.Ends.{EndsPlay, MayEndDump, HasPlayed, booted_from}
+use Rattle.muck_run.specs.inner.Ends.{PlaysTo, EndsPlay, MayEndDump, HasPlayed, booted_from}
 use Rattle.muck_run.specs.inner.Plays.{Plays, Breaks, ending_of}
 use Rattle.muck_watching.specs.inner.Seen.{PlaysLines, BreaksLines, IsDebugWhy}
 use Rattle.muck_run.proofs.Parts.{appends_as, outcomes-append, goes_second, pending_behind}
 use Rattle.muck_run.proofs.Called.{completes, has_begun}
+use Rattle.muck_run.proofs.Ending.{dump_ends}
 use Rattle.muck_watching.proofs.Onward.{length-debug}
 use Rattle.muck_run.proofs.Whole.{begun, begun_now, played_whole}
 
@@ -162,19 +165,15 @@ module _ (w : World) (note : Note) (acts : List DebugAct) (t : Tracer) (fresh : 
         appended = p.appended;
       }
 
-  -- a script that was played whole, by its last dump
+  -- a script that was played whole, by the ending to which its last dump led
+  writes_to : (end : Ending) (k m : History) (a b : Option (List ℕ)) (tale : List Entry) → EndsDump end → PlaysLines acts t h k a b → ((o : Option (List ℕ)) → PlaysTo k m o end) → tale ≡ m.entries → WritesTo w end acts a b tale
+  writes_to Ending.stored k m a b tale may p d entries = wrote_whole k m a b tale p (d None) entries
+  writes_to Ending.failed k m a b tale may p d entries = wrote_whole k m a b tale p (d None) entries
+  writes_to Ending.died k m a b tale may p d entries = wrote_dying k m a b tale p (d None) entries
+  writes_to end k m a b tale may p d entries = absurd may
+
   pub wrote_by : (tells : Bool) (why : Why) (k m : History) (a b : Option (List ℕ)) (tale : List Entry) → MayEndDump tells why → PlaysLines acts t h k a b → ((o : Option (List ℕ)) → EndsPlay k m o why) → tale ≡ m.entries → HasWritten w why acts a b tale
-  wrote_by tells Fine k m a b tale may p d end = wrote_whole k m a b tale p (d None) end
-  wrote_by tells DiskFault k m a b tale may p d end = wrote_whole k m a b tale p (d None) end
-  wrote_by tells (Damaged second at) k m a b tale may p d end = wrote_whole k m a b tale p (d None) end
-  wrote_by tells (StoreFull size more) k m a b tale may p d end = wrote_whole k m a b tale p (d None) end
-  wrote_by tells NoMemory k m a b tale may p d end = wrote_dying k m a b tale p (d None) end
-  wrote_by tells Usage k m a b tale may p d end = absurd may
-  wrote_by tells (BadScript line) k m a b tale may p d end = absurd may
-  wrote_by tells ReadFault k m a b tale may p d end = absurd may
-  wrote_by tells ListenFault k m a b tale may p d end = absurd may
-  wrote_by tells (Spent turns) k m a b tale may p d end = absurd may
-  wrote_by tells WriteFault k m a b tale may p d end = absurd may
+  wrote_by tells why k m a b tale may p d entries = writes_to (end_of why) k m a b tale (dump_ends tells why may) p d entries
 
 -- What a call answers.
 

@@ -13,8 +13,9 @@ use Rattle.muck_debugging.specs.Grammar.{debug_script_of}
 use Rattle.muck_debugging.specs.Seen.{text_of_all, plain_acts, debug_pieces, debug_text}
 use Rattle.muck_debugging.specs.Laws.{AreApart}
 use Rattle.muck_run.specs.Outcome.{IsReadOut, IsPending, EndsBy, IsUnbegun, HasBegun, EndsAs, EndsFull}
-use Rattle.muck_run.specs.declared.why.Why.{Why}
-use Rattle.muck_run.specs.declared.why.Why.TheVariants.{Fine, Usage, BadScript, NoMemory, ReadFault, WriteFault, DiskFault, Damaged, StoreFull}
+use Rattle.muck_why.specs.declared.why.Why.{Why}
+use Rattle.muck_why.specs.declared.why.Why.TheVariants.{Fine, Usage, BadScript, NoMemory, ReadFault, WriteFault, DiskFault, Damaged, StoreFull}
+use Rattle.muck_why.specs.Causes.{Ending, end_of}
 
 -- what was left in the source is this script of `debug`, where the source tells its bytes
 abbrev pub IsScriptIn : Option (List ℕ) → List DebugAct → Type 0
@@ -58,15 +59,17 @@ pub record WroteFront (w : World) (why : Why) (acts : List DebugAct) (before wri
   pub text : (later : List Dumped) → told ++ untold ≡ text_of_all (take (length front) (debug_pieces acts (outcomes_of front ++ (pending ++ later)) w new_tracer))
   pub appended : Appends before written told
 
--- what was written, by the answer
+-- what was written, by how it ended
+abbrev pub WritesTo : World → Ending → List DebugAct → Option (List ℕ) → Option (List ℕ) → List Entry → Type 0
+WritesTo w Ending.stored acts before written tale = WroteWhole w acts before written tale
+WritesTo w Ending.failed acts before written tale = WroteWhole w acts before written tale
+WritesTo w Ending.cut acts before written tale = WroteFront w WriteFault acts before written tale
+WritesTo w Ending.died acts before written tale = WroteFront w NoMemory acts before written tale
+WritesTo w end acts before written tale = ⊥
+
+-- that by the answer
 abbrev pub HasWritten : World → Why → List DebugAct → Option (List ℕ) → Option (List ℕ) → List Entry → Type 0
-HasWritten w Fine acts before written tale = WroteWhole w acts before written tale
-HasWritten w DiskFault acts before written tale = WroteWhole w acts before written tale
-HasWritten w (Damaged second at) acts before written tale = WroteWhole w acts before written tale
-HasWritten w (StoreFull end more) acts before written tale = WroteWhole w acts before written tale
-HasWritten w WriteFault acts before written tale = WroteFront w WriteFault acts before written tale
-HasWritten w NoMemory acts before written tale = WroteFront w NoMemory acts before written tale
-HasWritten w why acts before written tale = ⊥
+HasWritten w why acts before written tale = WritesTo w (end_of why) acts before written tale
 
 -- A run of `debug` that began. All is so as after a run of `run` on the script without the four lines, on a source and to a sink that tell nothing; what the source held and
 -- what was written are said apart.

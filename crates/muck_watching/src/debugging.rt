@@ -16,8 +16,9 @@ use muck_dumping::Store;
 use muck_io::{ReadFault, Sink, Source, read_all};
 use muck_log::Log;
 use muck_model::Tale;
-use muck_run::{RunFault, Why, begin, last_dump, mount, stop};
+use muck_run::{RunFault, begin, last_dump, mount, stop};
 use muck_script::{SCRIPT_MOST, ScriptFault};
+use muck_why::Why;
 use muf_debug::Tracer;
 use std::alloc::Global;
 

@@ -1,5 +1,5 @@
 -- What a call for `serve` comes to, from what the server says.
-use Rattle.std.proofs.Common.{◌≡◌, ◌⊎◌, inl, inr, ℕ, ◌≤◌, Bool, true, false, List, refl, sym, ap, subst, ◌∙◌, Option, Some, None, Ok, Err}
+use Rattle.std.proofs.Common.{◌≡◌, ◌⊎◌, inl, inr, ℕ, ◌≤◌, Bool, true, List, refl, sym, ap, subst, ◌∙◌, Option, Some, Ok, Err}
 use Rattle.std.specs.Prelude.{codes, length, All, ◌++◌, ◌^◌}
 use Rattle.muck_codec.specs.inner.Stored.{AreProperties}
 use Rattle.muck_io.specs.Faults.{Rose}
@@ -18,52 +18,29 @@ use Rattle.spec_live.specs.Boards.{early_board}
 use Rattle.muck_dumping.specs.inner.Between.{IsReady as HasLog}
 use Rattle.muck_porter.specs.inner.Kept.{Account, account}
 use Rattle.muck_crew.specs.inner.Runs.{IsFresh}
-use Rattle.muck_server.specs.Served.{IsServed, IsUnserved as Never, HasEnded}
-use Rattle.muck_crew.specs.declared.why.Why.{Why as Ended}
-use Rattle.muck_crew.specs.declared.why.Why.TheVariants as ended
+use Rattle.muck_server.specs.Served.{IsServed, IsUnserved as Never, EndsTo, HasEnded}
 use Rattle.muck_run.specs.Outcome.{IsUntouched, EndsFull}
 use Rattle.muck_run.specs.inner.Dumps.{note_of}
-use Rattle.muckd.specs.Serving.{why_served, IsUnserved, HasServed, ServesAs, ServeDone}
+use Rattle.muckd.specs.Serving.{IsUnserved, HasServed, ServesAs, ServeDone}
 use Rattle.muck_run.specs.inner.Ends.{IsBootable, IsNoteOf, MayRefuse, booted_at, unbegun_at, begun_at}
-use Rattle.muck_run.specs.declared.why.Why.{Why}
-use Rattle.muck_run.specs.declared.why.Why.TheVariants.{Fine, NoMemory, DiskFault, Damaged, ListenFault, StoreFull, Spent}
+use Rattle.muck_why.specs.declared.why.Why.{Why}
+use Rattle.muck_why.specs.declared.why.Why.TheVariants.{Fine, NoMemory, DiskFault, Damaged, ListenFault, StoreFull, Spent}
+use Rattle.muck_why.specs.Causes.{Ending, end_of}
+use Rattle.muck_why.specs.inner.Endings.{EndsServer}
+use Rattle.muck_why.proofs.Causes.{began_server}
 use Rattle.muck_run.proofs.Called.{holds_still, either_since}
 use Rattle.muck_run.proofs.Started.{rests_started, licensed_from, sourced_from, denials_from, origins_from, seats_from, stops_from, there_from, known_from}
 use Rattle.muck_run.proofs.Untouched.{untouched_still, untouched_on}
 
--- The answers of the server, as the call gives them.
+-- The ending of a server, and a cause that is answered where it was begun.
 
-abbrev pub server_why : Why → Option Ended
-server_why Fine = Some ended.Fine
-server_why NoMemory = Some ended.NoMemory
-server_why DiskFault = Some ended.DiskFault
-server_why (Damaged second at) = Some (ended.Damaged second at)
-server_why ListenFault = Some ended.ListenFault
-server_why (StoreFull end more) = Some (ended.StoreFull end more)
-server_why (Spent turns) = Some (ended.Spent turns)
-server_why why = None
-
-why_again : (cause : Ended) → server_why (why_served cause) ≡ Some cause
-why_again ended.Fine = refl
-why_again ended.NoMemory = refl
-why_again ended.DiskFault = refl
-why_again (ended.Damaged second at) = refl
-why_again ended.ListenFault = refl
-why_again (ended.StoreFull end more) = refl
-why_again (ended.Spent turns) = refl
-
--- the server's own answer, by that of the call
-pub cause_is : (cause is : Ended) (why : Why) → why_served cause ≡ why → server_why why ≡ Some is → cause ≡ is
-cause_is cause is why e back = let both = sym (why_again cause) ∙ ap server_why e ∙ back in cc
-
-pub served_ends : (cause : Ended) (U S : Type 0) → S → ServesAs (why_served cause) U S
-served_ends ended.Fine U S s = s
-served_ends ended.NoMemory U S s = inr s
-served_ends ended.DiskFault U S s = inr s
-served_ends (ended.Damaged second at) U S s = inr s
-served_ends ended.ListenFault U S s = s
-served_ends (ended.StoreFull end more) U S s = s
-served_ends (ended.Spent turns) U S s = s
+server_ending : (workers faults faults' : ℕ) (w : World) (end : Ending) (tale : List Entry) → EndsTo workers faults faults' w end tale → EndsServer end
+server_ending workers faults faults' w Ending.stored tale ended = tt
+server_ending workers faults faults' w Ending.failed tale ended = tt
+server_ending workers faults faults' w Ending.died tale ended = tt
+server_ending workers faults faults' w Ending.deaf tale ended = tt
+server_ending workers faults faults' w (Ending.spent turns) tale ended = tt
+server_ending workers faults faults' w end tale ended = absurd ended
 
 -- The world of a server that begins.
 
@@ -93,7 +70,7 @@ ready_begun began seen moment images faults log f s boots props mounted h is = r
 
 module _ {L C D : Type 0} (shows : Bool) (told : L → Told) (listening : L → ℕ) (answers : C → Option (List ℕ))
     (tells : Bool) (attached : D → Option (List ℕ)) (seen : D → List ℕ) (moment : D → ℕ) (images : D → ℕ → List ℕ → Type 0) (faults : D → ℕ) (store : List ℕ) (port workers : ℕ)
-    (log : LogState) (began : ℕ) (mounting : Note) (cause : Ended) (l l' : L) (c c' c'' : C) (first second first' second' first'' second'' : D) (tale : List Entry) (notes : List Note) (counted : Option Counted) where
+    (log : LogState) (began : ℕ) (mounting : Note) (why : Why) (l l' : L) (c c' c'' : C) (first second first' second' first'' second'' : D) (tale : List Entry) (notes : List Note) (counted : Option Counted) where
   -- what links and clock tell
   abbrev pub account_of : L → C → Account
   account_of links clock = account (told links) (listening links) (answers clock)
@@ -101,14 +78,14 @@ module _ {L C D : Type 0} (shows : Bool) (told : L → Told) (listening : L → 
   abbrev pub Unserved : Type 0
   Unserved = IsUnserved shows told answers tells seen moment images port l l' c c'' first second first'' second'' tale counted
 
-  abbrev pub Served : Why → Type 0
-  Served why = HasServed shows told listening answers tells attached seen moment images faults store port workers why l l' c c'' first second first'' second'' tale notes counted
+  abbrev pub Served : Type 0
+  Served = HasServed shows told listening answers tells attached seen moment images faults store port workers why l l' c c'' first second first'' second'' tale notes counted
 
   abbrev pub Ends : World → Type 0
-  Ends w = IsServed shows tells (account_of l c') (account_of l' c'') seen moment images faults workers port cause w log.chosen.held.number mounting first' second' first'' second'' tale notes counted
+  Ends w = IsServed shows tells (account_of l c') (account_of l' c'') seen moment images faults workers port why w log.chosen.held.number mounting first' second' first'' second'' tale notes counted
 
   abbrev pub Wanted : Type 0
-  Wanted = Never shows (account_of l c') (account_of l' c'') port cause first' second' first'' second'' tale counted
+  Wanted = Never shows (account_of l c') (account_of l' c'') port why first' second' first'' second'' tale counted
 
   -- what was said of the mounting, and of the disks since then
   pub record Mounting : Type 0 where
@@ -128,7 +105,7 @@ module _ {L C D : Type 0} (shows : Bool) (told : L → Told) (listening : L → 
   held : Mounting → tells ≡ true → stored (seen first) (seen second) ≡ Ok log.chosen
   held m on = holds_still seen moment images first second first' second' (m.first_file on) (m.second_file on) (Ok log.chosen) (m.mounted on).mounted.load
 
-  has_served : Mounting → Ends (booted_at began log.chosen.held.world) → Served (why_served cause)
+  has_served : Mounting → Ends (booted_at began log.chosen.held.world) → Served
   has_served m s = record {
     start = booted_at began log.chosen.held.world;
     began = began;
@@ -155,8 +132,6 @@ module _ {L C D : Type 0} (shows : Bool) (told : L → Told) (listening : L → 
       first_faults = m.note.first_faults;
       second_faults = m.note.second_faults;
     };
-    cause = cause;
-    answered = refl;
     lawful = s.lawful;
     licensed = licensed_from began log.chosen.held.world tale;
     sourced = sourced_from began log.chosen.held.world tale;
@@ -175,11 +150,11 @@ module _ {L C D : Type 0} (shows : Bool) (told : L → Told) (listening : L → 
     ended = s.ended;
     worked_off = s.worked_off;
     safe = s.safe;
-    whole = λ on e. s.whole on (cause_is cause ended.Fine Fine e refl);
+    whole = s.whole;
     full = λ end more on e.
-        let v = s.full end more on (cause_is cause (ended.StoreFull end more) (StoreFull end more) e refl) in
+        let v = s.full end more on e in
         record { n = v.n; store = v.store; held = v.shown; front = v.front; place = v.place; size = v.size; over = v.over };
-    failed = λ on e. s.rose on (cause_is cause ended.DiskFault DiskFault e refl);
+    failed = s.rose;
   }
 
   never_served : Mounting → Wanted → Unserved
@@ -194,13 +169,12 @@ module _ {L C D : Type 0} (shows : Bool) (told : L → Told) (listening : L → 
   }
 
   -- which of the two, by the answer
-  pub server_ends : Mounting → (w : World) → w ≡ booted_at began log.chosen.held.world → Wanted ⊎ Ends w → (why : Why) → why ≡ why_served cause → ServesAs why Unserved (Served why)
-  server_ends m w is r why answered =
-      subst (λ (x : Why). ServesAs x Unserved (Served x)) (sym answered)
-      (elim r [
-        | inl n ↦ subst (λ (x : Ended). ServesAs (why_served x) Unserved (Served (why_served cause))) (sym n.wanted) (inl (never_served m n))
-        | inr s ↦ served_ends cause Unserved (Served (why_served cause)) (has_served m (subst (λ (x : World). Ends x) is s))
-      ])
+  pub server_ends : Mounting → (w : World) → w ≡ booted_at began log.chosen.held.world → Wanted ⊎ Ends w → ServesAs why Unserved Served
+  server_ends m w is r =
+      elim r [
+        | inl n ↦ subst (λ (x : Why). ServesAs x Unserved Served) (sym n.wanted) (inl (never_served m n))
+        | inr s ↦ began_server why Unserved Served (server_ending workers (listening l) (listening l') w (end_of why) tale s.ended) (has_served m (subst (λ (x : World). Ends x) is s))
+      ]
 
 -- no store was mounted
 pub refused_serves : (why : Why) (U S : Type 0) → MayRefuse why → U → ServesAs why U S
@@ -211,25 +185,23 @@ refused_serves why U S may u = absurd may
 
 -- What the server itself says of the disks, by its answer.
 
-module _ {D : Type 0} (shows tells : Bool) (before now : Account) (seen : D → List ℕ) (moment : D → ℕ) (images : D → ℕ → List ℕ → Type 0) (faults : D → ℕ) (first first' : D) (second second' : D) (workers port : ℕ) (cause : Ended)
+module _ {D : Type 0} (shows tells : Bool) (before now : Account) (seen : D → List ℕ) (moment : D → ℕ) (images : D → ℕ → List ℕ → Type 0) (faults : D → ℕ) (first first' : D) (second second' : D) (workers port : ℕ) (why : Why)
     (w : World) (mounted : ℕ) (mounting : Note) (tale : List Entry) (notes : List Note) (counted : Option Counted)
-    (r : Never shows before now port cause first second first' second' tale counted ⊎ IsServed shows tells before now seen moment images faults workers port cause w mounted mounting first second first' second' tale notes counted) where
+    (r : Never shows before now port why first second first' second' tale counted ⊎ IsServed shows tells before now seen moment images faults workers port why w mounted mounting first second first' second' tale notes counted) where
   -- a disk failed since the store was mounted
-  pub disk_failed : (a b : ℕ) → a ≤ faults first → b ≤ faults second → why_served cause ≡ DiskFault → Rose a (faults first') ⊎ Rose b (faults second')
+  pub disk_failed : (a b : ℕ) → a ≤ faults first → b ≤ faults second → why ≡ DiskFault → Rose a (faults first') ⊎ Rose b (faults second')
   disk_failed a b le ge e =
-      let is = cause_is cause ended.DiskFault DiskFault e refl in
       elim r [
-        | inl n ↦ let both = sym n.wanted ∙ is in cc
-        | inr s ↦ either_since a (faults first) (faults first') b (faults second) (faults second') le ge (s.failed is)
+        | inl n ↦ let both = sym n.wanted ∙ e in cc
+        | inr s ↦ either_since a (faults first) (faults first') b (faults second) (faults second') le ge (s.failed e)
       ]
 
   -- a store that was mounted isn't damaged
-  pub not_damaged : (file : Bool) (at : ℕ) → tells ≡ true → why_served cause ≡ Damaged file at → ⊥
+  pub not_damaged : (file : Bool) (at : ℕ) → tells ≡ true → why ≡ Damaged file at → ⊥
   not_damaged file at on e =
-      let is = cause_is cause (ended.Damaged file at) (Damaged file at) e refl in
       elim r [
-        | inl n ↦ let both = sym n.wanted ∙ is in cc
-        | inr s ↦ s.undamaged file at on is
+        | inl n ↦ let both = sym n.wanted ∙ e in cc
+        | inr s ↦ s.undamaged file at on e
       ]
 
 -- where nothing stood in its way
@@ -259,7 +231,7 @@ module _ {L C D : Type 0} (shows : Bool) (told : L → Told) (listening : L → 
   listening_failed : ServesAs why U HasBeenServed → why ≡ ListenFault → Rose (listening l) (listening l')
   listening_failed ends e =
       let s : HasBeenServed = subst (λ (x : Why). ServesAs x U HasBeenServed) e ends in
-      (subst (λ (x : Ended). HasEnded workers (listening l) (listening l') s.start x tale) (cause_is s.cause ended.ListenFault ListenFault (sym s.answered ∙ e) refl) s.ended).0
+      (subst (λ (x : Why). HasEnded workers (listening l) (listening l') s.start x tale) e s.ended).0
 
   served_full : tells ≡ true → (end more : ℕ) → why ≡ StoreFull end more → HasBeenServed → (began : ℕ) × EndsFull tells seen began first second first' second' tale notes end more
   served_full on end more is s = (s.began, record { start = s.start; mounted = s.mounted; begins = s.begins; full = s.full end more on is })
@@ -267,7 +239,7 @@ module _ {L C D : Type 0} (shows : Bool) (told : L → Told) (listening : L → 
   turns_spent : ServesAs why U HasBeenServed → (turns : ℕ) → why ≡ Spent turns → (turns ≡ 2 ^ 62) × (2 ^ 62 ≤ length tale)
   turns_spent ends turns e =
       let s : HasBeenServed = subst (λ (x : Why). ServesAs x U HasBeenServed) e ends in
-      subst (λ (x : Ended). HasEnded workers (listening l) (listening l') s.start x tale) (cause_is s.cause (ended.Spent turns) (Spent turns) (sym s.answered ∙ e) refl) s.ended
+      subst (λ (x : Why). HasEnded workers (listening l) (listening l') s.start x tale) e s.ended
 
   -- what a call comes to, from which of the two is so, and the causes of the answers that a store gives
   pub serve_done : ServesAs why U HasBeenServed → (why ≡ DiskFault → Rose (faults first) (faults first') ⊎ Rose (faults second) (faults second'))

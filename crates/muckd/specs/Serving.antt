@@ -22,27 +22,16 @@ use Rattle.spec_serve.specs.Promises.{Tally}
 use Rattle.muck_porter.specs.Times.{Timely}
 use Rattle.muck_crew.specs.Shared.{IsShared, AllOver, LeavesWorkedOff}
 use Rattle.muck_server.specs.Served.{IsCarried, HasStopped, HasRunOut, HasEnded}
-use Rattle.muck_crew.specs.declared.why.Why.{Why as Ended}
-use Rattle.muck_crew.specs.declared.why.Why.TheVariants as ended
 use Rattle.muckd.specs.Words.{Command, serve}
 use Rattle.muck_run.specs.Outcome.{IsStart, IsOpened, IsUntouched, IsTooLarge, EndsFull}
-use Rattle.muck_run.specs.declared.why.Why.{Why}
-use Rattle.muck_run.specs.declared.why.Why.TheVariants.{Fine, NoMemory, DiskFault, Damaged, ListenFault, StoreFull, Spent}
+use Rattle.muck_why.specs.declared.why.Why.{Why}
+use Rattle.muck_why.specs.declared.why.Why.TheVariants.{Fine, NoMemory, DiskFault, Damaged, ListenFault, StoreFull, Spent}
+use Rattle.muck_why.specs.Causes.{admitted, row_of}
 
 -- it is the command of a server
 abbrev pub is_served : Option Command → Bool
 is_served (Some (serve store port workers)) = true
 is_served other = false
-
--- why a server ended, as the call answers it
-abbrev pub why_served : Ended → Why
-why_served ended.Fine = Fine
-why_served ended.NoMemory = NoMemory
-why_served ended.DiskFault = DiskFault
-why_served (ended.Damaged second at) = Damaged second at
-why_served ended.ListenFault = ListenFault
-why_served (ended.StoreFull end more) = StoreFull end more
-why_served (ended.Spent turns) = Spent turns
 
 -- what links tell, with the count of faults in listening
 abbrev pub tally_of : {L : Type 0} → (L → Told) → (L → ℕ) → L → Tally
@@ -82,8 +71,6 @@ pub record HasServed {L C D : Type 0} (shows : Bool) (told : L → Told) (listen
   pub coming : Option (List ℕ)
   pub clock : Answers (answers c) coming began
   pub opened : IsOpened tells attached seen moment images faults store first second first' second' notes
-  pub cause : Ended
-  pub answered : why ≡ why_served cause
   pub lawful : AllLawful start tale
   pub licensed : AllLicensed start tale
   pub sourced : AllSourced start tale
@@ -94,13 +81,13 @@ pub record HasServed {L C D : Type 0} (shows : Bool) (told : L → Told) (listen
   pub there : StaysThere start tale
   pub passwords : AllKnown start tale
   pub shared : IsShared workers tale
-  pub over : ¬ (HasRunOut cause tale) → AllOver workers tale
+  pub over : ¬ (HasRunOut why tale) → AllOver workers tale
   pub links_note : IsLinksNote counted start tale
   pub carried : shows ≡ true → IsCarried (counts_in counted) (tally_of told listening l) (tally_of told listening l') start tale
   pub ports : shows ≡ true → (told l').ports ≡ port ∷ (told l).ports
   pub timely : Timely coming (answers c') start tale
-  pub ended : HasEnded workers (listening l) (listening l') start cause tale
-  pub worked_off : shows ≡ true → HasStopped cause → LeavesWorkedOff (counts_in counted) start tale (tally_of told listening l')
+  pub ended : HasEnded workers (listening l) (listening l') start why tale
+  pub worked_off : shows ≡ true → HasStopped why → LeavesWorkedOff (counts_in counted) start tale (tally_of told listening l')
   pub safe : tells ≡ true → IsSafe moment images faults first' second' start mounted tale notes
   pub whole : tells ≡ true → why ≡ Fine → StandsWhole moment images first' second' start tale
   pub full : (end more : ℕ) → tells ≡ true → why ≡ StoreFull end more → IsTooLarge seen first' second' start mounted tale notes end more
@@ -108,14 +95,7 @@ pub record HasServed {L C D : Type 0} (shows : Bool) (told : L → Told) (listen
 
 -- Which of the two is so, by the answer.
 abbrev pub ServesAs : Why → Type 0 → Type 0 → Type 0
-ServesAs Fine unserved served = served
-ServesAs ListenFault unserved served = served
-ServesAs (StoreFull end more) unserved served = served
-ServesAs (Spent turns) unserved served = served
-ServesAs NoMemory unserved served = unserved ⊎ served
-ServesAs DiskFault unserved served = unserved ⊎ served
-ServesAs (Damaged second at) unserved served = unserved ⊎ served
-ServesAs why unserved served = ⊥
+ServesAs why unserved served = admitted (row_of why).serve unserved served
 
 -- A call for `serve`, by its answer.
 pub record ServeDone {L C D : Type 0} (shows : Bool) (told : L → Told) (listening : L → ℕ) (answers : C → Option (List ℕ))

@@ -13,7 +13,7 @@ use muck_disk::FileDisk;
 use muck_io::{OpenGate, ReaderSource, SystemClock, WriterSink};
 use muck_links::{Bell, BellRest, Links, MioLinks};
 use muck_read_disk::ReadDisk;
-use muck_run::Why;
+use muck_why::Why;
 use std::fs::File;
 use std::os::fd::{AsRawFd, RawFd};
 use std::process::ExitCode;

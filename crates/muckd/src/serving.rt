@@ -1,31 +1,17 @@
 // A world is served.
-ghost use Rattle.std.specs.Prelude.{◌≡◌, ◌≤◌};
-ghost use Rattle.muckd.specs.Serving.{why_served, ServeDone};
+ghost use Rattle.std.specs.Prelude.{◌≤◌};
+ghost use Rattle.muckd.specs.Serving.{ServeDone};
 
 use muck_disk::Disk;
 use muck_io::{Clock, Gate, Rest};
 use muck_links::Links;
 use muck_model::Tale;
-use muck_run::{Why, awake, mount};
-use muck_server::{Why as Ended, serve};
+use muck_run::{awake, mount};
+use muck_server::serve;
+use muck_why::Why;
 use std::alloc::Global;
 use std::sync::Wait;
 use std::thread::Threads;
-
-// Why a server ended, as the call answers it.
-fn why_served(why: Ended) -> Why
-    ensures { result ≡ why_served why }
-{
-    match why {
-        Ended::Fine => Why::Fine,
-        Ended::NoMemory => Why::NoMemory,
-        Ended::DiskFault => Why::DiskFault,
-        Ended::Damaged { second, at } => Why::Damaged { second, at },
-        Ended::ListenFault => Why::ListenFault,
-        Ended::StoreFull { end, more } => Why::StoreFull { end, more },
-        Ended::Spent { turns } => Why::Spent { turns },
-    }
-}
 
 /// Mounts the store, and serves its world from the clock's second on, until it is stopped. Answers why it ended, with what happened in the world.
 ///
@@ -62,8 +48,7 @@ pub fn serve_store<
     let Ok(world) = awake(alloc, &log, first, second, began) else {
         return (Why::NoMemory, Tale::none());
     };
-    let (why, tale) = serve(
+    serve(
         rt, alloc, world, log, links, clock, first, second, gate, rest, workers, port,
-    );
-    (why_served(why), tale)
+    )
 }

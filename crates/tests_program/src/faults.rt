@@ -1,7 +1,8 @@
 // Runs on a store in memory, of which one write of the transcript or one call of the first file fails; and how the causes are written.
 use muck_disk::{FailDisk, MemDisk};
 use muck_io::{MemSink, MemSource};
-use muck_run::{Why, run};
+use muck_run::run;
+use muck_why::Why;
 use std::alloc::Global;
 use std::test::Fail;
 

@@ -11,16 +11,9 @@ use Rattle.spec_events.specs.Histories.{History, now, entered}
 use Rattle.muck_dumping.specs.inner.Dumps.{by, Dumps, HasDumped}
 use Rattle.muck_crew.specs.declared.serving.Way.{Way}
 use Rattle.muck_crew.specs.declared.serving.Way.TheVariants as ends
-use Rattle.muck_crew.specs.declared.why.Why.{Why}
-use Rattle.muck_crew.specs.declared.why.Why.TheVariants.{Fine, NoMemory, DiskFault, Damaged, ListenFault, StoreFull, Spent}
-
--- why a run ends whose last dump failed; no dump on disks that tell their bytes fails since its log is stale
-abbrev pub why_of : LogFault → Why
-why_of fault.NoMemory = NoMemory
-why_of fault.DiskFault = DiskFault
-why_of (fault.Damaged second at) = Damaged second at
-why_of (fault.StoreFull end more) = StoreFull end more
-why_of fault.Stale = Damaged false 0
+use Rattle.muck_why.specs.declared.why.Why.{Why}
+use Rattle.muck_why.specs.declared.why.Why.TheVariants.{Fine, NoMemory, ListenFault, Spent}
+use Rattle.muck_why.specs.Causes.{why_of}
 
 abbrev pub why_from : Result (Option LogFault) Wanting → Why
 why_from (Ok None) = Fine

@@ -4,7 +4,7 @@ use Rattle.muck_log.specs.Store.{LogState}
 use Rattle.spec_events.specs.Histories.{History}
 use Rattle.muck_porter.specs.inner.Kept.{Account}
 use Rattle.muck_crew.specs.declared.serving.Way.{Way}
-use Rattle.muck_crew.specs.declared.why.Why.{Why}
+use Rattle.muck_why.specs.declared.why.Why.{Why}
 use Rattle.muck_crew.specs.inner.Finished.{IsFinish}
 use Rattle.muck_crew.specs.inner.Runs.{HasRun}
 

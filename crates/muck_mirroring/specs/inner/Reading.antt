@@ -2,8 +2,8 @@
 use Rattle.std.specs.Prelude.{ℕ, List, Option}
 use Rattle.muck_follow.specs.declared.fault.FollowFault.{FollowFault}
 use Rattle.muck_follow.specs.declared.fault.FollowFault.TheVariants as follow
-use Rattle.muck_run.specs.declared.why.Why.{Why}
-use Rattle.muck_run.specs.declared.why.Why.TheVariants.{BadScript, NoMemory, ReadFault, WriteFault, DiskFault}
+use Rattle.muck_why.specs.declared.why.Why.{Why}
+use Rattle.muck_why.specs.declared.why.Why.TheVariants.{BadScript, NoMemory, ReadFault, WriteFault, DiskFault}
 use Rattle.muck_mirroring.specs.Mirroring.{IsFirstOutside}
 
 -- why no script was read

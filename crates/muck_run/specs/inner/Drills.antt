@@ -7,8 +7,8 @@ use Rattle.spec_events.specs.Histories.{History, now, by_porter}
 use Rattle.muck_script.specs.declared.act.Act.{Act}
 use Rattle.muck_script.specs.Story.{Dumped, outcomes_of, lines_story, transcript}
 use Rattle.muck_run.specs.Drill.{drill_script, drill_text, IsDrillFront}
-use Rattle.muck_run.specs.declared.why.Why.{Why}
-use Rattle.muck_run.specs.declared.why.Why.TheVariants.{Fine, NoMemory, WriteFault}
+use Rattle.muck_why.specs.declared.why.Why.{Why}
+use Rattle.muck_why.specs.declared.why.Why.TheVariants.{Fine, NoMemory, WriteFault}
 
 -- the starting world, in which nothing has happened
 abbrev pub fresh : History

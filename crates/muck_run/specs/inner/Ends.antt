@@ -19,8 +19,10 @@ use Rattle.muck_run.specs.Outcome.{HasRun, IsFirstOutside, IsTooLarge}
 use Rattle.muck_run.specs.inner.Dumps.{IsFull, ComesOut}
 use Rattle.muck_run.specs.inner.Plays.{Plays, Breaks}
 use Rattle.muck_script.specs.Story.{failed, dump_entries, dumping}
-use Rattle.muck_run.specs.declared.why.Why.{Why}
-use Rattle.muck_run.specs.declared.why.Why.TheVariants.{Fine, BadScript, NoMemory, ReadFault, WriteFault, DiskFault, Damaged, StoreFull}
+use Rattle.muck_why.specs.declared.why.Why.{Why}
+use Rattle.muck_why.specs.declared.why.Why.TheVariants.{Fine, BadScript, NoMemory, ReadFault, DiskFault, Damaged, StoreFull}
+use Rattle.muck_why.specs.Causes.{Ending, end_of}
+use Rattle.muck_why.specs.inner.Endings.{EndsDump, EndsRun}
 
 -- why a call ends whose store couldn't be mounted
 abbrev pub refusal_of : LogFault → Why
@@ -29,14 +31,6 @@ refusal_of LogDisk = DiskFault
 refusal_of (LogDamaged second at) = Damaged second at
 refusal_of (LogFull end more) = Damaged false 0
 refusal_of Stale = Damaged false 0
-
--- why a call ends whose last dump failed
-abbrev pub why_of : LogFault → Why
-why_of LogMemory = NoMemory
-why_of LogDisk = DiskFault
-why_of (LogDamaged second at) = Damaged second at
-why_of (LogFull end more) = StoreFull end more
-why_of Stale = Damaged false 0
 
 -- why the files weren't opened
 abbrev pub MayNotOpen : Why → Type 0
@@ -115,13 +109,8 @@ pub record NeverPlayed {K D : Type 0} (why : Why) (k l : K) (first second first'
 
 -- why a run ends that began
 abbrev pub MayEnd : Bool → Why → Type 0
-MayEnd tells Fine = Unit {0}
-MayEnd tells NoMemory = Unit {0}
-MayEnd tells WriteFault = Unit {0}
-MayEnd tells DiskFault = Unit {0}
-MayEnd tells (StoreFull end more) = Unit {0}
 MayEnd tells (Damaged second at) = tells ≡ true → ⊥
-MayEnd tells why = ⊥
+MayEnd tells why = EndsRun (end_of why)
 
 -- before anything was noted, and with the note of the mounting
 abbrev pub unbegun_at : ℕ → LogState → History
@@ -130,16 +119,23 @@ unbegun_at began log = record { start = booted_at began log.chosen.held.world; e
 abbrev pub begun_at : ℕ → LogState → Note → History
 begun_at began log note = noted (unbegun_at began log) note
 
--- the last dump of a run, by why the run ends if it was played whole
-abbrev pub EndsPlay : History → History → Option (List ℕ) → Why → Type 0
-EndsPlay h k o NoMemory = Breaks dumping (by_porter Died ∷ []) h k o o
-EndsPlay h k o why = Plays dumping h k o o
+-- the last dump of a run, by how the run ends if it was played whole
+abbrev pub PlaysTo : History → History → Option (List ℕ) → Ending → Type 0
+PlaysTo h k o Ending.died = Breaks dumping (by_porter Died ∷ []) h k o o
+PlaysTo h k o end = Plays dumping h k o o
 
--- how the last dump came out, by why the run ends if it was played whole
+-- and how that dump came out
+abbrev pub ComesOutTo : History → History → Ending → Type 0
+ComesOutTo h k Ending.stored = ComesOut h k None
+ComesOutTo h k Ending.died = Unit {0}
+ComesOutTo h k end = (n : ℕ) × Longer h k (dump_entries (failed n))
+
+-- both by why it ends
+abbrev pub EndsPlay : History → History → Option (List ℕ) → Why → Type 0
+EndsPlay h k o why = PlaysTo h k o (end_of why)
+
 abbrev pub ComesOutAs : History → History → Why → Type 0
-ComesOutAs h k Fine = ComesOut h k None
-ComesOutAs h k NoMemory = Unit {0}
-ComesOutAs h k why = (n : ℕ) × Longer h k (dump_entries (failed n))
+ComesOutAs h k why = ComesOutTo h k (end_of why)
 
 -- What is kept of both disks behind the last dump.
 pub record LastKept {D : Type 0} (seen : D → List ℕ) (moment : D → ℕ) (images : D → ℕ → List ℕ → Type 0) (faults : D → ℕ) (first second : D) (mounted : ℕ) (h : History) (why : Why) : Type 0 where
@@ -150,9 +146,5 @@ pub record LastKept {D : Type 0} (seen : D → List ℕ) (moment : D → ℕ) (i
 
 -- why a last dump lets a run end that was played whole
 abbrev pub MayEndDump : Bool → Why → Type 0
-MayEndDump tells Fine = Unit {0}
-MayEndDump tells NoMemory = Unit {0}
-MayEndDump tells DiskFault = Unit {0}
-MayEndDump tells (StoreFull end more) = Unit {0}
 MayEndDump tells (Damaged second at) = tells ≡ true → ⊥
-MayEndDump tells why = ⊥
+MayEndDump tells why = EndsDump (end_of why)

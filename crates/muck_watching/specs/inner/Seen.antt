@@ -17,8 +17,8 @@ use Rattle.muck_run.specs.Outcome.{IsPending}
 use Rattle.muck_run.specs.inner.Plays.{Says, ending_of}
 use Rattle.muck_run.specs.declared.playing.RunFault.{RunFault}
 use Rattle.muck_run.specs.declared.playing.RunFault.TheVariants.{NoMemory, WriteFault}
-use Rattle.muck_run.specs.declared.why.Why.{Why}
-use Rattle.muck_run.specs.declared.why.Why.TheVariants.{BadScript, NoMemory as OutOfMemory, ReadFault}
+use Rattle.muck_why.specs.declared.why.Why.{Why}
+use Rattle.muck_why.specs.declared.why.Why.TheVariants.{BadScript, NoMemory as OutOfMemory, ReadFault}
 use Rattle.muck_watching.specs.Debugged.{IsFirstOutside}
 
 -- why no script of `debug` was read

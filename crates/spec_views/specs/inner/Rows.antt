@@ -8,7 +8,6 @@ use Rattle.muf_model.specs.declared.code.Word.TheVariants.{Literal, Variable, Pr
 use Rattle.muf_model.specs.declared.prims.Primitive.TheVariants.{Pop, Add, IntToStr, Fetch, Swap, Notify}
 use Rattle.muf_model.specs.Tree.{Block, stop, word, Tree}
 use Rattle.muf_debug.specs.declared.view.View.{View}
-use Rattle.muf_debug.specs.Printed.{printed}
 use Rattle.muf_debug.specs.Shown.{told_all}
 use Rattle.spec_events.specs.World.{World}
 use Rattle.spec_events.specs.Slices.{sliced}

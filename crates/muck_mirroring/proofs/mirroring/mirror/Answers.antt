@@ -2,8 +2,8 @@ use Rattle.std.proofs.Common.{◌≡◌, ◌⊎◌, Err, inl, inr, refl, sym, ap
 use Rattle.muck_run.proofs.Called.{either_since, err_is, holds_still}
 use Rattle.muck_run.proofs.Untouched.{untouched_on}
 use Rattle.muck_io.specs.Faults.{Rose}
-use Rattle.muck_run.specs.declared.why.Why.{Why}
-use Rattle.muck_run.specs.declared.why.Why.TheVariants.{WriteFault, DiskFault}
+use Rattle.muck_why.specs.declared.why.Why.{Why}
+use Rattle.muck_why.specs.declared.why.Why.TheVariants.{WriteFault, DiskFault}
 use Rattle.muck_mirroring.specs.Mirroring.{HasRead, HasFollowed, MirrorDone}
 use Rattle.muck_mirroring.specs.inner.Reading.{IsScriptWhy, why_of}
 use Rattle.muck_mirroring.proofs.Called.{unread_ends, ceased_ends, ceased_text, MayCease, may_cease, is_write, is_disk, completes, replies_before}

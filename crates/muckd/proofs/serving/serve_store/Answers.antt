@@ -9,12 +9,12 @@ use Rattle.muckd.proofs.serving.serve_store.Goals as goal
 pub awake-requires : goal.awake-requires
 awake-requires g c = record { bootable = bootable c.in-Ok.log.chosen.held.world c.in-Ok.ensures.fine }
 
-pub serve-why-requires-clause-fresh : goal.serve-why-requires-clause-fresh
-serve-why-requires-clause-fresh g c κs within =
+pub serve-requires-clause-fresh : goal.serve-requires-clause-fresh
+serve-requires-clause-fresh g c κs within =
     (note_of g.D.Disk.moment g.D.Disk.faults c.mount.new.first c.mount.new.second (unbegun_at c.now-began.result c.in-Ok.log), fresh_begun c.now-began.result c.in-Ok.log (note_of g.D.Disk.moment g.D.Disk.faults c.mount.new.first c.mount.new.second (unbegun_at c.now-began.result c.in-Ok.log)) c.in-Ok-awake.world c.in-Ok-awake.ensures.world)
 
-pub serve-why-requires-clause-mounted : goal.serve-why-requires-clause-mounted
-serve-why-requires-clause-mounted g c κs within = λ tells.
+pub serve-requires-clause-mounted : goal.serve-requires-clause-mounted
+serve-requires-clause-mounted g c κs within = λ tells.
     (c.in-Ok.log.chosen.held.number, ready_begun c.now-began.result g.D.Disk.seen g.D.Disk.moment g.D.Disk.images g.D.Disk.faults c.in-Ok.log c.mount.new.first c.mount.new.second (bootable c.in-Ok.log.chosen.held.world c.in-Ok.ensures.fine) c.in-Ok-awake.ensures.properties (c.in-Ok.ensures.log tells) c.in-Ok-awake.world c.in-Ok-awake.ensures.world)
 
 -- no store was mounted
@@ -63,21 +63,21 @@ pub returns : goal.returns
 returns g c =
     let note = note_of g.D.Disk.moment g.D.Disk.faults c.mount.new.first c.mount.new.second (unbegun_at c.now-began.result c.in-Ok.log) in
     let boots = bootable c.in-Ok.log.chosen.held.world c.in-Ok.ensures.fine in
-    let served = c.serve-why.ensures.served c.in-Ok.log.chosen.held.number note (fresh_begun c.now-began.result c.in-Ok.log note c.in-Ok-awake.world c.in-Ok-awake.ensures.world)
+    let served = c.serve.ensures.served c.in-Ok.log.chosen.held.number note (fresh_begun c.now-began.result c.in-Ok.log note c.in-Ok-awake.world c.in-Ok-awake.ensures.world)
     (λ tells. ready_begun c.now-began.result g.D.Disk.seen g.D.Disk.moment g.D.Disk.images g.D.Disk.faults c.in-Ok.log c.mount.new.first c.mount.new.second boots c.in-Ok-awake.ensures.properties (c.in-Ok.ensures.log tells) c.in-Ok-awake.world c.in-Ok-awake.ensures.world) in
     record {
       done =
           serve_done _ _ _ _ _ _ _ _ _ _ _ _ _ _ _ _ _ _ _ _ _ _ _ _ _
           (server_ends (g.L.Links.tells c.args.links.now) g.L.Links.told g.L.Links.listening g.C.Clock.answers g.D.Disk.tells g.D.Disk.attached g.D.Disk.seen g.D.Disk.moment g.D.Disk.images g.D.Disk.faults c.args.store.now c.args.port c.args.workers
-          c.in-Ok.log c.now-began.result note c.serve-why.result.0 c.args.links.now c.serve-why.new.links c.args.clock.now c.now-began.new.self c.serve-why.new.clock c.args.first.now c.args.second.now c.mount.new.first c.mount.new.second c.serve-why.new.first c.serve-why.new.second
-          c.serve-why.result.1.entries c.serve-why.result.1.notes c.serve-why.result.1.counted
+          c.in-Ok.log c.now-began.result note c.serve.result.0 c.args.links.now c.serve.new.links c.args.clock.now c.now-began.new.self c.serve.new.clock c.args.first.now c.args.second.now c.mount.new.first c.mount.new.second c.serve.new.first c.serve.new.second
+          c.serve.result.1.entries c.serve.result.1.notes c.serve.result.1.counted
           (record {
             mounted = c.in-Ok.ensures.log;
             fine = c.in-Ok.ensures.fine;
             first_name = c.in-Ok.ensures.first_name;
             second_name = c.in-Ok.ensures.second_name;
-            first_still = c.serve-why.ensures.first_attached;
-            second_still = c.serve-why.ensures.second_attached;
+            first_still = c.serve.ensures.first_attached;
+            second_still = c.serve.ensures.second_attached;
             first_file = c.in-Ok.ensures.first_file;
             second_file = c.in-Ok.ensures.second_file;
             first_later = c.in-Ok.ensures.first_later;
@@ -85,7 +85,7 @@ returns g c =
             clock = c.now-began.ensures;
             note = record { first_moment = refl; second_moment = refl; first_faults = refl; second_faults = refl };
           })
-          c.in-Ok-awake.world.start (start_begun c.now-began.result c.in-Ok.log note c.in-Ok-awake.world c.in-Ok-awake.ensures.world) served c.why_served.result c.why_served.ensures)
-          (λ e. disk_failed _ _ _ _ _ _ _ _ _ _ _ _ _ _ _ _ _ _ _ _ _ served _ _ c.in-Ok.ensures.first_later c.in-Ok.ensures.second_later (sym c.why_served.ensures ∙ e))
-          (λ file at tells e. absurd (not_damaged _ _ _ _ _ _ _ _ _ _ _ _ _ _ _ _ _ _ _ _ _ served file at tells (sym c.why_served.ensures ∙ e)));
+          c.in-Ok-awake.world.start (start_begun c.now-began.result c.in-Ok.log note c.in-Ok-awake.world c.in-Ok-awake.ensures.world) served)
+          (λ e. disk_failed _ _ _ _ _ _ _ _ _ _ _ _ _ _ _ _ _ _ _ _ _ served _ _ c.in-Ok.ensures.first_later c.in-Ok.ensures.second_later e)
+          (λ file at tells e. absurd (not_damaged _ _ _ _ _ _ _ _ _ _ _ _ _ _ _ _ _ _ _ _ _ served file at tells e));
     }
