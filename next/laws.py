@@ -3,6 +3,7 @@
 
     next/laws.py --dry [TOP]    lists what would move, by file of `laws`, and which statements were said more than once
     next/laws.py [TOP]          does it, in the tree at TOP (here: the folder above this one)
+    next/laws.py --unused [TOP] takes away the lemmas that the tree's bin/unused prints, until it prints none (functions are left to the hand)
 
 It reads crates/*/{src,specs,proofs} and crates.txt alone, and writes the same whenever the tree is the same. What it does:
 
@@ -19,6 +20,7 @@ import collections
 import glob
 import os
 import re
+import subprocess
 import sys
 
 # Names: of those that shared theirs with another statement, and of those whose own says too little outside of its file. (file of proofs, without .antt; name there): name in `laws`
@@ -773,25 +775,8 @@ def named_by(top, crate, changed, removed):
     return found
 
 
-def main(words):
-    dry = "--dry" in words
-    rest = [word for word in words if word != "--dry"]
-    if any(word.startswith("-") for word in rest) or len(rest) > 1:
-        print(__doc__)
-        return 2
-    top = os.path.abspath(rest[0] if rest else os.path.join(os.path.dirname(os.path.realpath(__file__)), ".."))
-    if os.path.isdir(f"{top}/crates/laws/proofs"):
-        print("crates/laws is there already")
-        return 2
-    tree = Tree(top)
-    stands = choose(tree)
-    firsts = {what for what in stands.values() if what in tree.lemmas}
-    firsts = needed(tree, stands, firsts)
-    names = name_all(tree, firsts)
-    place, order = subjects(tree, firsts, stands)
-    for key in order:
-        assert all(stands[other] in firsts or stands[other] not in tree.lemmas for other in tree.lemmas[key].needs), key
-
+def changes(tree, stands, names, place):
+    """The files of specs/ and proofs/ that are other texts now, and those that go."""
     changed, removed, mods = {}, set(), collections.defaultdict(set)
     for file in tree.files.values():
         change = Change(tree, file, stands, names, place)
@@ -815,6 +800,77 @@ def main(words):
         else:
             changed.pop(path, None)
             removed.add(path)
+    return changed, removed, mods
+
+
+ROW = "| [laws](../crates/laws/README.md) | lemmas on truths, numbers, options, lists and texts that name nothing of the project | each said once, over std alone; no code, no definition |\n"
+
+
+def pages(top):
+    """docs/ARCHITECTURE.md with the crate in its drawing and in its table."""
+    path = f"{top}/docs/ARCHITECTURE.md"
+    if not os.path.isfile(path):
+        return {}
+    with open(path, encoding="utf-8") as file:
+        text = file.read()
+    if "(../crates/laws/" in text:
+        return {}
+    lowest = re.search(r"^ 1 +(muck_model.*)\n", text, re.M)
+    if lowest:
+        text = text[:lowest.end()] + " 0" + " " * (lowest.start(1) - lowest.start() - 2) + "laws\n" + text[lowest.end():]
+    text, count = re.subn(r"^(?=\| \[muck_model\])", lambda _: ROW, text, count=1, flags=re.M)
+    if not lowest or not count:
+        print("docs/ARCHITECTURE.md: put `laws` into the drawing and the table by hand")
+    return {"docs/ARCHITECTURE.md": text}
+
+
+def write(top, texts, removed):
+    for path in sorted(removed):
+        os.remove(f"{top}/{path}")
+        folder = os.path.dirname(f"{top}/{path}")
+        if not os.listdir(folder):
+            os.rmdir(folder)
+    for path, text in sorted(texts.items()):
+        os.makedirs(os.path.dirname(f"{top}/{path}"), exist_ok=True)
+        with open(f"{top}/{path}", "w", encoding="utf-8") as file:
+            file.write(text)
+
+
+def without_unused(top):
+    """Takes away what nothing names."""
+    while True:
+        told = subprocess.run([f"{top}/bin/unused"], capture_output=True, text=True, check=False).stdout
+        found = [it.groups() for it in re.finditer(r"^(crates/\S+\.antt):\d+: (\S+) \(", told, re.M)]
+        if not found:
+            return 0
+        tree = Tree(top)
+        texts, removed, mods = changes(tree, {key: ("Rattle.std", "nothing") for key in found}, {}, {})
+        write(top, texts, removed)
+        print("\n".join(f"taken away: {path} {name}" for path, name in found))
+
+
+def main(words):
+    dry = "--dry" in words
+    rest = [word for word in words if word not in ("--dry", "--unused")]
+    if any(word.startswith("-") for word in rest) or len(rest) > 1:
+        print(__doc__)
+        return 2
+    top = os.path.abspath(rest[0] if rest else os.path.join(os.path.dirname(os.path.realpath(__file__)), ".."))
+    if "--unused" in words:
+        return without_unused(top)
+    if os.path.isdir(f"{top}/crates/laws/proofs"):
+        print("crates/laws is there already")
+        return 2
+    tree = Tree(top)
+    stands = choose(tree)
+    firsts = {what for what in stands.values() if what in tree.lemmas}
+    firsts = needed(tree, stands, firsts)
+    names = name_all(tree, firsts)
+    place, order = subjects(tree, firsts, stands)
+    for key in order:
+        assert all(stands[other] in firsts or stands[other] not in tree.lemmas for other in tree.lemmas[key].needs), key
+
+    changed, removed, _ = changes(tree, stands, names, place)
     for path, text in rust_changes(tree, stands, names, place).items():
         changed[path] = text
     files = laws_files(tree, stands, names, place, order)
@@ -840,15 +896,7 @@ def main(words):
             print(f"crates.txt: {crate} needs {it} no more")
     first = next(n for n, line in enumerate(out) if line and not line.startswith("#"))
     made["crates.txt"] = "\n".join(out[:first] + ["laws:"] + out[first:])
-    for path in sorted(removed):
-        os.remove(f"{top}/{path}")
-        folder = os.path.dirname(f"{top}/{path}")
-        if not os.listdir(folder):
-            os.rmdir(folder)
-    for path, text in sorted({**changed, **made}.items()):
-        os.makedirs(os.path.dirname(f"{top}/{path}"), exist_ok=True)
-        with open(f"{top}/{path}", "w", encoding="utf-8") as file:
-            file.write(text)
+    write(top, {**changed, **made, **pages(top)}, removed)
     return 0
 
 
