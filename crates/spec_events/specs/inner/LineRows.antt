@@ -23,7 +23,8 @@ use Rattle.spec_commands.specs.Reading.{with_fit, with_parts, with_arguments, by
 use Rattle.spec_commands.specs.Commands.{play_words, play_line, build_words, build_line, or_else, commanded, played}
 use Rattle.spec_commands.specs.inner.Company.{queues}
 use Rattle.muck_queue.specs.Queues.{empty_queue, number_most, is_full, added, without}
-use Rattle.spec_admin.specs.Parameters.{parameters, retuned}
+use Rattle.muck_model.specs.Parameters.{parameters}
+use Rattle.spec_admin.specs.Parameters.{retuned}
 use Rattle.spec_admin.specs.Replies.{killed_reply, parameter_reply, dumping, going_down}
 use Rattle.spec_admin.specs.Processes.{kill_told}
 use Rattle.spec_admin.specs.Lines.{parameter_set, tune_done, admin_words, admin_done, admin_line, line_ends, after_line}
