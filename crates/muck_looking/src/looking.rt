@@ -11,14 +11,14 @@ use crate::lines::{form, headed};
 use muck_db::{Db, KnownPaths};
 use muck_model::{Dbref, Line, LineList, NoMemory};
 use muck_perm::{flag_at, lock_text, message_at, owner_at};
-use spec_live::DARK;
+use spec_live::{DARK, Message};
 use std::alloc::Global;
 
 // The description of an object.
 fn description<'a>(db: &'a Db, paths: &KnownPaths, d: Dbref) -> Option<&'a Line>
     ensures { option_copied result ≡ message_at description_path d db.now }
 {
-    message_at(db, d, &paths.describe)
+    message_at(db, d, paths.message(Message::Describe))
 }
 
 // Adds its description, where it has one.
