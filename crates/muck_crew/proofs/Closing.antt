@@ -17,7 +17,7 @@ use Rattle.muck_model.specs.declared.event.Event.TheVariants.{Died}
 use Rattle.muck_model.specs.declared.note.Note.{Note}
 use Rattle.spec_events.specs.declared.logged.Logged.{Logged}
 use Rattle.spec_events.specs.World.{World}
-use Rattle.spec_events.specs.Steps.{is_died, is_lawful, effect, happened}
+use Rattle.spec_events.specs.Steps.{is_died, is_lawful, effect, happened, hooked_by}
 use Rattle.spec_events.specs.Histories.{History, now, after, AllLawful}
 use Rattle.spec_events.specs.Logged.{logged, loose_notes, loose_count, logged_by, entry_of, entries_of, events_of, notes_from, counted_from, items_from}
 use Rattle.spec_events.proofs.Logging.{entries_logged}
@@ -77,7 +77,7 @@ longer_than xs ys (rest, is) = let l = length-append ys rest in let s = ap lengt
 
 -- Want of memory.
 
-died_dead : (w : World) (p : ℕ) (event : Event) → is_died event ≡ true → (happened w p event).dead ≡ true
+died_dead : (w : World) (p : ℕ) (event : Event) → is_died event ≡ true → (hooked_by w event (happened w p event)).dead ≡ true
 died_dead w p Died is = refl
 died_dead w p event is = absurd (both_ways false refl is)
 

@@ -20,14 +20,14 @@ use Rattle.muck_db.specs.inner.Blocks.{full, has, is_done, is_some, is_so, flagg
 
 -- Writes at one place of a list.
 
-get_elsewhere : {X : Type 0} (xs : List X) (n k : ℕ) (v : X) → (k ≡ n → ⊥) → slice_get (slice_set xs n v) k ≡ slice_get xs k
+pub get_elsewhere : {X : Type 0} (xs : List X) (n k : ℕ) (v : X) → (k ≡ n → ⊥) → slice_get (slice_set xs n v) k ≡ slice_get xs k
 get_elsewhere [] n k v ne = refl
 get_elsewhere (y ∷ ys) zero zero v ne = absurd (ne refl)
 get_elsewhere (y ∷ ys) zero (suc k) v ne = refl
 get_elsewhere (y ∷ ys) (suc n) zero v ne = refl
 get_elsewhere (y ∷ ys) (suc n) (suc k) v ne = get_elsewhere ys n k v (λ e. ne (ap suc e))
 
-get_before : {X : Type 0} (xs : List X) (x : X) (k : ℕ) → (k ≡ length xs → ⊥) → slice_get (xs ++ x ∷ []) k ≡ slice_get xs k
+pub get_before : {X : Type 0} (xs : List X) (x : X) (k : ℕ) → (k ≡ length xs → ⊥) → slice_get (xs ++ x ∷ []) k ≡ slice_get xs k
 get_before [] x zero ne = absurd (ne refl)
 get_before [] x (suc k) ne = refl
 get_before (y ∷ ys) x zero ne = refl

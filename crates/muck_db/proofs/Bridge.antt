@@ -24,10 +24,11 @@ use Rattle.muck_db.specs.inner.Slots.{next_at, first_at, place_at, kind_at, path
 use Rattle.muck_db.specs.inner.Limits.{IsWithinLimits}
 use Rattle.spec_live.proofs.Ties.{consistent_moved}
 use Rattle.muck_db.proofs.LimitLaws.{limits_moved}
-use Rattle.muck_db.proofs.Tables.{first-on_slot, next-on_slot, mark-on_slot, object-on_slot_same, object-on_slot_other, saving_other}
+use Rattle.spec_live.proofs.Tracing.{stood_moved}
+use Rattle.muck_db.proofs.Tables.{first-on_slot, next-on_slot, mark-on_slot, stood-on_slot, object-on_slot_same, object-on_slot_other, saving_other}
 use Rattle.muck_db.proofs.Leads.{relinked_due, IsWithout, next_without, saving_without, follower_put}
 use Rattle.muck_db.proofs.Linked.{chain_at, chain_over, led_from}
-use Rattle.muck_db.proofs.Readers.{length-entries_of, object_in-entries_of, list_in-entries_of, place_in-entries_of, is_exit-entries_of, kind_in-entries_of, flags_in-entries_of, home_in-entries_of, owner_in-entries_of, mark_in-entries_of, saving_in-entries_of}
+use Rattle.muck_db.proofs.Readers.{length-entries_of, object_in-entries_of, list_in-entries_of, place_in-entries_of, is_exit-entries_of, kind_in-entries_of, flags_in-entries_of, home_in-entries_of, owner_in-entries_of, mark_in-entries_of, saving_in-entries_of, stood_in-entries_of}
 
 pub walk_same : (k : ℕ) (f g : ℕ → Option ℕ) (s : Option ℕ) → ((x : ℕ) → g x ≡ f x) → walk k g s ≡ walk k f s
 unfolding walk
@@ -82,6 +83,7 @@ unlinked_none d slots h none = record {
   same_length = refl;
   same_objects = λ k. refl;
   same_marks = λ k. refl;
+  same_stood = λ k. refl;
   due = λ k leads. let m : (v : Bool) × (q : ℕ) × Member d (list_at v slots q) = led_from slots d k leads in absurd (cc ((h.stands m.0 m.1 d m.2).place, none));
   same_savings = λ k leads. refl;
   chains = λ v p. chain_over _ _ _ _ _ _ _ _ refl refl (without_same d (list_at v slots p) (λ m. absurd (cc ((h.stands v p d m).place, none)))) (λ x m. refl) (chain_at slots h v p);
@@ -168,6 +170,7 @@ entries_moved d to w old mid placed new exit lt alive u is_placed l =
     ∙ sym (rw (is_exit-entries_of old d, exit, list_in-entries_of v old k) at (list_moved v (entries_of old) d to k (omega (arith, length-entries_of old)))))
     (λ k. mark_in-entries_of new k ∙ l.same_marks k ∙ rw is_placed (mark-on_slot mid d k (with_place to)) ∙ u.same_marks k ∙ sym (mark_in-entries_of old k) ∙ sym (mark_moved (entries_of old) d to k))
     (λ k. saving_in-entries_of new k ∙ saving_placed d to w old mid placed new lt u is_placed l k)
+    (λ k. stood_in-entries_of new k ∙ l.same_stood k ∙ rw is_placed (stood-on_slot mid d k (with_place to)) ∙ u.same_stood k ∙ sym (stood_in-entries_of old k) ∙ sym (stood_moved d to (entries_of old) k))
 
 pub order_moved : (d to : ℕ) (w : Bool) (old placed new : List Slot) → HasOrder old → MayMove (entries_of old) d to → IsLinked w to d placed new → entries_of new ≡ moved d to (entries_of old) → HasOrder new
 order_moved d to w old placed new s may l is = record {

@@ -20,19 +20,20 @@ use Rattle.spec_live.specs.Moving.{left_out, moved, Does}
 use Rattle.spec_live.specs.Recycling.{untie, untied, way_home, sent_home, gone_entry, is_exit_of, exit_gone, without_exits, exits_gone, vanished, taken_away, recycled, recycle_check}
 use Rattle.spec_live.specs.Consistent.{StandsIn, IsOrdered, IsConsistent, MayMove}
 use Rattle.spec_live.proofs.Chains.{ends_from, walk_none, walk_next, without_gone, without_member}
-use Rattle.spec_live.proofs.Lists.{length_map, length_changed, get_changed_same, get_changed_other, some_at}
+use Rattle.spec_live.proofs.Lists.{length_map, length_changed, get_changed_same, get_changed_other, some_at, kept_then, read_kept}
 use Rattle.spec_live.proofs.Readers.{entries_ext, kind_alike, place_alike}
 use Rattle.spec_live.proofs.KindLaws.{place_alive, only_exit, none_in_exit}
 use Rattle.spec_live.proofs.Checks.{alive_known}
 use Rattle.spec_live.proofs.HomeLaws.{IsUntied, is_untied, ordered_untied, list_untied, length_untied, length_sent_home, kind_untied, kind_sent_home, HomeStep, home_step}
 use Rattle.spec_live.proofs.RecyclingLaws.{is_exit_at, exit_stands, stands_exit, length_taken, object_taken, list_taken, mark_taken, kind_taken, consistent_recycled}
 use Rattle.spec_live.proofs.Dues.{saving_exits, saving_vanished}
+use Rattle.spec_live.proofs.Tracing.{stood_taken}
 use Rattle.muck_db.specs.declared.slot.Slot.{Slot}
-use Rattle.muck_db.specs.inner.Slots.{shown, object_at, kind_at, next_at, first_of, first_at, mark_at, place_at, list_at, saving_at, untied_slot, new_slot, wiped, exit_wiped, entry_of, entries_of, LeadsTo, Stands, HasOrder, HasPlayers, IsSound, IsKept, IsUnlinked}
+use Rattle.muck_db.specs.inner.Slots.{shown, object_at, kind_at, next_at, first_of, first_at, mark_at, place_at, list_at, saving_at, stood_at, untied_slot, wiped, exit_wiped, entry_of, entries_of, LeadsTo, Stands, HasOrder, HasPlayers, IsSound, IsKept, IsUnlinked}
 use Rattle.muck_db.specs.inner.Limits.{IsWithinLimits}
 use Rattle.muck_db.specs.inner.Exits.{exit_at}
 use Rattle.muck_db.proofs.LimitLaws.{limits_recycled}
-use Rattle.muck_db.proofs.Readers.{length-entries_of, object_in-entries_of, kind_in-entries_of, list_in-entries_of, mark_in-entries_of, saving_in-entries_of}
+use Rattle.muck_db.proofs.Readers.{length-entries_of, object_in-entries_of, kind_in-entries_of, list_in-entries_of, mark_in-entries_of, saving_in-entries_of, stood_in-entries_of}
 use Rattle.muck_db.proofs.Leads.{relinked_due, IsWithout, next_without, saving_without}
 use Rattle.muck_db.proofs.Linked.{chain_over}
 use Rattle.muck_db.proofs.Bridge.{list_is, ends_none, order_chains}
@@ -131,10 +132,10 @@ left_object d o = cond (is_exit_of d o) garbage o
 pub length_wiped : (d : ℕ) (old new : List Slot) → new ≡ map (exit_wiped d) old → length new ≡ length old
 length_wiped d old new is = ap (λ (z : List Slot). length z) is ∙ length_map (exit_wiped d) old
 
-get_wiped : (d : ℕ) (mid left new : List Slot) → d < length mid → left ≡ map (exit_wiped d) mid → new ≡ changed_at d wiped left → slice_get new d ≡ Some (new_slot None (Some Gone))
+get_wiped : (d : ℕ) (mid left new : List Slot) → d < length mid → left ≡ map (exit_wiped d) mid → new ≡ changed_at d wiped left → (s : Slot) × (slice_get new d ≡ Some (wiped s))
 get_wiped d mid left new lt l n =
     let s : (x : Slot) × (slice_get left d ≡ Some x) = some_at left d (omega (arith, lt, length_wiped d mid left l)) in
-    ap (λ (z : List Slot). slice_get z d) n ∙ get_changed_same left d wiped ∙ ap (λ (o : Option Slot). option_map wiped o) s.1
+    (s.0, ap (λ (z : List Slot). slice_get z d) n ∙ get_changed_same left d wiped ∙ ap (λ (o : Option Slot). option_map wiped o) s.1)
 
 get_other : (d k : ℕ) (mid left new : List Slot) → (k ≡ d → ⊥) → left ≡ map (exit_wiped d) mid → new ≡ changed_at d wiped left → slice_get new k ≡ option_map (exit_wiped d) (slice_get mid k)
 get_other d k mid left new ne l n = ap (λ (z : List Slot). slice_get z k) n ∙ get_changed_other left d k wiped ne ∙ ap (λ (z : List Slot). slice_get z k) l ∙ slice_get-map (exit_wiped d) mid k
@@ -244,8 +245,8 @@ chain_left v d p old mid left new s u l n ne =
 
 first_here : (v : Bool) (d : ℕ) (mid left new : List Slot) → d < length mid → left ≡ map (exit_wiped d) mid → new ≡ changed_at d wiped left → first_at v new d ≡ None
 unfolding first_at
-first_here true d mid left new lt l n = ap (λ (o : Option Slot). option_and_then (first_of true) o) (get_wiped d mid left new lt l n)
-first_here false d mid left new lt l n = ap (λ (o : Option Slot). option_and_then (first_of false) o) (get_wiped d mid left new lt l n)
+first_here true d mid left new lt l n = ap (λ (o : Option Slot). option_and_then (first_of true) o) (get_wiped d mid left new lt l n).1
+first_here false d mid left new lt l n = ap (λ (o : Option Slot). option_and_then (first_of false) o) (get_wiped d mid left new lt l n).1
 
 pub ends_vanished : (d : ℕ) (old mid left new : List Slot) → HasOrder old → d < length old → IsUnlinked d old mid → left ≡ map (exit_wiped d) mid → new ≡ changed_at d wiped left
     → (v : Bool) (p : ℕ) → Ends (length new) (next_at new) (first_at v new p)
@@ -259,25 +260,25 @@ ends_vanished d old mid left new s lt u l n v p = elim (cases_eq p d) [
 
 -- The same of the entries.
 
-get_gone : (d : ℕ) (es : List Entry) → d < length es → slice_get (vanished d (exits_gone d es)) d ≡ Some gone_entry
+get_gone : (d : ℕ) (es : List Entry) → d < length es → (e : Entry) × (slice_get (vanished d (exits_gone d es)) d ≡ Some (gone_entry e))
 unfolding vanished exits_gone
 get_gone d es lt =
     let xs : List Entry = changed_at d without_exits (map (exit_gone d) es) in
     let s : (x : Entry) × (slice_get (map (left_out d) xs) d ≡ Some x) = some_at (map (left_out d) xs) d (omega (arith, lt, length_map (left_out d) xs, length_changed (map (exit_gone d) es) d without_exits, length_map (exit_gone d) es)) in
-    get_changed_same (map (left_out d) xs) d (λ e. gone_entry) ∙ ap (λ (o : Option Entry). option_map (λ (e : Entry). gone_entry) o) s.1
+    (s.0, get_changed_same (map (left_out d) xs) d gone_entry ∙ ap (λ (o : Option Entry). option_map gone_entry o) s.1)
 
 get_left : (d k : ℕ) (es : List Entry) → (k ≡ d → ⊥) → slice_get (vanished d (exits_gone d es)) k ≡ option_map (left_out d) (option_map (exit_gone d) (slice_get es k))
 unfolding vanished exits_gone
 get_left d k es ne =
     let xs : List Entry = changed_at d without_exits (map (exit_gone d) es) in
-    get_changed_other (map (left_out d) xs) d k (λ e. gone_entry) ne ∙ slice_get-map (left_out d) xs k
+    get_changed_other (map (left_out d) xs) d k gone_entry ne ∙ slice_get-map (left_out d) xs k
     ∙ ap (λ (o : Option Entry). option_map (left_out d) o) (get_changed_other (map (exit_gone d) es) d k without_exits ne ∙ slice_get-map (exit_gone d) es k)
 
-gone_is : (d : ℕ) (e : Entry) → is_exit_of d e.object ≡ true → exit_gone d e ≡ gone_entry
-gone_is d e h = ap (λ b. cond b gone_entry e) h
+gone_is : (d : ℕ) (e : Entry) → is_exit_of d e.object ≡ true → exit_gone d e ≡ gone_entry e
+gone_is d e h = ap (λ b. cond b (gone_entry e) e) h
 
 stays_is : (d : ℕ) (e : Entry) → is_exit_of d e.object ≡ false → exit_gone d e ≡ e
-stays_is d e h = ap (λ b. cond b gone_entry e) h
+stays_is d e h = ap (λ b. cond b (gone_entry e) e) h
 
 gone_object : (d : ℕ) (e : Entry) (b : Bool) → is_exit_of d e.object ≡ b → (exit_gone d e).object ≡ left_object d e.object
 unfolding left_object gone_entry
@@ -334,15 +335,15 @@ exit_bridge d k slots = ap (λ (o : Option Object). option_map_or (is_exit_of d)
 
 gone_here : (d : ℕ) (es : List Entry) → d < length es → (object_in (vanished d (exits_gone d es)) d ≡ Some garbage) × (mark_in (vanished d (exits_gone d es)) d ≡ Some Gone) × ((v : Bool) → list_in v (vanished d (exits_gone d es)) d ≡ [])
 unfolding object_in mark_in list_in gone_entry
-gone_here d es lt = (ap (λ (o : Option Entry). option_map (λ (e : Entry). e.object) o) (get_gone d es lt), ap (λ (o : Option Entry). option_and_then (λ (e : Entry). e.mark) o) (get_gone d es lt), λ v. ap (λ (o : Option Entry). option_map_or (list_of v) o []) (get_gone d es lt) ∙ none v)
+gone_here d es lt = (ap (λ (o : Option Entry). option_map (λ (e : Entry). e.object) o) (get_gone d es lt).1, ap (λ (o : Option Entry). option_and_then (λ (e : Entry). e.mark) o) (get_gone d es lt).1, λ v. ap (λ (o : Option Entry). option_map_or (list_of v) o []) (get_gone d es lt).1 ∙ none v)
   where
-    none : (v : Bool) → list_of v gone_entry ≡ []
+    none : (v : Bool) → list_of v (gone_entry (get_gone d es lt).0) ≡ []
     none true = refl
     none false = refl
 
 wiped_here : (d : ℕ) (mid left new : List Slot) → d < length mid → left ≡ map (exit_wiped d) mid → new ≡ changed_at d wiped left → (object_at new d ≡ Some garbage) × (mark_at new d ≡ Some Gone)
 unfolding object_at mark_at
-wiped_here d mid left new lt l n = (ap (λ (o : Option Slot). option_map shown o) (get_wiped d mid left new lt l n), ap (λ (o : Option Slot). option_and_then (λ (s : Slot). s.mark) o) (get_wiped d mid left new lt l n))
+wiped_here d mid left new lt l n = (ap (λ (o : Option Slot). option_map shown o) (get_wiped d mid left new lt l n).1, ap (λ (o : Option Slot). option_and_then (λ (s : Slot). s.mark) o) (get_wiped d mid left new lt l n).1)
 
 -- The marks of what is left.
 
@@ -437,7 +438,7 @@ taken_else d k es s c empty ne stays is_due same =
 
 wiped_due : (d : ℕ) (mid left new : List Slot) → d < length mid → left ≡ map (exit_wiped d) mid → new ≡ changed_at d wiped left → saving_at new d ≡ Due
 unfolding saving_at
-wiped_due d mid left new lt l n = ap (λ (o : Option Slot). option_map_or (λ (s : Slot). s.saving) o Due) (get_wiped d mid left new lt l n)
+wiped_due d mid left new lt l n = ap (λ (o : Option Slot). option_map_or (λ (s : Slot). s.saving) o Due) (get_wiped d mid left new lt l n).1
 
 saving_taken : (d : ℕ) (old mid left new : List Slot) → HasOrder old → list_in false (entries_of old) d ≡ [] → d < length old → IsUnlinked d old mid → left ≡ map (exit_wiped d) mid → new ≡ changed_at d wiped left
     → (k : ℕ) → saving_at new k ≡ saving_in (taken_away d (entries_of old)) k
@@ -453,6 +454,16 @@ saving_taken d old mid left new s empty lt u l n k =
           (λ h. let since : saving_at new k ≡ saving_at mid k = kept ∙ ap (λ b. cond b Due (saving_at mid k)) h in
           taken_else d k es (saving_at new k) s.ordered empty ne h (λ q. since ∙ u.due k q) (λ q. since ∙ u.same_savings k q ∙ sym (saving_in-entries_of old k)))
     ]
+
+stood_wiped : (d : ℕ) (s : Slot) → (exit_wiped d s).stood ≡ s.stood
+stood_wiped d s = whether (is_exit_of d (shown s)) ((exit_wiped d s).stood ≡ s.stood) (λ h. ap (λ (z : Slot). z.stood) (wiped_is d s h)) (λ h. ap (λ (z : Slot). z.stood) (unwiped_is d s h))
+
+stood_left : (d k : ℕ) (mid left new : List Slot) → left ≡ map (exit_wiped d) mid → new ≡ changed_at d wiped left → stood_at new k ≡ stood_at mid k
+unfolding stood_at
+stood_left d k mid left new l n =
+    ap (λ (z : List Slot). option_and_then (λ (s : Slot). s.stood) (slice_get z k)) n ∙ read_kept (λ (s : Slot). s.stood) left d k wiped (λ s. refl)
+    ∙ ap (λ (z : List Slot). option_and_then (λ (s : Slot). s.stood) (slice_get z k)) l
+    ∙ ap (λ (o : Option Slot). option_and_then (λ (s : Slot). s.stood) o) (slice_get-map (exit_wiped d) mid k) ∙ kept_then (λ (s : Slot). s.stood) (exit_wiped d) (slice_get mid k) (stood_wiped d)
 
 pub entries_vanished : (d : ℕ) (old mid left new : List Slot) → HasOrder old → list_in false (entries_of old) d ≡ [] → d < length old → IsUnlinked d old mid → left ≡ map (exit_wiped d) mid → new ≡ changed_at d wiped left
     → entries_of new ≡ taken_away d (entries_of old)
@@ -483,6 +494,7 @@ entries_vanished d old mid left new s empty lt u l n =
       | inr ne ↦ mark_kept_at d k mid left new ne l n ∙ ap (λ b. cond b (Some Gone) (mark_at mid k)) (exits k) ∙ ap (λ z. cond (exit_in d es k) (Some Gone) z) (u.same_marks k ∙ sym (mark_in-entries_of old k)) ∙ sym (mark_left_in d k es ne)
     ]) ∙ sym (mark_taken es d k))
     (λ k. saving_in-entries_of new k ∙ saving_taken d old mid left new s empty lt u l n k)
+    (λ k. stood_in-entries_of new k ∙ stood_left d k mid left new l n ∙ u.same_stood k ∙ sym (stood_in-entries_of old k) ∙ sym (stood_taken d es k))
 
 -- All steps.
 
@@ -503,9 +515,9 @@ length_cleared d old mid lt e = omega (
 
 vanished_kind : (d : ℕ) (es : List Entry) → kind_in (vanished d es) d ≡ Garbage
 unfolding vanished kind_in object_in gone_entry garbage
-vanished_kind d es = rw (get_changed_same (map (left_out d) es) d (λ e. gone_entry)) (by_cases (slice_get (map (left_out d) es) d))
+vanished_kind d es = rw (get_changed_same (map (left_out d) es) d gone_entry) (by_cases (slice_get (map (left_out d) es) d))
   where
-    by_cases : (a : Option Entry) → option_map_or (λ (o : Object). o.kind) (option_map (λ (e : Entry). e.object) (option_map (λ e. gone_entry) a)) Garbage ≡ Garbage
+    by_cases : (a : Option Entry) → option_map_or (λ (o : Object). o.kind) (option_map (λ (e : Entry). e.object) (option_map gone_entry a)) Garbage ≡ Garbage
     by_cases None = refl
     by_cases (Some e) = refl
 

@@ -19,6 +19,7 @@ use Rattle.spec_live.specs.Moving.{left_out, put_first, with_place, set_down, mo
 use Rattle.spec_live.specs.Making.{blank_entry, grown, new_object, created}
 use Rattle.spec_live.specs.Marks.{unmarked, marked_from, change_told}
 use Rattle.spec_live.specs.Password.{salt_bytes, first_salt, first_password}
+use Rattle.spec_live.specs.Stood.{still, stilled}
 use Rattle.spec_live.specs.Recycling.{without_ties, untie, untied, way_home, sent_home, gone_entry, is_exit_of, exit_gone, without_exits, exits_gone, vanished, taken_away, recycled}
 use Rattle.spec_live.specs.Saving.{relinked, all_saving}
 use Rattle.spec_live.specs.Setting.{set_at, with_name, with_owner, with_link, with_home, with_flags, level_check, with_level, with_lines, lines_set, with_password, with_prop, without_prop}
@@ -182,20 +183,24 @@ limits_untied : (d : ℕ) (es : List Entry) → IsWithinLimits es → IsWithinLi
 unfolding untied
 limits_untied d es h = limits_map (untie d) es (λ e. fits_same e.object (without_ties d e.object) (record { name = refl; level = refl; flags = refl; lines = refl; digest = refl })) h
 
+pub limits_stilled : (es : List Entry) → IsWithinLimits es → IsWithinLimits (stilled es)
+unfolding stilled
+limits_stilled es h = limits_map still es (λ e l. l) h
+
 limits_sent_home : (xs : List ℕ) (es : List Entry) → IsWithinLimits es → IsWithinLimits (sent_home xs es)
 unfolding sent_home
 limits_sent_home [] es h = h
 limits_sent_home (x ∷ xs) es h = limits_sent_home xs (moved x (way_home x es) es) (limits_moved x (way_home x es) es h)
 
-gone_fits : FitsLimits gone_entry.object
+gone_fits : (e : Entry) → FitsLimits (gone_entry e).object
 unfolding gone_entry
-gone_fits = garbage_fits
+gone_fits e = garbage_fits
 
 exit_fits : (d : ℕ) (e : Entry) → FitsLimits e.object → FitsLimits (exit_gone d e).object
 exit_fits d e h = by_cases (is_exit_of d e.object)
   where
-    by_cases : (b : Bool) → FitsLimits (cond b gone_entry e).object
-    by_cases true = gone_fits
+    by_cases : (b : Bool) → FitsLimits (cond b (gone_entry e) e).object
+    by_cases true = gone_fits e
     by_cases false = h
 
 limits_exits_gone : (d : ℕ) (es : List Entry) → IsWithinLimits es → IsWithinLimits (exits_gone d es)
@@ -204,7 +209,7 @@ limits_exits_gone d es h = limits_at d without_exits (map (exit_gone d) es) (λ 
 
 limits_vanished : (d : ℕ) (es : List Entry) → IsWithinLimits es → IsWithinLimits (vanished d es)
 unfolding vanished
-limits_vanished d es h = limits_at d (λ e. gone_entry) (map (left_out d) es) (λ e l. gone_fits) (limits_map (left_out d) es (λ e l. l) h)
+limits_vanished d es h = limits_at d gone_entry (map (left_out d) es) (λ e l. gone_fits e) (limits_map (left_out d) es (λ e l. l) h)
 
 pub limits_recycled : (d : ℕ) (es : List Entry) → IsWithinLimits es → IsWithinLimits (recycled d es)
 unfolding recycled taken_away

@@ -10,7 +10,7 @@ use Rattle.spec_live.proofs.Chains.{chain_frame, chain_below, chain_apart, chain
 use Rattle.spec_live.proofs.Lists.{same_place, put_same, put_other, length_changed}
 use Rattle.muck_db.specs.declared.slot.Slot.{Slot}
 use Rattle.muck_db.specs.inner.Slots.{next_at, first_at, place_at, list_at, saving_at, with_next, with_first, entries_of, LeadsTo, Stands, HasChains, IsUnlinked, IsLinked}
-use Rattle.muck_db.proofs.Tables.{object-with_next, object-with_first, mark-with_next, mark-with_first, first-with_next, next-with_first, next-with_next_same, next-with_next_other, first-with_first_same, first-with_first_other, saving_due, saving_other, with_first_due}
+use Rattle.muck_db.proofs.Tables.{object-with_next, object-with_first, mark-with_next, mark-with_first, stood-with_next, stood-with_first, first-with_next, next-with_first, next-with_next_same, next-with_next_other, first-with_first_same, first-with_first_other, saving_due, saving_other, with_first_due}
 use Rattle.muck_db.proofs.Readers.{list_in-entries_of, place_in-entries_of, is_exit-entries_of}
 use Rattle.muck_db.proofs.Leads.{front_member, follower_member, first_behind_none, one_before}
 
@@ -177,6 +177,7 @@ unlinked_first w p d old h here lt first = record {
   same_length = length_changed old p (with_first w (next_at old d));
   same_objects = λ k. object-with_first w old p k (next_at old d);
   same_marks = λ k. mark-with_first w old p k (next_at old d);
+  same_stood = λ k. stood-with_first w old p k (next_at old d);
   due = λ k. led_due d p k old (changed_at p (with_first w (next_at old d)) old) (first_leads old h w p d k here (list_begins old h w p ∙ first)) (saving_due old p (with_first w (next_at old d)) (with_first_due w (next_at old d)));
   same_savings = λ k. led_same d p k old (changed_at p (with_first w (next_at old d)) old) (leads_first old w p d (list_begins old h w p ∙ first)) (saving_other old p k (with_first w (next_at old d)));
   chains = λ v q. elim (same_place v w q p) [
@@ -198,6 +199,7 @@ unlinked_later w p d i old h here before leads first = record {
   same_length = length_changed old i (with_next (next_at old d));
   same_objects = λ k. object-with_next old i k (next_at old d);
   same_marks = λ k. mark-with_next old i k (next_at old d);
+  same_stood = λ k. stood-with_next old i k (next_at old d);
   due = λ k. led_due d i k old (changed_at i (with_next (next_at old d)) old)
       (later_leads old h w p d i k here (λ e. first (sym (list_begins old h w p) ∙ e)) (follower_is (length old) (next_at old) (first_at w old p) (list_at w old p) i (chain_at old h w p) before ∙ leads))
       (saving_due old i (with_next (next_at old d)) (λ s. refl));
@@ -240,6 +242,7 @@ linked w to d old mid new ends nowhere known place is_mid is_new =
       same_length = new_length;
       same_objects = λ k. rw (is_new, object-with_first w mid to k (Some d), is_mid) (object-with_next old d k (first_at w old to));
       same_marks = λ k. rw (is_new, mark-with_first w mid to k (Some d), is_mid) (mark-with_next old d k (first_at w old to));
+      same_stood = λ k. rw (is_new, stood-with_first w mid to k (Some d), is_mid) (stood-with_next old d k (first_at w old to));
       due = ap (λ (z : List Slot). saving_at z d) is_new ∙ linked_due (cases_eq d to) (ap (λ (z : List Slot). saving_at z d) is_mid ∙ saving_due old d (with_next (first_at w old to)) (λ s. refl));
       place_due = ap (λ (z : List Slot). saving_at z to) is_new ∙ saving_due mid to (with_first w (Some d)) (with_first_due w (Some d));
       same_savings = λ k other elsewhere. ap (λ (z : List Slot). saving_at z k) is_new ∙ saving_other mid to k (with_first w (Some d)) elsewhere ∙ ap (λ (z : List Slot). saving_at z k) is_mid ∙ saving_other old d k (with_next (first_at w old to)) other;

@@ -17,6 +17,7 @@ use Rattle.spec_live.specs.declared.object.Object.{Object}
 use Rattle.spec_live.specs.declared.saving.Saving.TheVariants.{Due}
 use Rattle.spec_live.specs.Chain.{walk, IsChain, Ends}
 use Rattle.spec_live.specs.Saving.{saving_in}
+use Rattle.spec_live.specs.Stood.{stood_in}
 use Rattle.spec_live.specs.Consistent.{IsConsistent}
 use Rattle.spec_live.specs.Objects.{Entry, index_of, is_garbage, garbage, object_in, list_of, list_in, mark_in}
 use Rattle.spec_live.proofs.Chains.{walk_none}
@@ -25,10 +26,10 @@ use Rattle.spec_live.proofs.Readers.{entries_ext}
 use Rattle.muck_db.specs.declared.slot.Slot.{Slot}
 use Rattle.muck_db.specs.inner.Limits.{IsDigest, FitsLimits, IsWithinLimits}
 use Rattle.muck_db.specs.inner.Loading.{object_kept, slot_of, slots_of}
-use Rattle.muck_db.specs.inner.Slots.{shown, object_at, next_at, first_of, first_at, mark_at, saving_at, list_at, entries_of, HasPlayers, IsKept}
+use Rattle.muck_db.specs.inner.Slots.{shown, object_at, next_at, first_of, first_at, mark_at, saving_at, stood_at, list_at, entries_of, HasPlayers, IsKept}
 use Rattle.muck_db.proofs.Bridge.{walk_same}
 use Rattle.muck_db.proofs.Linked.{chain_over}
-use Rattle.muck_db.proofs.Readers.{length-entries_of, object_in-entries_of, list_in-entries_of, mark_in-entries_of, saving_in-entries_of}
+use Rattle.muck_db.proofs.Readers.{length-entries_of, object_in-entries_of, list_in-entries_of, mark_in-entries_of, saving_in-entries_of, stood_in-entries_of}
 
 -- The chains of the table.
 
@@ -113,6 +114,17 @@ mark-slots_of os k =
     ap (λ (o : Option Slot). option_and_then (λ (s : Slot). s.mark) o) (slice_get-map slot_of os k) ∙ marks_by os (slice_get os k)
     ∙ ap (λ (o : Option Entry). option_and_then (λ (e : Entry). e.mark) o) (sym (slice_get-map (record_entry os) os k))
 
+stood_by : (os : List Stored) (q : Option Stored) → option_and_then (λ (s : Slot). s.stood) (option_map slot_of q) ≡ option_and_then (λ (e : Entry). e.stood) (option_map (record_entry os) q)
+unfolding slot_of record_entry
+stood_by os None = refl
+stood_by os (Some s) = refl
+
+stood-slots_of : (os : List Stored) (k : ℕ) → stood_at (slots_of os) k ≡ stood_in (loaded os) k
+unfolding stood_at stood_in slots_of loaded
+stood-slots_of os k =
+    ap (λ (o : Option Slot). option_and_then (λ (s : Slot). s.stood) o) (slice_get-map slot_of os k) ∙ stood_by os (slice_get os k)
+    ∙ ap (λ (o : Option Entry). option_and_then (λ (e : Entry). e.stood) o) (sym (slice_get-map (record_entry os) os k))
+
 savings_by : (os : List Stored) (q : Option Stored) → option_map_or (λ (s : Slot). s.saving) (option_map slot_of q) Due ≡ option_map_or (λ (e : Entry). e.saving) (option_map (record_entry os) q) Due
 unfolding slot_of record_entry
 savings_by os None = refl
@@ -150,6 +162,7 @@ entries-slots_of os world =
     (λ v k. list_in-entries_of v (slots_of os) k ∙ list-slots_of v os k ∙ sym (list-loaded v os k))
     (λ k. mark_in-entries_of (slots_of os) k ∙ mark-slots_of os k)
     (λ k. saving_in-entries_of (slots_of os) k ∙ saving-slots_of os k)
+    (λ k. stood_in-entries_of (slots_of os) k ∙ stood-slots_of os k)
 
 -- The limits.
 

@@ -10,10 +10,11 @@ use Rattle.spec_live.specs.Chain.{walk}
 use Rattle.spec_live.specs.Flags.{no_flags}
 use Rattle.spec_live.specs.Objects.{Entry, index_of, is_exit, object_in, list_of, list_in, place_in, kind_in, flags_in, home_in, owner_in, mark_in}
 use Rattle.spec_live.specs.Saving.{saving_in}
+use Rattle.spec_live.specs.Stood.{stood_in}
 use Rattle.spec_live.proofs.Chains.{walk_none}
 use Rattle.spec_live.proofs.Lists.{length_map}
 use Rattle.muck_db.specs.declared.slot.Slot.{Slot}
-use Rattle.muck_db.specs.inner.Slots.{shown, object_at, next_at, first_at, first_of, place_at, kind_at, flags_at, home_at, owner_at, mark_at, saving_at, is_exit_at, list_at, entry_of, entries_of}
+use Rattle.muck_db.specs.inner.Slots.{shown, object_at, next_at, first_at, first_of, place_at, kind_at, flags_at, home_at, owner_at, mark_at, saving_at, stood_at, is_exit_at, list_at, entry_of, entries_of}
 
 pub length-entries_of : (slots : List Slot) → length (entries_of slots) ≡ length slots
 unfolding entries_of
@@ -58,6 +59,15 @@ mark_by slots (Some s) = refl
 pub mark_in-entries_of : (slots : List Slot) (k : ℕ) → mark_in (entries_of slots) k ≡ mark_at slots k
 unfolding mark_in mark_at entries_of
 mark_in-entries_of slots k = ap (λ (o : Option Entry). option_and_then (λ (e : Entry). e.mark) o) (slice_get-map (entry_of slots) slots k) ∙ mark_by slots (slice_get slots k)
+
+stood_by : (slots : List Slot) (o : Option Slot) → option_and_then (λ (e : Entry). e.stood) (option_map (entry_of slots) o) ≡ option_and_then (λ (s : Slot). s.stood) o
+unfolding entry_of
+stood_by slots None = refl
+stood_by slots (Some s) = refl
+
+pub stood_in-entries_of : (slots : List Slot) (k : ℕ) → stood_in (entries_of slots) k ≡ stood_at slots k
+unfolding stood_in stood_at entries_of
+stood_in-entries_of slots k = ap (λ (o : Option Entry). option_and_then (λ (e : Entry). e.stood) o) (slice_get-map (entry_of slots) slots k) ∙ stood_by slots (slice_get slots k)
 
 saving_by : (slots : List Slot) (o : Option Slot) → option_map_or (λ (e : Entry). e.saving) (option_map (entry_of slots) o) Due ≡ option_map_or (λ (s : Slot). s.saving) o Due
 unfolding entry_of

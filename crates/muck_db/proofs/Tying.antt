@@ -31,6 +31,7 @@ use Rattle.spec_live.proofs.Readers.{length_moved, object_moved, object_unmoved,
 use Rattle.muck_db.specs.declared.slot.Slot.{Slot}
 use Rattle.muck_db.specs.declared.ties.Tied.{Tied}
 use Rattle.muck_db.specs.declared.ties.Tether.{Tether}
+use Rattle.muck_db.specs.inner.Moves.{rested}
 use Rattle.muck_db.specs.inner.Slots.{shown, object_at, home_at, on_slot, with_saving, with_mark, with_source, with_slot_lines, entries_of, untied_slot, IsUnlinked}
 use Rattle.muck_db.specs.inner.Ties.{is_tied_at, link_at, Tethers, Notes, IsNoted, HasTies}
 use Rattle.muck_db.proofs.Readers.{length-entries_of, object_in-entries_of}
@@ -485,6 +486,9 @@ ties_created n to kind name owner place old mid new ties passed put is room h =
 
 pub ties_passed : (f : Saving → Saving) (old new : List Slot) (ties : List Tied) → new ≡ map (with_saving f) old → HasTies old ties → HasTies new ties
 ties_passed f old new ties is h = ties_mapped (with_saving f) old new ties is (λ d s. refl) h
+
+pub ties_rested : (old new : List Slot) (ties : List Tied) → new ≡ map rested old → HasTies old ties → HasTies new ties
+ties_rested old new ties is h = ties_mapped rested old new ties is (λ d s. refl) h
 
 pub ties_told : (n : ℕ) (mark : Option Mark) (old new : List Slot) (ties : List Tied) → new ≡ changed_at n (with_mark mark) old → HasTies old ties → HasTies new ties
 ties_told n mark old new ties is h = ties_changed n (with_mark mark) old new ties is (λ d s. refl) h

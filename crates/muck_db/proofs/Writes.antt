@@ -15,11 +15,12 @@ use Rattle.spec_live.proofs.Chains.{ends_from}
 use Rattle.spec_live.proofs.Lists.{length_changed, length_map, get_changed_same, get_changed_other, get_more, get_last, read_more, read_kept, kept_then}
 use Rattle.spec_live.proofs.Dues.{saving_past, saving_here, saving_elsewhere, saving_more as entry_more}
 use Rattle.spec_live.proofs.Readers.{entries_ext, object_named, object_unnamed, list_named, mark_named}
+use Rattle.spec_live.proofs.Tracing.{stood_named, stood_more as stood_blank}
 use Rattle.spec_live.proofs.Orders.{chain_wider}
 use Rattle.spec_live.proofs.CreationLaws.{object_more, list_more, grown_same, grown_more}
 use Rattle.muck_db.specs.declared.slot.Slot.{Slot}
-use Rattle.muck_db.specs.inner.Slots.{shown, object_at, kept_at, next_at, first_of, first_at, mark_at, saving_at, kind_at, list_at, on_slot, with_mark, with_kept, new_slot, object_put, entry_of, entries_of}
-use Rattle.muck_db.proofs.Readers.{length-entries_of, object_in-entries_of, list_in-entries_of, mark_in-entries_of, saving_in-entries_of}
+use Rattle.muck_db.specs.inner.Slots.{shown, object_at, kept_at, next_at, first_of, first_at, mark_at, saving_at, stood_at, kind_at, list_at, on_slot, with_mark, with_kept, new_slot, object_put, entry_of, entries_of}
+use Rattle.muck_db.proofs.Readers.{length-entries_of, object_in-entries_of, list_in-entries_of, mark_in-entries_of, saving_in-entries_of, stood_in-entries_of}
 use Rattle.muck_db.proofs.Linked.{chain_over}
 use Rattle.muck_db.proofs.Bridge.{list_is, walk_same}
 
@@ -42,7 +43,7 @@ set_back (y ∷ ys) (suc n) x h = let e : slice_set ys n x ≡ ys = set_back ys 
 entry_over : (old new : List Slot) (s : Slot) → length new ≡ length old → ((x : ℕ) → next_at new x ≡ next_at old x) → entry_of new s ≡ entry_of old s
 unfolding entry_of
 entry_over old new s n h =
-    let make : List ℕ → List ℕ → Entry = λ c x. record { object = shown s; contents = c; exits = x; mark = s.mark; saving = s.saving } in
+    let make : List ℕ → List ℕ → Entry = λ c x. record { object = shown s; contents = c; exits = x; mark = s.mark; saving = s.saving; stood = s.stood } in
     let at : (o : Option ℕ) → walk (length new) (next_at new) o ≡ walk (length old) (next_at old) o = λ o. rw n (walk_same (length old) (next_at old) (next_at new) o h) in
     ap (λ c. make c (walk (length new) (next_at new) s.first_exit)) (at s.first_content) ∙ ap (λ x. make (walk (length old) (next_at old) s.first_content) x) (at s.first_exit)
 
@@ -152,6 +153,10 @@ saving_more : (o : Object) (slots : List Slot) (k : ℕ) → saving_at (slots ++
 unfolding saving_at
 saving_more o slots k = read_more (λ (z : Option Slot). option_map_or (λ (s : Slot). s.saving) z Due) slots (new_slot (Some o) None) k refl
 
+stood_more : (o : Object) (slots : List Slot) (k : ℕ) → stood_at (slots ++ new_slot (Some o) None ∷ []) k ≡ stood_at slots k
+unfolding stood_at
+stood_more o slots k = read_more (λ (z : Option Slot). option_and_then (λ (s : Slot). s.stood) z) slots (new_slot (Some o) None) k refl
+
 -- one that wasn't there is due as it was
 saving_put : (o : Object) (es : List Entry) (k : ℕ) → saving_in (changed_at (length es) (with_object o) (es ++ blank_entry ∷ [])) k ≡ saving_in es k
 saving_put o es k = elim (cases_eq k (length es)) [
@@ -203,6 +208,7 @@ entries_appended o slots ends =
     (λ v k. list_in-entries_of v new k ∙ list_is v new k (list_at v slots k) (chain_put o slots ends v k) ∙ sym (list_in-entries_of v slots k) ∙ sym (list_named v (length es) k o (es ++ blank_entry ∷ []) ∙ list_more v es k))
     (λ k. mark_in-entries_of new k ∙ mark_more o slots k ∙ sym (mark_in-entries_of slots k) ∙ sym (mark_named (length es) k o (es ++ blank_entry ∷ []) ∙ mark_blank es k))
     (λ k. saving_in-entries_of new k ∙ saving_more o slots k ∙ sym (saving_in-entries_of slots k) ∙ sym (saving_put o es k))
+    (λ k. stood_in-entries_of new k ∙ stood_more o slots k ∙ sym (stood_in-entries_of slots k) ∙ sym (stood_named (length es) o (es ++ blank_entry ∷ []) k ∙ stood_blank es k))
 
 put_more : (n : ℕ) (o : Object) (slots : List Slot) → n ≡ length slots → object_put n o slots ≡ slots ++ new_slot (Some o) None ∷ []
 unfolding object_put

@@ -10,3 +10,4 @@ pub mod Ties
 pub mod Table
 pub mod Lent
 pub mod Blocks
+pub mod Moves

@@ -11,6 +11,7 @@ ghost use Rattle.spec_live.specs.Recycling.{recycle_check, recycled};
 ghost use Rattle.spec_live.specs.Marks.{next_change, change_told};
 ghost use Rattle.spec_live.specs.Consistent.{IsConsistent};
 ghost use Rattle.spec_live.specs.Saving.{all_saving, pending, done, due_again};
+ghost use Rattle.spec_live.specs.Stood.{stilled, moves_from};
 ghost use Rattle.spec_live.specs.Seen.{listed_in, places_of, scenery_of};
 ghost use Rattle.muck_match.specs.Naming.{found, player_named};
 ghost use Rattle.muck_match.specs.Scenery.{chain, upward};
@@ -42,6 +43,7 @@ use crate::setting::{
 };
 use crate::slots::Slots;
 use crate::start::first_slots;
+use crate::stood::{moves_of, settle};
 use crate::telling::{clear_mark, marked, told_of};
 use crate::ties::{Ties, tether_of};
 use crate::walks::{first_listed, next_listed};
@@ -49,7 +51,7 @@ use muck_codec::{Batch, Stored};
 use muck_match::{Found, find_among, player_among};
 use muck_model::{Dbref, Flags, Kind, Line, LineList, NoMemory, Tune};
 use muck_prop::{Path, PropValue};
-use spec_live::{Changed, DbFault, Object};
+use spec_live::{Changed, DbFault, Move, Object};
 use std::alloc::Global;
 use std::marker::Model;
 
@@ -260,6 +262,20 @@ impl Db {
         ensures { self.new ≡ all_saving due_again self.old }
     {
         pass(&mut self.slots, Moment::Failed);
+    }
+
+    /// The players that stand elsewhere than when the event began, by rising number. It looks at no other numbers than those between which some moved.
+    pub fn moves(&self, alloc: Global) -> Result<Vec<Move>, NoMemory>
+        ensures { IfOk result (λ moves. moves.items ≡ moves_from 0 self.now) }
+    {
+        moves_of(alloc, &self.slots)
+    }
+
+    /// An event begins: nobody has moved since. It takes no memory, and looks at the numbers of `moves` alone.
+    pub fn settle(&mut self)
+        ensures { self.new ≡ stilled self.old }
+    {
+        settle(&mut self.slots);
     }
 
     /// Makes an object at the lowest number of garbage, or else at the next number, in front of a list of its place. A

@@ -8,6 +8,7 @@ ghost use Rattle.muck_db.specs.inner.Loading.{object_kept, slot_of, slots_of};
 use crate::links::index_of;
 use crate::slot::Slot;
 use crate::slots::Slots;
+use crate::stood::standing;
 use muck_codec::{Property, Stored};
 use muck_model::{Kind, Line, LineList, NoMemory};
 use muck_prop::Props;
@@ -83,6 +84,7 @@ fn slot_of(alloc: Global, record: &Stored) -> Result<Slot, NoMemory>
         next: index_of(record.next),
         mark: None,
         saving: Saving::Due,
+        stood: standing(record.kind, record.place),
     })
 }
 

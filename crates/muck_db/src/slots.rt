@@ -4,9 +4,11 @@ ghost use Rattle.std.specs.Option.{option_copied};
 ghost use Rattle.std.specs.Borrow.{sem};
 ghost use Rattle.muck_db.specs.inner.Lent.{LendsSlot};
 ghost use Rattle.muck_db.specs.inner.Blocks.{LacksAt};
+ghost use Rattle.muck_db.specs.inner.Moves.{NoneMoved, AreBefore};
 
 use crate::blocks::{Block, Flag, SIZE, block_of, flagged, full, put_block};
 use crate::slot::Slot;
+use crate::stood::{Moves, looked_at, none_moved, written};
 use muck_model::NoMemory;
 use std::alloc::Global;
 use std::marker::Model;
@@ -16,6 +18,8 @@ use std::marker::Model;
 pub struct Slots {
     table: Vec<Slot>,
     blocks: Vec<Block>,
+    // which slots may have moved since the event began
+    moves: Moves,
 }
 
 impl Model for Slots {
@@ -29,10 +33,11 @@ impl Model for Slots {
     ghost coded = { Prim.hlevel (codes, props.the_row.coded) };
 
     ghost use Rattle.muck_db.specs.inner.Blocks.{IsCovered};
+    ghost use Rattle.muck_db.specs.inner.Moves.{AreNoted};
 
     ghost view = { λ a. record { items = a.table.items } };
 
-    ghost invariant = { λ a. IsCovered a.table.items a.blocks.items };
+    ghost invariant = { λ a. IsCovered a.table.items a.blocks.items × AreNoted a.moves a.table.items };
 }
 
 impl Slots {
@@ -42,6 +47,7 @@ impl Slots {
         Slots {
             table: Vec::new(alloc),
             blocks: Vec::new(alloc),
+            moves: none_moved(),
         }
     }
 
@@ -74,13 +80,14 @@ impl Slots {
         &self.table[k as usize]
     }
 
-    // The slot of a number, to be written. Anything may then be in its block.
+    // The slot of a number, to be written. Anything may then be in its block, and what was written before is looked at.
     pub fn at_mut(&mut self, k: u32) -> &mut Slot
         requires { k < length self.old.items }
         ensures* writes_back { sem 𝓛 (LendsSlot self.entry k result) }
         ensures value { slice_get self.old.items k ≡ Some result.now }
     {
         put_block(&mut self.blocks, (k / SIZE) as usize, full());
+        self.moves = written(looked_at(self.moves, &self.table), k as usize);
         &mut self.table[k as usize]
     }
 
@@ -109,8 +116,29 @@ impl Slots {
     {
         let at = self.table.len() / SIZE as usize;
         put_block(&mut self.blocks, at, full());
+        self.moves = written(looked_at(self.moves, &self.table), self.table.len());
         self.table.push(slot)?;
         Ok(())
+    }
+
+    // The numbers between which those are that have moved: from the first on, below the second.
+    pub fn moved_within(&self) -> (u32, u32)
+        requires { length self.now.items ≤ 100000 }
+        ensures within { AreBefore result.0 result.1 self.now.items }
+        ensures known { result.1 ≤ length self.now.items }
+    {
+        let n = self.table.len();
+        let moves = looked_at(self.moves, &self.table);
+        let end = if moves.high < n { moves.high + 1 } else { n };
+        (moves.low.min(n) as u32, end as u32)
+    }
+
+    // None has moved.
+    pub fn all_rest(&mut self)
+        requires { NoneMoved self.old.items }
+        ensures { self.new ≡ self.old }
+    {
+        self.moves = none_moved();
     }
 
     // The next number from `from` on in whose block that may be, or one past all. It looks at the blocks alone.

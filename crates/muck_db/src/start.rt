@@ -72,6 +72,7 @@ pub fn first_slots(alloc: Global) -> Result<Slots, NoMemory>
         next: None,
         mark: None,
         saving: Saving::Due,
+        stood: None,
     })?;
     slots.push(Slot {
         object: Some(player_one(alloc)?),
@@ -80,6 +81,7 @@ pub fn first_slots(alloc: Global) -> Result<Slots, NoMemory>
         next: None,
         mark: None,
         saving: Saving::Due,
+        stood: Some(Dbref(0)),
     })?;
     Ok(slots)
 }

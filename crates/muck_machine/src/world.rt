@@ -4,16 +4,16 @@ ghost use Rattle.std.specs.Option.{option_map_or};
 ghost use Rattle.muck_model.specs.declared.event.Event.{Event};
 ghost use Rattle.muck_queue.specs.Queues.{is_tied};
 ghost use Rattle.spec_admin.specs.Parameters.{IsInRange};
+ghost use Rattle.spec_live.specs.Stood.{IsStill};
 ghost use Rattle.spec_events.specs.World.{starting, booted, connection, queue_of, is_leaving};
 ghost use Rattle.spec_events.specs.Steps.{is_lawful, has_claim, is_there, next_ready, next_process};
-ghost use Rattle.spec_events.specs.Histories.{now, entered, by_porter, AllLawful};
+ghost use Rattle.spec_events.specs.Histories.{now, entered, by_porter, AllLawful, EntryLicensed};
 ghost use Rattle.spec_events.specs.Logged.{IsPlaced};
-ghost use Rattle.spec_events.specs.Licences.{EventLicensed};
 ghost use Rattle.spec_events.specs.Sections.{IsWhole};
 ghost use Rattle.spec_events.specs.Slices.{awake, units_of};
 ghost use Rattle.muck_machine.specs.declared.world.Sliced.TheVariants.{Ran, Lost};
 ghost use Rattle.muck_machine.specs.inner.Claims.{slice_event};
-ghost use Rattle.muck_machine.specs.inner.Keeping.{AreTold};
+ghost use Rattle.muck_turns.specs.inner.Hooks.{AreTold};
 
 mod dumping;
 mod seeing;
@@ -82,10 +82,11 @@ pub enum Sliced {
 
 impl World {
     /// The world of these objects and parameters at this second, in which nobody is connected and nothing has happened
-    /// yet; its random numbers begin with `start`. The objects are as a store held them: of none of them a change is still to be told.
+    /// yet; its random numbers begin with `start`. The objects are as a store held them: of none of them a change is still to be told, and no player has moved.
     pub fn boot(alloc: Global, from: Persisted, moment: u64, start: u64) -> Result<Self, NoMemory>
         requires tune { IsInRange from.tune }
         requires told { AreTold from.db }
+        requires still { IsStill from.db }
         ensures { IfOk result (λ w. w ≡ record { start = booted from.db from.tune moment start; entries = []; notes = []; counted = None }) }
     {
         let Persisted { db, tune } = from;
@@ -118,7 +119,7 @@ impl World {
     }
 
     /// Room Zero and One as they are at first, and nobody connected: nothing has happened yet.
-    #[tactic(auto, unfolding(spec_events::specs::World::starting, spec_live::specs::Boards::first_tune), using(crate::proofs::Keepings::told_first))]
+    #[tactic(auto, unfolding(spec_events::specs::World::starting, spec_live::specs::Boards::first_tune), using(crate::proofs::Keepings::told_first, crate::proofs::Keepings::still_first))]
     pub fn starting(alloc: Global) -> Result<Self, NoMemory>
         ensures { IfOk result (λ w. w ≡ record { start = starting; entries = []; notes = []; counted = None }) }
     {
@@ -249,7 +250,7 @@ impl World {
         Ok(true)
     }
 
-    /// A connection goes, and where it was a player's last one, others are told. After `NoMemory` the world is dead.
+    /// A connection goes, and where it was a player's last one, others are told; what is hooked to that starts. After `NoMemory` the world is dead.
     pub fn closed(&mut self, d: u32) -> Result<(), NoMemory>
         requires { is_lawful (now self.old) (by_porter (Event.Closed d)) ≡ true }
         ensures ok { OnOk result (self.new ≡ entered self.old (by_porter (Event.Closed d))) }
@@ -283,7 +284,7 @@ impl World {
     pub fn exec(&mut self, party: u8) -> Result<Option<u32>, NoMemory>
         ensures found { IfOk result (λ found. found ≡ next_ready (now self.old)) }
         ensures step { IfOk result (λ found. MatchOption found (self.new ≡ self.old) (λ d. self.new ≡ entered self.old (record { party = party; event = Event.Exec d }))) }
-        ensures licensed { IfOk result (λ found. IfSome found (λ d. EventLicensed (Event.Exec d) (now self.old) (now self.new))) }
+        ensures licensed { IfOk result (λ found. IfSome found (λ d. EntryLicensed (record { party = party; event = Event.Exec d }) (now self.old) (now self.new))) }
         ensures died { OnErr result (self.new ≡ entered self.old (record { party = party; event = Event.Died })) }
     {
         let Some(d) = self.next_ready() else {
@@ -327,7 +328,7 @@ impl World {
         requires claim { has_claim party pid (now self.old) ≡ true }
         ensures ran { IfOk result (λ sliced. sliced ≡ (if is_there pid (now self.old) then Ran else Lost)) }
         ensures step { IfOk result (λ sliced. self.new ≡ entered self.old (record { party = party; event = slice_event pid sliced })) }
-        ensures licensed { IfOk result (λ sliced. EventLicensed (slice_event pid sliced) (now self.old) (now self.new)) }
+        ensures licensed { IfOk result (λ sliced. EntryLicensed (record { party = party; event = slice_event pid sliced }) (now self.old) (now self.new)) }
         ensures whole { IfOk result (λ sliced. sliced ≡ Ran → IsWhole (now self.old).live.board.tune pid (awake pid (now self.old)) (units_of pid (now self.old))) }
         ensures died { OnErr result (self.new ≡ entered self.old (record { party = party; event = Event.Died })) }
     {

@@ -41,7 +41,8 @@ use Rattle.spec_origins.proofs.Staying.{stays_there_booted}
 use Rattle.spec_events.proofs.Passwords.{all_known_booted}
 use Rattle.spec_events.proofs.SourcedEvents.{all_sourced_booted}
 use Rattle.spec_events.proofs.Turns.{all_licensed_booted}
-use Rattle.spec_live.specs.Objects.{Entry, mark_in}
+use Rattle.spec_live.specs.Objects.{Entry, mark_in, object_in}
+use Rattle.spec_live.specs.Stood.{standing, stood_in, stands_in}
 use Rattle.spec_live.specs.Boards.{early_board}
 use Rattle.spec_live.specs.Consistent.{IsConsistent}
 use Rattle.muck_model.specs.declared.event.Entry.{Entry as Happened}
@@ -96,6 +97,17 @@ unfolding mark_in entry_of
 unmarked os n = ap (λ (o : Option Entry). option_and_then (λ (e : Entry). e.mark) o) (get_loaded os n) ∙ by_cases (slice_get os n)
   where
     by_cases : (o : Option Stored) → option_and_then (λ (e : Entry). e.mark) (option_map (entry_of os) o) ≡ None
+    by_cases None = refl
+    by_cases (Some s) = refl
+
+-- nor has any of them moved
+pub unmoved : (os : List Stored) (k : ℕ) → stood_in (loaded os) k ≡ stands_in (loaded os) k
+unfolding stood_in stands_in object_in entry_of
+unmoved os k =
+    ap (λ (o : Option Entry). option_and_then (λ (e : Entry). e.stood) o) (get_loaded os k) ∙ by_cases (slice_get os k)
+    ∙ sym (ap (λ (o : Option Entry). option_and_then standing (option_map (λ (e : Entry). e.object) o)) (get_loaded os k))
+  where
+    by_cases : (o : Option Stored) → option_and_then (λ (e : Entry). e.stood) (option_map (entry_of os) o) ≡ option_and_then standing (option_map (λ (e : Entry). e.object) (option_map (entry_of os) o))
     by_cases None = refl
     by_cases (Some s) = refl
 

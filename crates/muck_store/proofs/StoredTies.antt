@@ -146,7 +146,7 @@ chains_persist es c k e at =
 
 -- what is stored of an object with these lists, behind which this one stands
 abbrev form : ℕ → Object → List ℕ → List ℕ → Option ℕ → Stored
-form k o contents exits next = record (stored_of [] k (record { object = o; contents = contents; exits = exits; mark = None; saving = Due })) { next = link_of next }
+form k o contents exits next = record (stored_of [] k (record { object = o; contents = contents; exits = exits; mark = None; saving = Due; stood = None })) { next = link_of next }
 
 no_properties : properties_of garbage.props ≡ []
 unfolding garbage IsStrictlySortedBy

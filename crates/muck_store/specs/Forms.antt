@@ -11,6 +11,7 @@ use Rattle.spec_live.specs.declared.saving.Saving.TheVariants.{Due}
 use Rattle.spec_live.specs.Chain.{walk}
 use Rattle.spec_live.specs.Objects.{Entry, dbref_of, index_of, nothing}
 unfoldable pub use Rattle.spec_live.specs.Saving.{next_in}
+use Rattle.spec_live.specs.Stood.{standing}
 use Rattle.muck_codec.specs.declared.stored.Stored.{Stored}
 use Rattle.muck_codec.specs.declared.stored.Property.{Property}
 use Rattle.muck_codec.specs.declared.stored.Batch.{Batch}
@@ -88,7 +89,7 @@ object_of s = record {
 unfoldable pub next_at : List Stored → ℕ → Option ℕ
 next_at os k = option_and_then (λ s. index_of s.next) (slice_get os k)
 
--- an object with its lists, which are the chains that its record begins; it is due, until a dump was stored
+-- an object with its lists, which are the chains that its record begins; it is due, until a dump was stored, and hasn't moved
 unfoldable pub entry_of : List Stored → Stored → Entry
 entry_of os s = record {
   object = object_of s;
@@ -96,6 +97,7 @@ entry_of os s = record {
   exits = walk (length os) (next_at os) (index_of s.first_exit);
   mark = None;
   saving = Due;
+  stood = standing (object_of s);
 }
 
 -- the objects that records stand for

@@ -1,7 +1,7 @@
 -- A formula touches notes alone, whether it gives its value or breaks off.
 use Rattle.std.proofs.Common.{◌≡◌, ℕ, true, Option, Result, Ok, Err, refl, sym, subst}
 use Rattle.spec_live.specs.Lives.{Live}
-use Rattle.spec_live.proofs.Marking.{marked_itself}
+use Rattle.spec_live.proofs.Tracing.{traced_itself}
 use Rattle.spec_mpi.specs.Touching.{TouchesNotes}
 use Rattle.muf_model.specs.declared.prims.Primitive.{Primitive}
 use Rattle.muf_frame.specs.declared.fault.PrimFault.{PrimFault}
@@ -17,7 +17,7 @@ use Rattle.prim_common.specs.inner.Applied.{Applied, OnAnswer}
 use Rattle.prim_common.proofs.Families.{whole}
 
 touches_itself : (w : Live) → TouchesNotes w w
-touches_itself w = record { objects = refl; marked = marked_itself w.objects; connections = refl; tune = refl }
+touches_itself w = record { objects = refl; traced = traced_itself w.objects; connections = refl; tune = refl }
 
 module _ (f g : Shown) (old new : Guard) where
   row_touches : (row : Row) (r : Result (Unit {0}) PrimFault) → RowTouches (world_of old) row → Applied row f g old new r → OnAnswer r (TouchesNotes (world_of old) (world_of new))

@@ -15,7 +15,7 @@ use Rattle.spec_rights.specs.declared.act.Actor.{Actor}
 use Rattle.spec_rights.specs.declared.act.Act.TheVariants.{Start as StartAct}
 use Rattle.spec_rights.specs.Verdict.{verdict}
 use Rattle.spec_commands.specs.declared.outcome.Outcome.{Outcome as Line}
-use Rattle.spec_commands.specs.declared.outcome.Outcome.TheVariants.{Done, NotMine, Start, Edit, Leave, Dump, Stop, Retune}
+use Rattle.spec_commands.specs.declared.outcome.Outcome.TheVariants.{Done, Said, NotMine, Start, Edit, Leave, Dump, Stop, Retune}
 use Rattle.spec_commands.specs.declared.edit.EditStep.{EditStep}
 use Rattle.spec_commands.specs.declared.edit.EditStep.TheVariants.{Stay, Compile, Left}
 use Rattle.spec_commands.specs.Finding.{actor_of}
@@ -145,6 +145,7 @@ same_after_line a line w q = at (line_ends a q line w)
 same_behind : (a : Actor) (line : List ℕ) (q : Queue) (r : Live × Line) → (ended_behind a line q r).claims ≡ q.claims
 same_behind a line q (w, NotMine) = same_after_line a line w q
 same_behind a line q (w, Done) = refl
+same_behind a line q (w, Said pose text) = refl
 same_behind a line q (w, Start program trigger command arg) = refl
 same_behind a line q (w, Edit program) = refl
 same_behind a line q (w, Leave) = refl
@@ -161,6 +162,7 @@ same_up d player Leave w = refl
 same_up d player (Edit program) w = refl
 same_up d player (Start program trigger line arg) w = same_launched d (actor_of w.live.objects player) (record { player = player; program = program; trigger = trigger; command = line; argument = arg }) w
 same_up d player Done w = refl
+same_up d player (Said pose text) w = refl
 same_up d player NotMine w = refl
 same_up d player Dump w = refl
 same_up d player Stop w = refl

@@ -1,5 +1,5 @@
 -- A line of a player.
-use Rattle.std.specs.Prelude.{ℕ, Bool, false, ◌||◌, ◌==◌, if◌then◌else◌, List, [], ◌∷◌, codes, Option, Some, None}
+use Rattle.std.specs.Prelude.{ℕ, Bool, false, true, ◌||◌, ◌==◌, if◌then◌else◌, List, [], ◌∷◌, codes, Option, Some, None}
 use Rattle.muck_match.specs.declared.exits.ExitHit.{ExitHit}
 use Rattle.muck_match.specs.Exits.{exit_for}
 use Rattle.spec_live.specs.Objects.{dbref_of, nothing}
@@ -7,7 +7,7 @@ use Rattle.spec_live.specs.Seen.{scenery_of}
 use Rattle.spec_live.specs.Lives.{Live, reading, either, unchanged, tell}
 use Rattle.spec_rights.specs.declared.act.Actor.{Actor}
 use Rattle.spec_commands.specs.declared.outcome.Outcome.{Outcome}
-use Rattle.spec_commands.specs.declared.outcome.Outcome.TheVariants.{Done, NotMine, Leave}
+use Rattle.spec_commands.specs.declared.outcome.Outcome.TheVariants.{Done, Said, NotMine, Leave}
 use Rattle.spec_commands.specs.declared.typed.Typed.{Typed}
 use Rattle.spec_commands.specs.declared.new.New.TheVariants.{Room as RoomNew, Exit as ExitNew}
 use Rattle.spec_commands.specs.declared.shape.Form.TheVariants.{Any, One, Two, Full, OneOrFull}
@@ -77,8 +77,8 @@ line_typed line = record { word = first_word (trimmed line); rest = trimmed (oth
 -- what each does
 unfoldable pub play_done : ℕ → Actor → Typed → PlayWord → Arguments → Play
 play_done d a typed Look args = ended Done (either (is_empty args.first.text) (looked d a typed) (look_shown d a typed args.first.object))
-play_done d a typed Say args = ended Done (said d a.player args.first.text)
-play_done d a typed Pose args = ended Done (posed d a.player args.first.text)
+play_done d a typed Say args = ended (Said false args.first.text) (said d a.player args.first.text)
+play_done d a typed Pose args = ended (Said true args.first.text) (posed d a.player args.first.text)
 play_done d a typed Page args = ended Done (paged d a.player args.first.object args.second.text)
 play_done d a typed Whisper args = ended Done (whispered d a.player args.first.object args.second.text)
 play_done d a typed Go args = went d a args.first.text

@@ -1,8 +1,9 @@
 -- What players say.
-use Rattle.std.specs.Prelude.{ℕ, Bool, ◌&&◌, ◌==◌, if◌then◌else◌, List, [], ◌∷◌, ◌++◌, length, codes, Option}
+use Rattle.std.specs.Prelude.{ℕ, Bool, ◌&&◌, ◌==◌, if◌then◌else◌, List, [], ◌∷◌, ◌++◌, length, codes, take, Option}
 use Rattle.std.specs.Option.{option_map}
 use Rattle.std.specs.List.{list_any, filter_map}
 use Rattle.muck_model.specs.declared.dbref.Dbref.{Dbref}
+use Rattle.muck_model.specs.Bytes.{text_most}
 use Rattle.spec_live.specs.Objects.{same, is_player}
 use Rattle.spec_live.specs.Connections.{Connection, is_of}
 use Rattle.spec_live.specs.Lives.{Live, Change, ◌▸◌, reading, tell, tell_player, place_at, name_at}
@@ -20,6 +21,10 @@ pose_tail (b ∷ text) = if b == 39 then b ∷ text else 32 ∷ b ∷ text
 
 unfoldable pub posed : ℕ → Dbref → List ℕ → Change
 posed d player text = reading (name_at player) (λ name. tell d (name ++ pose_tail text)) ▸ shown_others player (pose_tail text)
+
+-- what others hear of it, who see the name of who spoke in front
+abbrev pub heard_as : Bool → List ℕ → List ℕ → List ℕ
+heard_as pose name text = take text_most (name ++ (if pose then pose_tail text else says text))
 
 abbrev pub is_connected : Dbref → Live → Bool
 is_connected player w = list_any (is_of player) w.board.connections

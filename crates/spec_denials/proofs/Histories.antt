@@ -1,12 +1,11 @@
 -- Whole histories.
-use Rattle.std.proofs.Common.{ℕ, List, [], ◌∷◌, sym, subst}
+use Rattle.std.proofs.Common.{ℕ, List, [], ◌∷◌}
 use Rattle.muck_model.specs.declared.event.Entry.{Entry}
 use Rattle.muck_model.specs.declared.event.Event.{Event}
 use Rattle.muck_model.specs.declared.event.Event.TheVariants.{Exec, Slice}
 use Rattle.spec_events.specs.World.{World, connection}
 use Rattle.spec_events.specs.Slices.{slice_most, awake}
 use Rattle.spec_events.specs.Steps.{happened, effect}
-use Rattle.spec_events.proofs.Happening.{effect-is}
 use Rattle.spec_denials.specs.Denials.{EventNamed, AllDenialsNamed}
 use Rattle.spec_denials.proofs.Starts.{line_starts}
 use Rattle.spec_denials.proofs.Walks.{line_locks}
@@ -21,4 +20,4 @@ event_named event party w = tt
 -- The law of histories, from any world.
 pub all_denials_named : (w : World) (entries : List Entry) → AllDenialsNamed w entries
 all_denials_named w [] = tt
-all_denials_named w (entry ∷ entries) = (subst (EventNamed entry.event w) (sym (effect-is w entry)) (event_named entry.event entry.party w), all_denials_named (effect w entry) entries)
+all_denials_named w (entry ∷ entries) = (event_named entry.event entry.party w, all_denials_named (effect w entry) entries)

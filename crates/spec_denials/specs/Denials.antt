@@ -19,7 +19,7 @@ use Rattle.spec_processes.specs.ProcessRows.{is_process}
 use Rattle.spec_events.specs.declared.starting.Agent.{Agent}
 use Rattle.spec_events.specs.World.{World}
 use Rattle.spec_events.specs.Slices.{acting, Deed, does, rests, fails, deed, out, one_counted, turn, Taken, units_of}
-use Rattle.spec_events.specs.Steps.{effect}
+use Rattle.spec_events.specs.Steps.{effect, happened}
 use Rattle.spec_events.specs.Sourced.{Each}
 use Rattle.spec_denials.specs.Plain.{NoDenial}
 use Rattle.spec_denials.specs.Notes.{ParseDenied}
@@ -77,4 +77,4 @@ EventNamed event w v = Unit {0}
 -- and so each of these entries
 abbrev pub AllDenialsNamed : World → List Entry → Type 0
 AllDenialsNamed w [] = Unit {0}
-AllDenialsNamed w (entry ∷ entries) = EventNamed entry.event w (effect w entry) × AllDenialsNamed (effect w entry) entries
+AllDenialsNamed w (entry ∷ entries) = EventNamed entry.event w (happened w entry.party entry.event) × AllDenialsNamed (effect w entry) entries

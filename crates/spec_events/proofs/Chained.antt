@@ -10,7 +10,7 @@ use Rattle.spec_events.proofs.Slicing.{run_holds}
 use Rattle.spec_events.proofs.Judged.{units_licensed}
 use Rattle.spec_events.proofs.Sections.{slice_whole}
 
-units_chained : (tune : Tune) (pid : ℤ) (n : ℕ) (w : World) → Chained pid w (run_of tune n pid w)
+pub units_chained : (tune : Tune) (pid : ℤ) (n : ℕ) (w : World) → Chained pid w (run_of tune n pid w)
 units_chained tune pid n w = run_holds tune pid (Chained pid) (λ v. tt) (λ v x s ts e h. (record { agent = x; world = refl; stands = e; acts = refl }, h)) n w
 
 pub slice_licensed : (pid : ℤ) (w : World) → IsTold w.live → IsNumbered w.queue → SliceLicensed pid (units_of pid w) w (sliced pid w)

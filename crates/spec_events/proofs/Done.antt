@@ -28,7 +28,7 @@ use Rattle.spec_rights.proofs.Licences.{Proper, judge, SameMarks, Always, ties_b
 use Rattle.spec_rights.proofs.Leaving.{whole_leave}
 use Rattle.spec_rights.proofs.Shown.{loose_one, quiet_tell}
 use Rattle.spec_commands.specs.declared.outcome.Outcome.{Outcome}
-use Rattle.spec_commands.specs.declared.outcome.Outcome.TheVariants.{Done, NotMine, Start, Edit, Leave, Dump, Stop, Retune}
+use Rattle.spec_commands.specs.declared.outcome.Outcome.TheVariants.{Done, Said, NotMine, Start, Edit, Leave, Dump, Stop, Retune}
 use Rattle.spec_commands.specs.declared.edit.EditStep.{EditStep}
 use Rattle.spec_commands.specs.declared.edit.EditStep.TheVariants.{Stay, Compile, Left}
 use Rattle.spec_commands.specs.Finding.{actor_of}
@@ -107,7 +107,7 @@ left_licensed : (a : Actor) (d : ℕ) (free : Freedom) (w v : Live) → player_i
 unfolding leave leaving_one
 left_licensed a d free w v own l =
     let left : Licensed a free v (leave d v) = (((whole_leave a d (λ es. free) Always).law v).law (player-same_ties a d w.board.connections v.board.connections l.connections ∙ own) tt).licensed in
-    record { gone = l.gone; recycled = l.recycled; vanished = l.vanished; objects = l.objects; no_fewer = l.no_fewer; marked = l.marked; lists = l.lists; connections = ties_both a _ _ _ l.connections left.connections; tune = l.tune }
+    record { gone = l.gone; recycled = l.recycled; vanished = l.vanished; objects = l.objects; no_fewer = l.no_fewer; traced = l.traced; lists = l.lists; connections = ties_both a _ _ _ l.connections left.connections; tune = l.tune }
 
 left_goes : (d : ℕ) (w : Live) → Goes lively w (leave d w)
 unfolding leave
@@ -174,7 +174,7 @@ open_in_editor d player s line lines w = at (is_open s (taken_out d lines w.live
 tuned_licensed : (a : Actor) (free : Freedom) (w v : Live) (tune : Tune) → Licensed a free w v → is_master a ≡ true → Licensed a free w (tuned tune v)
 unfolding tuned
 tuned_licensed a free w v tune l h =
-    record { gone = l.gone; recycled = l.recycled; vanished = l.vanished; objects = l.objects; no_fewer = l.no_fewer; marked = l.marked; lists = l.lists; connections = l.connections; tune = inr h }
+    record { gone = l.gone; recycled = l.recycled; vanished = l.vanished; objects = l.objects; no_fewer = l.no_fewer; traced = l.traced; lists = l.lists; connections = l.connections; tune = inr h }
 
 tuned_goes : (tune : Tune) (w : Live) → Goes lively w (tuned tune w)
 unfolding tuned boards.tuned
@@ -192,6 +192,7 @@ open_followed d player a free start state (Edit program) u own may p =
 open_followed d player a free start state (Start program trigger line arg) u own may p =
     open_quietly a free start state u _ p (quietly_launched d (actor_of u.live.objects player) (record { player = player; program = program; trigger = trigger; command = line; argument = arg }) u)
 open_followed d player a free start state Done u own may p = p
+open_followed d player a free start state (Said pose text) u own may p = p
 open_followed d player a free start state NotMine u own may p = p
 open_followed d player a free start state Dump u own may p = record { licensed = p.licensed; goes = p.goes; tuned = p.tuned; alive = p.alive; still = p.still }
 open_followed d player a free start state Stop u own may p = record { licensed = p.licensed; goes = p.goes; tuned = p.tuned; alive = p.alive; still = p.still }
@@ -225,6 +226,7 @@ objects_up d player Leave w = refl
 objects_up d player (Edit program) w = refl
 objects_up d player (Start program trigger line arg) w = (quietly_launched d (actor_of w.live.objects player) (record { player = player; program = program; trigger = trigger; command = line; argument = arg }) w).objects
 objects_up d player Done w = refl
+objects_up d player (Said pose text) w = refl
 objects_up d player NotMine w = refl
 objects_up d player Dump w = refl
 objects_up d player Stop w = refl

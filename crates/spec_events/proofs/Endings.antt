@@ -25,7 +25,7 @@ use Rattle.muck_queue.specs.Queues.{Queue, has_pid, has_trigger, runs, is_tied_t
 use Rattle.muck_queue.specs.Queues as queues
 use Rattle.spec_processes.proofs.Ends.{IsSame, Stays}
 use Rattle.spec_commands.specs.declared.outcome.Outcome.{Outcome}
-use Rattle.spec_commands.specs.declared.outcome.Outcome.TheVariants.{Done, NotMine, Start as StartOutcome, Edit, Leave, Dump, Stop, Retune}
+use Rattle.spec_commands.specs.declared.outcome.Outcome.TheVariants.{Done, Said, NotMine, Start as StartOutcome, Edit, Leave, Dump, Stop, Retune}
 use Rattle.spec_commands.specs.declared.edit.EditStep.{EditStep}
 use Rattle.spec_commands.specs.declared.edit.EditStep.TheVariants.{Stay, Compile, Left}
 use Rattle.spec_commands.specs.Finding.{actor_of}
@@ -303,6 +303,7 @@ lasting_up may d player (StartOutcome program trigger command arg) w =
 lasting_up may d player Leave w = lasting_same may w.queue
 lasting_up may d player (Edit program) w = lasting_same may w.queue
 lasting_up may d player Done w = lasting_same may w.queue
+lasting_up may d player (Said pose text) w = lasting_same may w.queue
 lasting_up may d player NotMine w = lasting_same may w.queue
 lasting_up may d player Dump w = lasting_same may w.queue
 lasting_up may d player Stop w = lasting_same may w.queue

@@ -149,7 +149,7 @@ rising_happened (Lost pid) w party h = released_numbered pid w.queue h
 rising_happened event w party h = h
 
 pub numbered_effect : (w : World) (e : Happened) → Rising w → Rising (effect w e)
-numbered_effect w e h = effect-keeps Rising (λ c u there k. begun_rising (by_hook u) c u k) w e (rising_happened e.event w e.party h)
+numbered_effect w e h = effect-keeps Rising (λ c u there k. begun_rising (by_hook u) c u k) (λ u k. k) w e (rising_happened e.event w e.party h)
 
 -- and those of a world that is booted, in which nothing runs, too
 pub rising_booted : (objects : List Entry) (tune : Tune) (moment start : ℕ) → Rising (booted objects tune moment start)

@@ -41,7 +41,7 @@ use Rattle.spec_events.proofs.Knowing.{has_password}
 use Rattle.spec_events.proofs.Quietly.{quiet_told_each}
 use Rattle.spec_events.proofs.Login.{greeted, greeted_open}
 use Rattle.spec_events.proofs.Done.{player-same_ties}
-use Rattle.spec_events.proofs.Happening.{effect-is, effect-board}
+use Rattle.spec_events.proofs.Happening.{effect-board}
 use Rattle.spec_events.proofs.Reached.{rising-happened, apart}
 use Rattle.spec_events.proofs.Turns.{all_licensed_booted, all_licensed_starting}
 
@@ -314,7 +314,7 @@ known : (w : World) (entries : List Entry) → IsRising w.live.board.connections
 known w [] r l m d p h = inl (h, tt)
 known w (entry ∷ entries) r l m d p h =
     elim (known (effect w entry) entries (rising_effect w entry l.0 r) l.1 m.1 d p h) [
-      | inl k ↦ elim (gained entry.event entry.party w r (subst (EventLicensed entry.event w) (effect-is w entry) m.0) d p (ap (player_in d) (sym (effect-board w entry)) ∙ k.0)) [
+      | inl k ↦ elim (gained entry.event entry.party w r m.0.0 d p (ap (player_in d) (sym (effect-board w entry)) ∙ k.0)) [
         | inl g ↦ inl (g.0, (g.1, k.1))
         | inr g ↦ inr (inl (g.0, g.1, k.1))
       ]

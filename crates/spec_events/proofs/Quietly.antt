@@ -14,7 +14,7 @@ use Rattle.spec_rights.specs.declared.act.Actor.{Actor}
 use Rattle.spec_rights.specs.declared.act.Act.TheVariants.{Start}
 use Rattle.spec_rights.specs.Verdict.{verdict}
 use Rattle.spec_rights.specs.Asking.{refused}
-use Rattle.spec_live.proofs.Steps.{Name, Begun, May}
+use Rattle.spec_live.proofs.Steps.{Name, Begun, Stilled, May}
 use Rattle.spec_live.proofs.Lives.{Shows, Readies, Loose, loose_quiet, Goes, wider}
 use Rattle.spec_rights.proofs.Walking.{acts}
 use Rattle.spec_rights.proofs.Licences.{Quiet, quiet_order, tie, ties}
@@ -62,6 +62,7 @@ quietly_both u v w p q = record { objects = q.objects ∙ p.objects; ties = q.ti
 -- What events may touch by which no dump begins.
 abbrev pub lively : May
 lively Begun = false
+lively Stilled = false
 lively _ = true
 
 pub lively_acts : (w v : Live) → Goes acts w v → Goes lively w v
@@ -69,6 +70,7 @@ lively_acts w v p = wider acts lively up w v p
   where
     up : (name : Name) → acts name ≡ true → lively name ≡ true
     up Begun h = h
+    up Stilled h = h
     up _ h = refl
 
 pub quietly_readies : (w v : World) → Quietly w v → Readies w.live v.live

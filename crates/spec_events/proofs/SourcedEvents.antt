@@ -36,7 +36,7 @@ use Rattle.muck_library.specs.Programs.{source_in, built_tree}
 use Rattle.muck_queue.specs.declared.process.Process.{Process}
 use Rattle.muck_queue.specs.Queues.{Queue, empty_queue, reader, has_pid, on_process, told_line, without, claimed, released, is_tied_to, ended_tied}
 use Rattle.spec_commands.specs.declared.outcome.Outcome.{Outcome}
-use Rattle.spec_commands.specs.declared.outcome.Outcome.TheVariants.{Done, NotMine, Start as StartOutcome, Edit, Leave, Dump, Stop, Retune}
+use Rattle.spec_commands.specs.declared.outcome.Outcome.TheVariants.{Done, Said, NotMine, Start as StartOutcome, Edit, Leave, Dump, Stop, Retune}
 use Rattle.spec_commands.specs.declared.edit.EditStep.{EditStep}
 use Rattle.spec_commands.specs.declared.edit.EditStep.TheVariants.{Stay, Compile, Left}
 use Rattle.spec_commands.specs.Editing.{editor_exited, is_open, edited}
@@ -55,13 +55,14 @@ use Rattle.spec_events.specs.Following.{settled}
 use Rattle.spec_events.specs.Starting.{by_command, by_hook, begun, start_told, start_judged, launched}
 use Rattle.spec_events.specs.Lines.{compiler_done, flaw_text, with_editor, compiled_so, compiled, next_editor, after_edit, edited_line, in_editor, typed, ended_behind, left_by, followed_up, in_world, command, program_aborted, is_abort, given_line, line_for, line_done, done as line_is_done}
 use Rattle.spec_events.specs.Slices.{Taken, units_of}
-use Rattle.spec_events.specs.Steps.{effect, happened}
+use Rattle.spec_events.specs.Hooked.{hooked}
+use Rattle.spec_events.specs.Steps.{effect, happened, hooked_by, rested}
 use Rattle.spec_events.specs.Sourced.{Each, OfSource, Standing, AreSourced, Sourced, BuiltOf, BeforeOne, BeforeUnit, UnitsSourced, Until, SourcedSince, AllSourced}
-use Rattle.spec_events.proofs.Sources.{SameSources, same_objects, source_as, IsLined, lined_told, saved_sources, notes_sources}
+use Rattle.spec_events.proofs.Sources.{SameSources, same_objects, source_as, IsLined, lined_told, saved_sources, stilled_sources, notes_sources}
 use Rattle.spec_events.proofs.Sourcing.{each_more, each_filter, each_without, each_changed, form_left, settled_sourced}
 use Rattle.spec_events.proofs.Lapses.{objects_settled}
 use Rattle.spec_events.proofs.Quietly.{quietly_launched, quietly_compiled, quietly_begun, quiet_told_each}
-use Rattle.spec_events.proofs.Happening.{effect-keeps, effect-live}
+use Rattle.spec_events.proofs.Happening.{hooked-keeps, hooked-live}
 use Rattle.spec_events.proofs.SourcedUnits as units
 use Rattle.spec_events.proofs.Turns.{gone_away_untouched}
 use Rattle.spec_events.proofs.Typed.{typed_open}
@@ -149,6 +150,7 @@ module _ (B : Dbref → List (List ℕ) → Tree → Type 0) where
   up_sourced d player Leave w now h = h
   up_sourced d player (Edit program) w now h = h
   up_sourced d player Done w now h = h
+  up_sourced d player (Said pose text) w now h = h
   up_sourced d player NotMine w now h = h
   up_sourced d player Dump w now h = h
   up_sourced d player Stop w now h = h
@@ -252,12 +254,24 @@ module _ (B : Dbref → List (List ℕ) → Tree → Type 0) where
   happened_sourced (DumpFailed k) party w now units_now h = saved_sourced due_again (askers_of w.dumps) dump_failed w h
   happened_sourced event party w now units_now h = h
 
-  pub effect_sourced : (w : World) (e : Entry) → units.Moment B (effect w e).live.objects → ((es : List Kept) → BeforeUnit e.event w es → units.Moment B es) → Sourced B w → Sourced B (effect w e)
-  effect_sourced w e now units_now h =
-      let there = subst (λ (l : Live). units.Moment B l.objects) (effect-live w e) now in
-      (effect-keeps (λ u. units.Moment B u.live.objects × Sourced B u)
-      (λ c u t k. (subst (units.Moment B) (sym (quietly_begun (by_hook u) c u).objects) k.0, started_sourced (by_hook u) c u k.0 k.1))
-      w e (there, happened_sourced e.event e.party w there units_now h)).1
+  -- and behind what is hooked to it
+  hooked_sourced : (w v : World) (text : Option (Dbref × List ℕ)) → units.Moment B (hooked w (rested v) text).live.objects → Sourced B v → Sourced B (hooked w (rested v) text)
+  hooked_sourced w v text now h =
+      let u : World = rested v in
+      (hooked-keeps (λ x. units.Moment B x.live.objects × Sourced B x)
+      (λ c x t k. (subst (units.Moment B) (sym (quietly_begun (by_hook x) c x).objects) k.0, started_sourced (by_hook x) c x k.0 k.1))
+      w u text (subst (λ (l : Live). units.Moment B l.objects) (hooked-live w u text) now, as_sources v u (stilled_sources v.live.objects) refl refl h)).1
+
+  follows_sourced : (event : Event) (w v : World) → units.Moment B (hooked_by w event v).live.objects → Sourced B v → Sourced B (hooked_by w event v)
+  follows_sourced (Exec d) w v now h = hooked_sourced w v _ now h
+  follows_sourced (Slice pid) w v now h = hooked_sourced w v _ now h
+  follows_sourced (Closed d) w v now h = hooked_sourced w v _ now h
+  follows_sourced event w v now h = h
+
+  pub effect_sourced : (w : World) (e : Entry) → units.Moment B (happened w e.party e.event).live.objects → units.Moment B (effect w e).live.objects → ((es : List Kept) → BeforeUnit e.event w es → units.Moment B es) →
+      Sourced B w → Sourced B (effect w e)
+  unfolding effect
+  effect_sourced w e here now units_now h = follows_sourced e.event w (happened w e.party e.event) now (happened_sourced e.event e.party w here units_now h)
 
   -- and so is what each unit of a slice runs
   pub units_sourced : (event : Event) (w : World) → ((es : List Kept) → BeforeUnit event w es → units.Moment B es) → Sourced B w → UnitsSourced B event w
@@ -294,8 +308,8 @@ sourced_since Stood w [] h = tt
 sourced_since Stood w (entry ∷ entries) h =
     let now : List Kept → Type 0 = Until Stood w entry in
     let k : Sourced (BuiltOf now) w = sourced_more (BuiltOf Stood) (BuiltOf now) (built_more Stood now (λ es s. inl s)) w.live.objects w.library w.queue.processes h in
-    let before : (es : List Kept) → BeforeUnit entry.event w es → units.Moment (BuiltOf now) es = λ es s. moment_of now es (inr (inr s)) in
-    let next : Sourced (BuiltOf now) (effect w entry) = effect_sourced (BuiltOf now) w entry (moment_of now (effect w entry).live.objects (inr (inl refl))) before k in
+    let before : (es : List Kept) → BeforeUnit entry.event w es → units.Moment (BuiltOf now) es = λ es s. moment_of now es (inr (inr (inr s))) in
+    let next : Sourced (BuiltOf now) (effect w entry) = effect_sourced (BuiltOf now) w entry (moment_of now (happened w entry.party entry.event).live.objects (inr (inl refl))) (moment_of now (effect w entry).live.objects (inr (inr (inl refl)))) before k in
     (units_sourced (BuiltOf now) entry.event w before k, next, sourced_since now (effect w entry) entries next)
 
 -- a world in which nothing is built and nothing runs

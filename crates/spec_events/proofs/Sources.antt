@@ -10,6 +10,8 @@ use Rattle.spec_live.specs.declared.object.Object.{Object}
 use Rattle.spec_live.specs.declared.saving.Saving.{Saving}
 use Rattle.spec_live.specs.Saving.{all_saving}
 use Rattle.spec_live.specs.Objects.{Entry, dbref_of, index_of, is_garbage, kind_in, mark_in, number_in, object_at, object_in}
+use Rattle.spec_live.specs.Stood.{stilled}
+use Rattle.spec_live.proofs.Tracing.{object_stilled}
 use Rattle.spec_live.proofs.Savings.{object_resaved}
 use Rattle.spec_rights.proofs.Lookups.{at_negative}
 use Rattle.spec_rights.proofs.Telling.{Told}
@@ -69,6 +71,9 @@ read_alike es fs h d = at (index_of d)
 
 pub saved_sources : (f : Saving → Saving) (es : List Entry) → SameSources es (all_saving f es)
 saved_sources f es d = source_as d es (all_saving f es) (read_alike es (all_saving f es) (λ n. object_resaved f n es) d)
+
+pub stilled_sources : (es : List Entry) → SameSources es (stilled es)
+stilled_sources es d = source_as d es (stilled es) (read_alike es (stilled es) (λ n. object_stilled es n) d)
 
 -- What touches notes alone leaves each source.
 

@@ -14,7 +14,7 @@ use Rattle.spec_live.proofs.Lists.{read_mapped}
 use Rattle.spec_live.proofs.Steps.{Walk}
 use Rattle.spec_live.proofs.Walks.{walk_told}
 use Rattle.spec_live.proofs.Entries.{fewer_walk}
-use Rattle.spec_live.proofs.Marking.{marked_both, marked_walk}
+use Rattle.spec_live.proofs.Tracing.{traced_both, traced_walk}
 use Rattle.spec_events.proofs.Quietly.{lively}
 
 -- Objects and lists without what is to be told of them.
@@ -57,7 +57,7 @@ licensed_told a free w v l = let told : Walk lively v.objects (map unmarked v.ob
   vanished = λ x e. told_at x v.objects ∙ l.vanished x e;
   objects = λ n. let P : Option Object → Type 0 = λ o. Differs (record { actor = a; free = free; gone = l.gone; objects = w.objects }) (dbref_of n) (object_at (dbref_of n) w.objects) o in subst P (sym (told_at (dbref_of n) v.objects)) (l.objects n);
   no_fewer = omega (arith, l.no_fewer, fewer_walk lively v.objects (map unmarked v.objects) told);
-  marked = marked_both w.objects v.objects (map unmarked v.objects) l.marked (marked_walk lively refl v.objects (map unmarked v.objects) told);
+  traced = traced_both w.objects v.objects (map unmarked v.objects) l.traced (traced_walk lively refl refl v.objects (map unmarked v.objects) told);
   lists = λ exits p. subst (Reordered (front_open (record { actor = a; free = free; gone = l.gone; objects = w.objects }) w.objects p) (list_in exits w.objects p)) (sym (told_list exits v.objects p)) (l.lists exits p);
   connections = l.connections;
   tune = l.tune;

@@ -1,5 +1,5 @@
 -- Each step changes only what is open.
-use Rattle.std.proofs.Common.{◌≡◌, ℕ, true, false, zero, suc, List, [], ◌∷◌, refl, sym, ◌∙◌, subst, None}
+use Rattle.std.proofs.Common.{◌≡◌, ℕ, true, false, zero, suc, List, [], ◌∷◌, refl, ◌∙◌, None}
 use Rattle.muck_model.specs.declared.event.Entry.{Entry}
 use Rattle.muck_model.specs.declared.event.Event.{Event}
 use Rattle.muck_model.specs.declared.tune.Tune.{Tune}
@@ -28,7 +28,8 @@ use Rattle.spec_events.proofs.Endings.{IsTold, processes_remain, tied_remain}
 use Rattle.spec_events.proofs.Done.{none_ends, undisturbed_quietly, turn_licensed, told_by, told_done}
 use Rattle.spec_events.proofs.Taken.{told_sliced}
 use Rattle.spec_events.proofs.Chained.{slice_licensed}
-use Rattle.spec_events.proofs.Happening.{effect-is, effect-live}
+use Rattle.spec_events.proofs.Happening.{effect-seen, effect-starts}
+use Rattle.spec_live.proofs.Tracing.{mark_stilled}
 use Rattle.spec_events.proofs.Numbers.{numbered_effect, rising_starting, rising_booted}
 
 -- what a player does by a line is open to it, and at the login screen no object changes
@@ -85,13 +86,13 @@ told_happened (DumpFailed k) w party h = told_dump due_again (askers_of w.dumps)
 told_happened event w party h = h
 
 pub told_effect : (w : World) (e : Entry) → IsTold w.live → IsTold (effect w e).live
-told_effect w e h = subst IsTold (sym (effect-live w e)) (told_happened e.event w e.party h)
+told_effect w e h = effect-seen (λ (os : List Kept). (n : ℕ) → mark_in os n ≡ None) (λ v k n. mark_stilled v.live.objects n ∙ k n) w e (told_happened e.event w e.party h)
 
 -- whole histories, from a world of which nothing is to be told, and in which the numbers of the processes rise
 pub all_licensed : (w : World) (es : List Entry) → IsTold w.live → IsNumbered w.queue → AllLicensed w es
 all_licensed w [] told rising = tt
 all_licensed w (entry ∷ entries) told rising =
-    (subst (EventLicensed entry.event w) (sym (effect-is w entry)) (event_licensed entry.event w entry.party told rising), all_licensed (effect w entry) entries (told_effect w entry told) (numbered_effect w entry rising))
+    ((event_licensed entry.event w entry.party told rising, effect-starts w entry), all_licensed (effect w entry) entries (told_effect w entry told) (numbered_effect w entry rising))
 
 told_starting : IsTold starting.live
 unfolding starting booted first_objects mark_in

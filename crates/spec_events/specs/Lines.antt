@@ -8,7 +8,7 @@ use Rattle.muck_model.specs.declared.edit.EditState.{EditState}
 use Rattle.spec_live.specs.Objects.{object_at}
 use Rattle.spec_live.specs.Connections.{Connection}
 use Rattle.spec_live.specs.Boards.{edited_one}
-use Rattle.spec_live.specs.Lives.{Live, Change, on_board, tell, leave}
+use Rattle.spec_live.specs.Lives.{Live, Change, on_board, tell, leave, name_at}
 use Rattle.spec_rights.specs.declared.act.Actor.{Actor}
 use Rattle.spec_rights.specs.Changing.{tuned}
 use Rattle.muf_model.specs.Tree.{Tree}
@@ -17,7 +17,7 @@ use Rattle.muck_library.specs.Programs.{built_tree}
 use Rattle.muck_library.specs.Library.{form_kept, form_dropped}
 use Rattle.muck_queue.specs.Queues.{Queue, reader, on_process, told_line, without}
 use Rattle.spec_commands.specs.declared.outcome.Outcome.{Outcome}
-use Rattle.spec_commands.specs.declared.outcome.Outcome.TheVariants.{Done, NotMine, Start, Edit, Leave, Dump, Stop, Retune}
+use Rattle.spec_commands.specs.declared.outcome.Outcome.TheVariants.{Done, Said, NotMine, Start, Edit, Leave, Dump, Stop, Retune}
 use Rattle.spec_commands.specs.declared.edit.EditStep.{EditStep}
 use Rattle.spec_commands.specs.declared.edit.EditStep.TheVariants.{Compile, Left}
 use Rattle.spec_commands.specs.Finding.{actor_of}
@@ -26,6 +26,7 @@ use Rattle.spec_commands.specs.Going.{Play, ended}
 use Rattle.spec_commands.specs.Commands.{or_else, played}
 use Rattle.spec_commands.specs.Editing.{editor_exited, is_open, edited}
 use Rattle.spec_commands.specs.Talk.{at_login, waits}
+use Rattle.spec_commands.specs.Talking.{heard_as}
 use Rattle.spec_admin.specs.Lines.{admin_line, after_line}
 use Rattle.spec_events.specs.World.{World, asked_by, on_live, on_queue, on_dumps, with_library}
 use Rattle.spec_events.specs.Following.{settled}
@@ -144,3 +145,22 @@ line_done d player editor (line ∷ lines) w = line_for (reader d w.queue) playe
 unfoldable pub done : ℕ → Option Connection → World → World
 done d None w = w
 done d (Some c) w = line_done d c.player c.editor c.waiting w
+
+-- What a line says: of a player's line that was said or posed, what others hear, and whose it is.
+
+abbrev pub spoken_by : Dbref → Live × Outcome → Option (Dbref × List ℕ)
+spoken_by player (w, Said pose text) = Some (player, heard_as pose (name_at player w) text)
+spoken_by player (w, outcome) = None
+
+abbrev pub line_spoken : Option ℤ → Option Dbref → Option EditState → ℕ → List ℕ → World → Option (Dbref × List ℕ)
+line_spoken None (Some player) None d line w = spoken_by player (typed w.queue d (actor_of w.live.objects player) line w.live)
+line_spoken reader player editor d line w = None
+
+abbrev pub first_spoken : ℕ → Option Dbref → Option EditState → List (List ℕ) → World → Option (Dbref × List ℕ)
+first_spoken d player editor [] w = None
+first_spoken d player editor (line ∷ lines) w = line_spoken (reader d w.queue) player editor d line (on_live (waits d lines) w)
+
+-- by the line that is done
+unfoldable pub spoken : ℕ → Option Connection → World → Option (Dbref × List ℕ)
+spoken d None w = None
+spoken d (Some c) w = first_spoken d c.player c.editor c.waiting w

@@ -14,7 +14,7 @@ use Rattle.muck_library.specs.Programs.{source_in, built_tree}
 use Rattle.muck_queue.specs.declared.process.Process.{Process}
 use Rattle.spec_events.specs.World.{World}
 use Rattle.spec_events.specs.Slices.{Taken, units_of}
-use Rattle.spec_events.specs.Steps.{effect}
+use Rattle.spec_events.specs.Steps.{happened, effect}
 
 abbrev pub Each : {X : Type 0} → (X → Type 0) → List X → Type 0
 Each P [] = Unit {0}
@@ -40,7 +40,7 @@ pub record AreSourced (B : Dbref → List (List ℕ) → Tree → Type 0) (es : 
 abbrev pub Sourced : (Dbref → List (List ℕ) → Tree → Type 0) → World → Type 0
 Sourced B w = AreSourced B w.live.objects w.library w.queue.processes
 
--- The moments at which something is built: behind a line that was done, or before a unit of a slice.
+-- The moments at which something is built: behind a line that was done, behind an event by what is hooked to it, or before a unit of a slice.
 
 abbrev pub BeforeOne : List Taken → List Kept → Type 0
 BeforeOne [] es = ⊥
@@ -51,7 +51,7 @@ BeforeUnit (Slice pid) w es = BeforeOne (units_of pid w) es
 BeforeUnit event w es = ⊥
 
 abbrev pub StoodAt : World → Entry → List Kept → Type 0
-StoodAt w entry es = (es ≡ (effect w entry).live.objects) ⊎ BeforeUnit entry.event w es
+StoodAt w entry es = (es ≡ (happened w entry.party entry.event).live.objects) ⊎ ((es ≡ (effect w entry).live.objects) ⊎ BeforeUnit entry.event w es)
 
 -- What runs.
 

@@ -8,13 +8,15 @@ use Rattle.muck_model.specs.declared.event.Event.TheVariants.{Opened, Input, Clo
 use Rattle.spec_live.specs.Saving as saving
 use Rattle.spec_live.specs.Connections.{Connection, is_ready, connections_most, takes_line, holds}
 use Rattle.spec_live.specs.Boards.{opened, line_added, bytes_taken}
-use Rattle.spec_live.specs.Lives.{on_board}
+use Rattle.spec_live.specs.Stood.{stilled}
+use Rattle.spec_live.specs.Lives.{on_board, on_objects}
 use Rattle.muck_queue.specs.declared.process.Process.{Process}
 use Rattle.muck_queue.specs.Queues.{has_pid, process, is_due, is_on, next_due, claimed, released, is_busy, ended_tied}
 use Rattle.spec_commands.specs.Talk.{welcome, gone_away}
 use Rattle.spec_events.specs.World.{World, connection, unasked, begun, over, askers_of, runs_dump, on_live, on_queue, on_dumps}
 use Rattle.spec_events.specs.Dumping.{resaved, dump_stored, dump_failed, told_each}
-use Rattle.spec_events.specs.Lines.{done}
+use Rattle.spec_events.specs.Lines.{done, spoken}
+use Rattle.spec_events.specs.Hooked.{hooked}
 use Rattle.spec_events.specs.Slices.{sliced}
 
 -- the connection d is there and passes
@@ -112,8 +114,27 @@ happened w party Halt = record w { stopping = true }
 happened w party Died = record w { dead = true }
 happened w party event = w
 
+-- another event begins: where players stand is where they stood
+abbrev pub rested : World → World
+rested w = on_live (on_objects stilled) w
+
+-- one does behind an event that hooks follow
+abbrev pub resting : Event → World → World
+resting (Exec d) v = rested v
+resting (Slice pid) v = rested v
+resting (Closed d) v = rested v
+resting event v = v
+
+-- Behind a line that is done, a slice and a connection that goes comes what is hooked to who came, went and moved since the world before, and to what the line said.
+abbrev pub hooked_by : World → Event → World → World
+hooked_by w (Exec d) v = hooked w (rested v) (spoken d (connection d w) w)
+hooked_by w (Slice pid) v = hooked w (rested v) None
+hooked_by w (Closed d) v = hooked w (rested v) None
+hooked_by w event v = v
+
+-- the world after an entry: what happened, and what is hooked to that
 unfoldable pub effect : World → Entry → World
-effect w entry = happened w entry.party entry.event
+effect w entry = hooked_by w entry.event (happened w entry.party entry.event)
 
 -- the lowest connection with a line that may be done
 unfoldable pub next_ready : World → Option ℕ

@@ -102,7 +102,7 @@ saving_exits d k es = saving_kept d k without_exits (map (exit_gone d) es) (λ e
 
 pub saving_vanished : (es : List Entry) (d k : ℕ) → saving_in (vanished d es) k ≡ cond (eqb k d) Due (saving_in es k)
 unfolding vanished gone_entry
-saving_vanished es d k = saving_changed d k (λ e. gone_entry) (map (left_out d) es) (λ e. refl) ∙ ap (λ z. cond (eqb k d) Due z) (saving_left d k es)
+saving_vanished es d k = saving_changed d k gone_entry (map (left_out d) es) (λ e. refl) ∙ ap (λ z. cond (eqb k d) Due z) (saving_left d k es)
 
 -- Links.
 

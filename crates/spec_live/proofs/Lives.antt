@@ -10,7 +10,7 @@ use Rattle.spec_live.specs.Connections.{Connection, has_number, changed_in, left
 use Rattle.spec_live.specs.Boards.{Board, on_connections, opened, closed, leaving_one, seated_one, tuned}
 use Rattle.spec_live.specs.Lives.{Live, Change, unchanged}
 use Rattle.spec_live.proofs.Keeping.{Keeps, Order, Path, one, goes, stays, along, path_order, keeps_more, keeps_unchanged}
-use Rattle.spec_live.proofs.Steps.{Name, Begun, Shown, Heard, Came, Leaving, Seated, Tuned, May, Touch, sets, lines, makes, unties, vanishes, lists, dues, tells, resaves, begins, Touches, Part, each, at, grows, Step, parts, settles, Walk}
+use Rattle.spec_live.proofs.Steps.{Name, Begun, Shown, Heard, Came, Leaving, Seated, Tuned, May, Touch, sets, lines, makes, unties, vanishes, lists, dues, tells, resaves, begins, stills, Touches, Part, each, at, grows, Step, parts, settles, Walk}
 use Rattle.spec_live.proofs.Entries.{NoFewer, fewer_order, fewer_walk}
 use Rattle.spec_live.proofs.Marking.{marked_order, marked_walk}
 
@@ -154,6 +154,7 @@ module _ (m n : May) (up : (name : Name) → m name ≡ true → n name ≡ true
   wider_touch b _ _ (tells e h) = one (tells e (up _ h))
   wider_touch b _ _ (resaves f e h s) = one (resaves f e (up _ h) s)
   wider_touch b _ _ (begins e h) = one (begins e (up _ h))
+  wider_touch b _ _ (stills e h) = one (stills e (up _ h))
 
   wider_part : (b : Bool) (es fs : List Entry) → Part m b es fs → Path (Part n b) es fs
   wider_part b _ _ (each f es t) = one (each f es (λ e. along (path_order (Touch n b)) (wider_touch b) e (f e) (t e)))

@@ -12,7 +12,7 @@ use Rattle.spec_live.specs.Recycling.{without_ties, is_tied, gone_entry}
 use Rattle.spec_live.proofs.Keeping.{Order, along}
 use Rattle.spec_live.proofs.Savings.{object_relinked, saving_relinked}
 use Rattle.spec_live.proofs.Dues.{links_alike, links_relinked, same_equal}
-use Rattle.spec_live.proofs.Steps.{Begun, May, Touch, unties, vanishes, lists, tells, resaves, begins, Step, parts, settles, Walk}
+use Rattle.spec_live.proofs.Steps.{Begun, May, Touch, unties, vanishes, lists, tells, resaves, begins, stills, Step, parts, settles, Walk}
 use Rattle.spec_live.proofs.Entries.{seen, Each, Holds, each_parts}
 
 pub marked_itself : (es : List Entry) → Marked es es
@@ -56,6 +56,7 @@ entry_touch may n b _ _ (lists cs xs e h) early = record { early = early; object
 entry_touch may n b _ _ (tells e h) early = record { early = early; object = refl }
 entry_touch may n b _ _ (resaves f e h s) early = record { early = s e.saving early; object = refl }
 entry_touch may n b _ _ (begins e h) early = absurd (false≢true (sym n ∙ h))
+entry_touch may n b _ _ (stills e h) early = record { early = early; object = refl }
 entry_touch may n b _ _ touch early = absurd (false≢true (sym early))
 
 -- its lists, where none is written

@@ -4,6 +4,7 @@ use Rattle.std.proofs.lemmas.Bool.{cases_eq, cases_lt, false≢true}
 use Rattle.std.proofs.lemmas.Option.{slice_get-map, slice_get_past}
 use Rattle.std.specs.List.{slice_get}
 use Rattle.std.specs.Option.{option_map, option_and_then, option_map_or}
+use Rattle.muck_model.specs.declared.dbref.Dbref.{Dbref}
 use Rattle.muck_model.specs.declared.dbref.Flags.{Flags}
 use Rattle.muck_model.specs.declared.dbref.Kind.{Kind}
 use Rattle.muck_model.specs.declared.dbref.Kind.TheVariants.{Garbage}
@@ -16,33 +17,35 @@ use Rattle.spec_live.specs.Flags.{no_flags}
 use Rattle.spec_live.specs.Objects.{Entry, index_of, object_in, list_of, list_in, mark_in, kind_in, flags_in, place_in, fits_in, is_vehicle_in, is_exit, changed_at, on_object, with_object}
 use Rattle.spec_live.specs.Moving.{left_out, put_first, with_place, set_down, moved}
 use Rattle.spec_live.specs.Saving.{saving_in}
+use Rattle.spec_live.specs.Stood.{stood_in}
 use Rattle.spec_live.proofs.Lists.{length_map, read_mapped, get_changed_same, get_changed_other, length_changed, some_at, same_place, put_same, put_other}
 use Rattle.spec_live.proofs.Savings.{length_relinked, object_relinked, list_relinked, mark_relinked}
 
 -- Two lists of entries that every reader sees alike.
 
-entry_same : (a b : Entry) → a.object ≡ b.object → a.contents ≡ b.contents → a.exits ≡ b.exits → a.mark ≡ b.mark → a.saving ≡ b.saving → a ≡ b
-entry_same a b o c x m s =
-    let make : Object → List ℕ → List ℕ → Option Mark → Saving → Entry = λ o c x m s. record { object = o; contents = c; exits = x; mark = m; saving = s } in
-    ap (λ t. make t a.contents a.exits a.mark a.saving) o ∙ ap (λ t. make b.object t a.exits a.mark a.saving) c ∙ ap (λ t. make b.object b.contents t a.mark a.saving) x
-    ∙ ap (λ t. make b.object b.contents b.exits t a.saving) m ∙ ap (λ t. make b.object b.contents b.exits b.mark t) s
+entry_same : (a b : Entry) → a.object ≡ b.object → a.contents ≡ b.contents → a.exits ≡ b.exits → a.mark ≡ b.mark → a.saving ≡ b.saving → a.stood ≡ b.stood → a ≡ b
+entry_same a b o c x m s t =
+    let make : Object → List ℕ → List ℕ → Option Mark → Saving → Option Dbref → Entry = λ o c x m s t. record { object = o; contents = c; exits = x; mark = m; saving = s; stood = t } in
+    ap (λ z. make z a.contents a.exits a.mark a.saving a.stood) o ∙ ap (λ z. make b.object z a.exits a.mark a.saving a.stood) c ∙ ap (λ z. make b.object b.contents z a.mark a.saving a.stood) x
+    ∙ ap (λ z. make b.object b.contents b.exits z a.saving a.stood) m ∙ ap (λ z. make b.object b.contents b.exits b.mark z a.stood) s ∙ ap (λ z. make b.object b.contents b.exits b.mark b.saving z) t
 
 list_ext : (es fs : List Entry) → length es ≡ length fs → ((k : ℕ) → option_map (λ (e : Entry). e.object) (slice_get es k) ≡ option_map (λ (e : Entry). e.object) (slice_get fs k))
     → ((v : Bool) (k : ℕ) → option_map_or (list_of v) (slice_get es k) [] ≡ option_map_or (list_of v) (slice_get fs k) [])
     → ((k : ℕ) → option_and_then (λ (e : Entry). e.mark) (slice_get es k) ≡ option_and_then (λ (e : Entry). e.mark) (slice_get fs k))
-    → ((k : ℕ) → option_map_or (λ (e : Entry). e.saving) (slice_get es k) Due ≡ option_map_or (λ (e : Entry). e.saving) (slice_get fs k) Due) → es ≡ fs
-list_ext [] [] n o l m s = refl
-list_ext [] (f ∷ fs) n o l m s = absurd (omega arith)
-list_ext (e ∷ es) [] n o l m s = absurd (omega arith)
-list_ext (e ∷ es) (f ∷ fs) n o l m s =
-    let head : e ≡ f = entry_same e f (cc (o 0)) (l false 0) (l true 0) (m 0) (s 0) in
-    let rest : es ≡ fs = list_ext es fs (omega arith) (λ k. o (suc k)) (λ v k. l v (suc k)) (λ k. m (suc k)) (λ k. s (suc k)) in
+    → ((k : ℕ) → option_map_or (λ (e : Entry). e.saving) (slice_get es k) Due ≡ option_map_or (λ (e : Entry). e.saving) (slice_get fs k) Due)
+    → ((k : ℕ) → option_and_then (λ (e : Entry). e.stood) (slice_get es k) ≡ option_and_then (λ (e : Entry). e.stood) (slice_get fs k)) → es ≡ fs
+list_ext [] [] n o l m s t = refl
+list_ext [] (f ∷ fs) n o l m s t = absurd (omega arith)
+list_ext (e ∷ es) [] n o l m s t = absurd (omega arith)
+list_ext (e ∷ es) (f ∷ fs) n o l m s t =
+    let head : e ≡ f = entry_same e f (cc (o 0)) (l false 0) (l true 0) (m 0) (s 0) (t 0) in
+    let rest : es ≡ fs = list_ext es fs (omega arith) (λ k. o (suc k)) (λ v k. l v (suc k)) (λ k. m (suc k)) (λ k. s (suc k)) (λ k. t (suc k)) in
     cc
 
 pub entries_ext : (es fs : List Entry) → length es ≡ length fs → ((k : ℕ) → object_in es k ≡ object_in fs k) → ((v : Bool) (k : ℕ) → list_in v es k ≡ list_in v fs k)
-    → ((k : ℕ) → mark_in es k ≡ mark_in fs k) → ((k : ℕ) → saving_in es k ≡ saving_in fs k) → es ≡ fs
-unfolding object_in list_in mark_in saving_in
-entries_ext es fs n o l m s = list_ext es fs n o l m s
+    → ((k : ℕ) → mark_in es k ≡ mark_in fs k) → ((k : ℕ) → saving_in es k ≡ saving_in fs k) → ((k : ℕ) → stood_in es k ≡ stood_in fs k) → es ≡ fs
+unfolding object_in list_in mark_in saving_in stood_in
+entries_ext es fs n o l m s t = list_ext es fs n o l m s t
 
 -- What isn't there.
 

@@ -225,32 +225,32 @@ untied_exits_gone es d x u = record {
 
 vanished_left : (es : List Entry) (d : ℕ) (o : Object) → object_in (vanished d es) d ≡ Some o → o ≡ garbage
 unfolding vanished object_in gone_entry
-vanished_left es d o h = by_cases (slice_get (map (left_out d) es) d) (sym (ap (λ z. option_map (λ (e : Entry). e.object) z) (get_changed_same (map (left_out d) es) d (λ e. gone_entry))) ∙ h)
+vanished_left es d o h = by_cases (slice_get (map (left_out d) es) d) (sym (ap (λ z. option_map (λ (e : Entry). e.object) z) (get_changed_same (map (left_out d) es) d gone_entry)) ∙ h)
   where
-    by_cases : (a : Option Entry) → option_map (λ (e : Entry). e.object) (option_map (λ e. gone_entry) a) ≡ Some o → o ≡ garbage
+    by_cases : (a : Option Entry) → option_map (λ (e : Entry). e.object) (option_map gone_entry a) ≡ Some o → o ≡ garbage
     by_cases None q = absurd (cc (q))
     by_cases (Some e) q = cc (q)
 
 vanished_kept : (es : List Entry) (d k : ℕ) → (k ≡ d → ⊥) → object_in (vanished d es) k ≡ object_in es k
 unfolding vanished
-vanished_kept es d k ne = object_elsewhere d k (λ e. gone_entry) (map (left_out d) es) ne ∙ object_left d k es
+vanished_kept es d k ne = object_elsewhere d k gone_entry (map (left_out d) es) ne ∙ object_left d k es
 
 vanished_list_here : (es : List Entry) (d : ℕ) (v : Bool) → list_in v (vanished d es) d ≡ []
 unfolding vanished list_in gone_entry
-vanished_list_here es d v = rw (get_changed_same (map (left_out d) es) d (λ e. gone_entry)) (by_cases v (slice_get (map (left_out d) es) d))
+vanished_list_here es d v = rw (get_changed_same (map (left_out d) es) d gone_entry) (by_cases v (slice_get (map (left_out d) es) d))
   where
-    by_cases : (v : Bool) (a : Option Entry) → option_map_or (list_of v) (option_map (λ e. gone_entry) a) [] ≡ []
+    by_cases : (v : Bool) (a : Option Entry) → option_map_or (list_of v) (option_map gone_entry a) [] ≡ []
     by_cases v None = refl
     by_cases true (Some e) = refl
     by_cases false (Some e) = refl
 
 vanished_list : (es : List Entry) (d : ℕ) (v : Bool) (k : ℕ) → (k ≡ d → ⊥) → list_in v (vanished d es) k ≡ without d (list_in v es k)
 unfolding vanished
-vanished_list es d v k ne = list_elsewhere v d k (λ e. gone_entry) (map (left_out d) es) ne ∙ list_left v d k es
+vanished_list es d v k ne = list_elsewhere v d k gone_entry (map (left_out d) es) ne ∙ list_left v d k es
 
 pub length_vanished : (es : List Entry) (d : ℕ) → length (vanished d es) ≡ length es
 unfolding vanished
-length_vanished es d = length_changed (map (left_out d) es) d (λ e. gone_entry) ∙ length_map (left_out d) es
+length_vanished es d = length_changed (map (left_out d) es) d gone_entry ∙ length_map (left_out d) es
 
 pub fewer_vanished : (es : List Entry) (d : ℕ) → (d ≡ 0 → ⊥) → ((v : Bool) → list_in v es d ≡ []) → IsOrdered es → IsFewer es (vanished d es) (λ k. eqb k d)
 fewer_vanished es d low empty c = record {

@@ -14,9 +14,10 @@ use Rattle.spec_live.specs.Making.{blank_entry, grown, new_object, created}
 use Rattle.spec_live.specs.Setting.{set_at, with_lines, lines_set}
 use Rattle.spec_live.specs.Recycling.{untie, untied, way_home, sent_home, gone_entry, is_exit_of, exit_gone, without_exits, exits_gone, vanished, taken_away, recycled}
 use Rattle.spec_live.specs.Marks.{unmarked}
+use Rattle.spec_live.specs.Stood.{still, stilled}
 use Rattle.spec_live.proofs.CreationLaws.{grown_kind}
 use Rattle.spec_live.proofs.Keeping.{stays, goes, one, join}
-use Rattle.spec_live.proofs.Steps.{Begun, Place, Lines, Made, Gone, Lists, Told, Stored, May, Field, placed, name_of, field_set, sets, lines, makes, unties, vanishes, lists, dues, tells, resaves, begins, Touches, each, at, grows, parts, settles, Walk}
+use Rattle.spec_live.proofs.Steps.{Begun, Stilled, Place, Lines, Made, Gone, Lists, Told, Stored, May, Field, placed, name_of, field_set, sets, lines, makes, unties, vanishes, lists, dues, tells, resaves, begins, stills, Touches, each, at, grows, parts, settles, Walk}
 
 -- it writes no list
 pub walk_at : (may : May) (n : ℕ) (f : Entry → Entry) (es : List Entry) → ((e : Entry) → slice_get es n ≡ Some e → Touches may false e (f e)) → Walk may es (changed_at n f es)
@@ -73,7 +74,7 @@ walk_created may n kind name owner to es g m p l =
 exit_touches : (may : May) (d : ℕ) (e : Entry) → may Gone ≡ true → Touches may true e (exit_gone d e)
 exit_touches may d e g = by_cases (is_exit_of d e.object)
   where
-    by_cases : (b : Bool) → Touches may true e (cond b gone_entry e)
+    by_cases : (b : Bool) → Touches may true e (cond b (gone_entry e) e)
     by_cases true = one (vanishes e g refl)
     by_cases false = stays
 
@@ -82,13 +83,13 @@ unfolding sent_home
 sent_walk may [] es p l = stays
 sent_walk may (x ∷ xs) es p l = join (walk_moved may x (way_home x es) es p l) (sent_walk may xs _ p l)
 
-taken_walk : (may : May) (d : ℕ) (es : List Entry) → may Gone ≡ true → may Lists ≡ true → Walk may es (taken_away d es)
+pub taken_walk : (may : May) (d : ℕ) (es : List Entry) → may Gone ≡ true → may Lists ≡ true → Walk may es (taken_away d es)
 unfolding taken_away vanished exits_gone
 taken_walk may d es g l = one (settles es _ l
     (goes (each (exit_gone d) es (λ e. exit_touches may d e g))
     (goes (at d without_exits _ (λ e h. one (lists e.contents [] e refl)))
     (goes (each (left_out d) _ (left_touches may d))
-    (one (at d (λ e. gone_entry) _ (λ e h. one (vanishes e g refl))))))))
+    (one (at d gone_entry _ (λ e h. one (vanishes e g refl))))))))
 
 pub walk_recycled : (may : May) (d : ℕ) (es : List Entry) → may Gone ≡ true → may Place ≡ true → may Lists ≡ true → Walk may es (recycled d es)
 unfolding recycled untied
@@ -118,3 +119,9 @@ walk_failed may es s = walk_each may (on_saving due_again) es (λ e. one (resave
 pub walk_begun : (may : May) (es : List Entry) → may Begun ≡ true → Walk may es (all_saving pending es)
 unfolding all_saving
 walk_begun may es s = walk_each may (on_saving pending) es (λ e. one (begins e s))
+
+-- Another event begins.
+
+pub walk_stilled : (may : May) (es : List Entry) → may Stilled ≡ true → Walk may es (stilled es)
+unfolding stilled
+walk_stilled may es s = walk_each may still es (λ e. one (stills e s))

@@ -3,6 +3,7 @@ pub mod Chain
 pub mod Flags
 pub mod Objects
 pub mod Saving
+pub mod Stood
 pub mod Password
 pub mod Moving
 pub mod Making

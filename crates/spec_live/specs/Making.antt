@@ -20,7 +20,7 @@ free_in [] = 0
 free_in (e ∷ es) = if is_garbage e.object.kind then 0 else suc (free_in es)
 
 unfoldable pub blank_entry : Entry
-blank_entry = record { object = garbage; contents = []; exits = []; mark = None; saving = Due }
+blank_entry = record { object = garbage; contents = []; exits = []; mark = None; saving = Due; stood = None }
 
 -- one more of garbage, where the number is the next
 unfoldable pub grown : ℕ → List Entry → List Entry

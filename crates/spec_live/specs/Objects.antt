@@ -15,13 +15,15 @@ use Rattle.spec_live.specs.declared.saving.Saving.TheVariants.{Due}
 use Rattle.spec_live.specs.Flags.{has_flag, no_flags, vehicle}
 use Rattle.spec_live.specs.Chain.{walk}
 
--- An object with its contents and its exits, the newest first, what is to be told of it, and how it stands to the dumps.
+-- An object with its contents and its exits, the newest first, what is to be told of it, how it stands to the dumps, and where it stood when the event began,
+-- where it was a player then.
 pub record Entry : Type 0 where
   pub object : Object
   pub contents : List ℕ
   pub exits : List ℕ
   pub mark : Option Mark
   pub saving : Saving
+  pub stood : Option Dbref
 
 -- what may be in a room; in a thing, on which players may sit where it is a vehicle; and in a player
 abbrev pub may_stand : Kind → Kind → Bool → Bool

@@ -52,15 +52,15 @@ sent_home [] es = es
 sent_home (x ∷ xs) es = sent_home xs (moved x (way_home x es) es)
 
 -- what is left of an object, of which is to be told
-unfoldable pub gone_entry : Entry
-gone_entry = record { object = garbage; contents = []; exits = []; mark = Some Gone; saving = Due }
+unfoldable pub gone_entry : Entry → Entry
+gone_entry e = record { object = garbage; contents = []; exits = []; mark = Some Gone; saving = Due; stood = e.stood }
 
 -- an exit of d
 abbrev pub is_exit_of : ℕ → Object → Bool
 is_exit_of d o = is_exit o.kind && same o.place (dbref_of d)
 
 abbrev pub exit_gone : ℕ → Entry → Entry
-exit_gone d e = if is_exit_of d e.object then gone_entry else e
+exit_gone d e = if is_exit_of d e.object then gone_entry e else e
 
 abbrev pub without_exits : Entry → Entry
 without_exits e = record e { exits = [] }
@@ -71,7 +71,7 @@ exits_gone d es = changed_at d without_exits (map (exit_gone d) es)
 
 -- d leaves its list and becomes garbage
 unfoldable pub vanished : ℕ → List Entry → List Entry
-vanished d es = changed_at d (λ e. gone_entry) (map (left_out d) es)
+vanished d es = changed_at d gone_entry (map (left_out d) es)
 
 unfoldable pub taken_away : ℕ → List Entry → List Entry
 taken_away d es = relinked es (vanished d (exits_gone d es))

@@ -1,5 +1,5 @@
 -- The first objects.
-use Rattle.std.specs.Prelude.{ℕ, List, [], ◌∷◌, codes, None}
+use Rattle.std.specs.Prelude.{ℕ, List, [], ◌∷◌, codes, Some, None}
 use Rattle.muck_model.specs.declared.dbref.Kind.TheVariants.{Room, Player}
 use Rattle.spec_live.specs.declared.object.Object.{Object}
 use Rattle.spec_live.specs.declared.saving.Saving.TheVariants.{Due}
@@ -26,5 +26,5 @@ player_one = record (plain Player (codes "One") (dbref_of 1)) {
 -- Room Zero, and One in it
 unfoldable pub first_objects : List Entry
 first_objects =
-    record { object = room_zero; contents = 1 ∷ []; exits = []; mark = None; saving = Due } ∷
-    record { object = player_one; contents = []; exits = []; mark = None; saving = Due } ∷ []
+    record { object = room_zero; contents = 1 ∷ []; exits = []; mark = None; saving = Due; stood = None } ∷
+    record { object = player_one; contents = []; exits = []; mark = None; saving = Due; stood = Some (dbref_of 0) } ∷ []

@@ -12,8 +12,8 @@ use Rattle.spec_live.specs.Setting.{set_at, with_prop, without_prop}
 use Rattle.spec_live.specs.Lives.{Live, Change, tell_player, tell_others, draw}
 use Rattle.spec_live.proofs.Keeping.{Keeps, Order, keeps_more}
 use Rattle.spec_live.proofs.Steps as field
-use Rattle.spec_live.proofs.Marking.{marked_itself, marked_both, marked_as}
-use Rattle.spec_live.proofs.Lives.{Quiet, marked_along}
+use Rattle.spec_live.proofs.Lives.{Quiet}
+use Rattle.spec_live.proofs.Tracing.{traced_itself, traced_both, traced_as, traced_along}
 use Rattle.spec_rights.specs.declared.act.Act.TheVariants.{Write}
 use Rattle.spec_rights.specs.Verdict.{verdict}
 use Rattle.spec_rights.specs.Changing.{at_number, stored, unstored}
@@ -63,8 +63,8 @@ does_law R s same store unstore one others (deed.Otell text d) = others d s.acto
 
 pub touching_order : Order TouchesNotes
 touching_order = record {
-  itself = λ w. record { objects = refl; marked = marked_itself w.objects; connections = refl; tune = refl };
-  both = λ u v w r s. record { objects = s.objects ∙ r.objects; marked = marked_both u.objects v.objects w.objects r.marked s.marked; connections = s.connections ∙ r.connections; tune = s.tune ∙ r.tune };
+  itself = λ w. record { objects = refl; traced = traced_itself w.objects; connections = refl; tune = refl };
+  both = λ u v w r s. record { objects = s.objects ∙ r.objects; traced = traced_both u.objects v.objects w.objects r.traced s.traced; connections = s.connections ∙ r.connections; tune = s.tune ∙ r.tune };
 }
 
 -- a change at one place that the view g doesn't see
@@ -93,17 +93,17 @@ noted_at f h x es = at (number_in es x)
 
 pub touching_stored : (x : Dbref) (path : List (List ℕ)) (value : PropValue) (w : Live) → TouchesNotes w (stored x path value w)
 unfolding stored
-touching_stored x path value w = record { objects = noted_at (with_prop path value) (λ e. refl) x w.objects; marked = marked_along acts refl w _ (goes_set acts (field.stored path value) x w refl); connections = refl; tune = refl }
+touching_stored x path value w = record { objects = noted_at (with_prop path value) (λ e. refl) x w.objects; traced = traced_along acts refl refl w _ (goes_set acts (field.stored path value) x w refl); connections = refl; tune = refl }
 
 pub touching_unstored : (x : Dbref) (path : List (List ℕ)) (w : Live) → TouchesNotes w (unstored x path w)
 unfolding unstored
-touching_unstored x path w = record { objects = noted_at (without_prop path) (λ e. refl) x w.objects; marked = marked_along acts refl w _ (goes_set acts (field.unstored path) x w refl); connections = refl; tune = refl }
+touching_unstored x path w = record { objects = noted_at (without_prop path) (λ e. refl) x w.objects; traced = traced_along acts refl refl w _ (goes_set acts (field.unstored path) x w refl); connections = refl; tune = refl }
 
 -- what only shows touches no more
 pub notes_quiet : (f : Change) → Quiet f → Keeps TouchesNotes f
 notes_quiet f q = keeps_more f (λ w v s. record {
   objects = ap (λ (es : List Entry). map without_props es) s.objects;
-  marked = marked_as w.objects w.objects v.objects s.objects (marked_itself w.objects);
+  traced = traced_as w.objects w.objects v.objects s.objects (traced_itself w.objects);
   connections = s.connections;
   tune = s.tune;
 }) q

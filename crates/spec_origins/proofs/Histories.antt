@@ -1,5 +1,5 @@
 -- The laws of histories.
-use Rattle.std.proofs.Common.{◌≡◌, ℕ, ℤ, false, List, [], ◌∷◌, not, sym, subst, None}
+use Rattle.std.proofs.Common.{◌≡◌, ℕ, ℤ, false, List, [], ◌∷◌, not, None}
 use Rattle.muck_model.specs.declared.event.Entry.{Entry}
 use Rattle.muck_model.specs.declared.event.Event.{Event}
 use Rattle.muck_model.specs.declared.event.Event.TheVariants.{Closed, Exec, Claim, Slice, Lost}
@@ -10,11 +10,9 @@ use Rattle.muck_queue.specs.Queues.{Queue, empty_queue, is_tied_to, claimed, rel
 use Rattle.spec_events.specs.World.{World, booted, connection}
 use Rattle.spec_events.specs.Steps.{effect, happened}
 use Rattle.spec_events.proofs.Endings.{IsTold}
-use Rattle.spec_events.proofs.Happening.{effect-is}
 use Rattle.spec_events.proofs.Numbers.{numbered_effect, rising_booted}
 use Rattle.spec_events.proofs.Sourcing.{each_filter}
 use Rattle.spec_events.proofs.Turns.{told_effect}
-use Rattle.spec_origins.specs.Builds.{EventBuilds}
 use Rattle.spec_origins.specs.Origins.{Comes, From, no_process, EventOrigins, AreTied, AreOwn, AllOrigins}
 use Rattle.spec_origins.proofs.Builds.{event_builds}
 use Rattle.spec_origins.proofs.Going.{from_itself}
@@ -63,10 +61,8 @@ all_origins w [] told tied n own = tt
 all_origins w (entry ∷ entries) told tied n own =
     let c = event_comes entry.event w entry.party told in
     let t = tied_effect entry w c tied in
-    let r = effect_own w entry n own in (
-      record { processes = subst (EventOrigins entry.event w) (sym (effect-is w entry)) c; tied = t; runs = r; builds = subst (EventBuilds entry.event w) (sym (effect-is w entry)) (event_builds entry.event w entry.party) },
-      all_origins (effect w entry) entries (told_effect w entry told) t (numbered_effect w entry n) r,
-    )
+    let r = effect_own w entry n own in
+    (record { processes = c; builds = event_builds entry.event w entry.party; tied = t; runs = r }, all_origins (effect w entry) entries (told_effect w entry told) t (numbered_effect w entry n) r)
 
 -- from any world that was booted with objects of which nothing is to be told
 pub all_origins_booted : (objects : List Kept) (tune : Tune) (moment start : ℕ) → ((n : ℕ) → mark_in objects n ≡ None) → (es : List Entry) → AllOrigins (booted objects tune moment start) es

@@ -29,7 +29,7 @@ use Rattle.muck_queue.specs.declared.process.Process.{Process}
 use Rattle.muck_queue.specs.Queues as queues
 use Rattle.muck_queue.specs.Queues.{Queue, on_process, without, told_line, reader}
 use Rattle.spec_commands.specs.declared.outcome.Outcome.{Outcome}
-use Rattle.spec_commands.specs.declared.outcome.Outcome.TheVariants.{Done, NotMine, Start as StartOutcome, Edit, Leave, Dump, Stop, Retune}
+use Rattle.spec_commands.specs.declared.outcome.Outcome.TheVariants.{Done, Said, NotMine, Start as StartOutcome, Edit, Leave, Dump, Stop, Retune}
 use Rattle.spec_commands.specs.declared.edit.EditStep.{EditStep}
 use Rattle.spec_commands.specs.declared.edit.EditStep.TheVariants.{Stay, Compile, Left}
 use Rattle.spec_commands.specs.Commands.{begins_with_sign, played}
@@ -93,6 +93,7 @@ module _ (Lost : Dbref → Type 0) (start : Queue) (d : ℕ) (player : Dbref) (w
   up_holds Leave h = h
   up_holds (Edit program) h = h
   up_holds Done h = h
+  up_holds (Said pose text) h = h
   up_holds NotMine h = h
   up_holds Dump h = h
   up_holds Stop h = h
@@ -105,6 +106,7 @@ objects_up d player Leave w = refl
 objects_up d player (Edit program) w = refl
 objects_up d player (StartOutcome program trigger line arg) w = (quietly_launched d (actor_of w.live.objects player) (record { player = player; program = program; trigger = trigger; command = line; argument = arg }) w).objects
 objects_up d player Done w = refl
+objects_up d player (Said pose text) w = refl
 objects_up d player NotMine w = refl
 objects_up d player Dump w = refl
 objects_up d player Stop w = refl

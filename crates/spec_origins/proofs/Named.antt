@@ -22,7 +22,7 @@ use Rattle.spec_rights.proofs.Licences.{keeps_asked, quiet_order}
 use Rattle.spec_rights.proofs.Lookups.{alive, seen_at}
 use Rattle.spec_rights.proofs.Shown.{quiet_tell}
 use Rattle.spec_commands.specs.declared.outcome.Outcome.{Outcome}
-use Rattle.spec_commands.specs.declared.outcome.Outcome.TheVariants.{Done, NotMine, Start, Edit, Leave}
+use Rattle.spec_commands.specs.declared.outcome.Outcome.TheVariants.{Done, Said, NotMine, Start, Edit, Leave}
 use Rattle.spec_commands.specs.declared.typed.Typed.{Typed}
 use Rattle.spec_commands.specs.declared.word.PlayWord.{PlayWord}
 use Rattle.spec_commands.specs.declared.word.PlayWord.TheVariants.{Say, Pose, Go}
@@ -58,6 +58,10 @@ names_done : (f : Change) → Naming (ended Done f)
 unfolding ended
 names_done f = record { law = λ w. tt }
 
+names_said : (pose : Bool) (text : List ℕ) (f : Change) → Naming (ended (Said pose text) f)
+unfolding ended
+names_said pose text f = record { law = λ w. tt }
+
 names_not : (f : Change) → Naming (ended NotMine f)
 unfolding ended
 names_not f = record { law = λ w. tt }
@@ -70,7 +74,7 @@ names_followed : (f : Change) (g : Play) → Naming g → Naming (followed f g)
 unfolding followed
 names_followed f g p = record { law = λ w. p.law (f w) }
 
-ruleset plainly = (names_done, names_not, names_leave, names_followed, keeps_asked, keeps_reading, keeps_either, keeps_where)
+ruleset plainly = (names_done, names_said, names_not, names_leave, names_followed, keeps_asked, keeps_reading, keeps_either, keeps_where)
 
 -- Exits: what leads anywhere is there.
 

@@ -517,4 +517,4 @@ happened_own (Lost pid) w party n h = h
 happened_own event w party n h = h
 
 pub effect_own : (w : World) (e : Entry) → IsNumbered w.queue → AreOwn w → AreOwn (effect w e)
-effect_own w e n h = effect-keeps AreOwn (λ c u there k. begun_own (by_hook u) c u k) w e (happened_own e.event w e.party n h)
+effect_own w e n h = effect-keeps AreOwn (λ c u there k. begun_own (by_hook u) c u k) (λ u k. k) w e (happened_own e.event w e.party n h)

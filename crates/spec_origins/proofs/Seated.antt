@@ -36,7 +36,7 @@ use Rattle.muck_queue.specs.declared.mode.Mode.TheVariants.{Background}
 use Rattle.muck_queue.specs.declared.process.Process.{Process}
 use Rattle.muck_queue.specs.Queues.{process, on_process, without, told_line}
 use Rattle.spec_commands.specs.declared.outcome.Outcome.{Outcome}
-use Rattle.spec_commands.specs.declared.outcome.Outcome.TheVariants.{Done, NotMine, Start as StartOutcome, Edit, Leave, Dump, Stop, Retune}
+use Rattle.spec_commands.specs.declared.outcome.Outcome.TheVariants.{Done, Said, NotMine, Start as StartOutcome, Edit, Leave, Dump, Stop, Retune}
 use Rattle.spec_commands.specs.declared.edit.EditStep.{EditStep}
 use Rattle.spec_commands.specs.declared.edit.EditStep.TheVariants.{Stay, Compile, Left}
 use Rattle.spec_commands.specs.Editing.{editor_exited, is_open, edited}
@@ -270,6 +270,7 @@ module _ (Lost : Dbref → Type 0) (n : ℕ) where
   stays_up player Leave w = stays_sits w (on_live (leave n) w) ((sits_leave n).law w.live)
   stays_up player (Edit program) w = stays_editor (Some (editor_on program w.live)) w
   stays_up player Done w = stays_sits w w (sits_order.itself w.live)
+  stays_up player (Said pose text) w = stays_sits w w (sits_order.itself w.live)
   stays_up player NotMine w = stays_sits w w (sits_order.itself w.live)
   stays_up player Dump w = stays_sits w w (sits_order.itself w.live)
   stays_up player Stop w = stays_sits w w (sits_order.itself w.live)

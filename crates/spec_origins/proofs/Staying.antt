@@ -47,7 +47,7 @@ use Rattle.muck_queue.specs.declared.process.Process.{Process}
 use Rattle.muck_queue.specs.Queues.{Queue, empty_queue, has_pid, is_tied_to, on_process, without, told_line, woken, reader, claimed, released, ended_tied}
 use Rattle.spec_processes.specs.ProcessRows.{is_process}
 use Rattle.spec_commands.specs.declared.outcome.Outcome.{Outcome}
-use Rattle.spec_commands.specs.declared.outcome.Outcome.TheVariants.{Done, NotMine, Start, Edit, Leave, Dump, Stop, Retune}
+use Rattle.spec_commands.specs.declared.outcome.Outcome.TheVariants.{Done, Said, NotMine, Start, Edit, Leave, Dump, Stop, Retune}
 use Rattle.spec_commands.specs.declared.edit.EditCommand.{EditCommand}
 use Rattle.spec_commands.specs.declared.edit.EditCommand.TheVariants.{Insert, Delete, Show, Compile as CompileLine, Quit}
 use Rattle.spec_commands.specs.declared.edit.EditStep.{EditStep}
@@ -72,10 +72,10 @@ use Rattle.spec_events.specs.Starting.{new_process, by_command, by_hook, begun, 
 use Rattle.spec_events.specs.Lines.{with_editor, next_editor, after_edit, edited_line, in_editor, editor_on, by_keeper, typed, left_by, followed_up, in_world, program_aborted, is_abort, given_line, line_for, line_done, done}
 use Rattle.spec_events.specs.Slices.{acting, Deed, does, rests, fails, lifted, row_done, process_done, deed, program_error, stands_at, broken, out, one_counted, went, after_deed, unit_done, limit_fault, within_limit, turn, world_of, seat, unit_of, Taken, run_of, last_world, slice_most, awake, sliced}
 use Rattle.spec_events.specs.Sourced.{Each, OfSource, Standing, Sourced, BuiltOf, SourcedSince, Until}
-use Rattle.spec_events.specs.Steps.{effect, happened}
+use Rattle.spec_events.specs.Steps.{effect, happened, rested}
 use Rattle.spec_events.specs.Histories.{AllLawful}
 use Rattle.spec_events.proofs.Endings.{IsTold}
-use Rattle.spec_events.proofs.Happening.{effect-keeps, effect-live}
+use Rattle.spec_events.proofs.Happening.{effect-keeps}
 use Rattle.spec_events.proofs.Quietly.{quiet_told_each}
 use Rattle.spec_events.proofs.Slicing.{run_holds}
 use Rattle.spec_events.proofs.SourcedEvents.{all_sourced_booted}
@@ -95,9 +95,9 @@ use Rattle.spec_origins.proofs.Runs.{lowest_each}
 use Rattle.spec_origins.proofs.Seated.{DeedMild, done_mild, none_own, seat_turn, launched_sits, after_sits}
 use Rattle.spec_origins.proofs.Seating.{editor_in, kept_sits}
 use Rattle.spec_origins.proofs.Seats.{sits_tell, sits_leave, plays_typed, sits_login, sits_edited}
-use Rattle.spec_origins.proofs.There.{NoneGoes, none_same, none_resaved, none_notes, FromThere, Held, held_more, trigger_as, triggers_come, Editors, editor_as, editors_sit, editors_put, none_settled, settled_held, held_settled}
+use Rattle.spec_origins.proofs.There.{NoneGoes, none_same, none_resaved, none_stilled, none_notes, FromThere, Held, held_more, trigger_as, triggers_come, Editors, editor_as, editors_sit, editors_put, none_settled, settled_held, held_settled}
 use Rattle.spec_origins.proofs.Units.{turn_holds}
-use Rattle.spec_origins.proofs.Waiting.{waits_editor, seated_as, all_seated_booted}
+use Rattle.spec_origins.proofs.Waiting.{waits_editor, all_seated_booted}
 
 -- of the objects that are there now
 abbrev Now : World → Type 0
@@ -168,6 +168,7 @@ up_held d player (Edit program) w k h = record {
   editors = editors_put w.live.objects d (Some (editor_on program w.live)) (λ s e. editor_is w.live.objects (editor_on program w.live) s e k) w.live.board.connections h.editors;
 }
 up_held d player Done w k h = h
+up_held d player (Said pose text) w k h = h
 up_held d player NotMine w k h = h
 up_held d player Dump w k h = record { triggers = h.triggers; editors = h.editors }
 up_held d player Stop w k h = record { triggers = h.triggers; editors = h.editors }
@@ -432,8 +433,12 @@ hooked_held c w k h =
     now_by w v (none_same w.live.objects v.live.objects (ap (λ (l : Live). l.objects) same))
     (record { triggers = begun_triggers w.live.objects (by_hook w) c w k h.triggers; editors = λ d s e. h.editors d s (ap (λ (l : Live). editor_in d l.board.connections) (sym same) ∙ e) })
 
-effect_held : (w : World) (e : Entry) → IsTold w.live → Seated e.event w (effect w e) → Now w → Now (effect w e)
-effect_held w e told s h = effect-keeps Now hooked_held w e (happened_held e.event w e.party told (seated_as e.event w (effect w e) (happened w e.party e.event) (sym (effect-live w e)) s) h)
+-- another event begins behind it
+rested_held : (w : World) → Now w → Now (rested w)
+rested_held w h = now_by w (rested w) (none_stilled w.live.objects) (record { triggers = h.triggers; editors = h.editors })
+
+effect_held : (w : World) (e : Entry) → IsTold w.live → Seated e.event w (happened w e.party e.event) → Now w → Now (effect w e)
+effect_held w e told s h = effect-keeps Now hooked_held rested_held w e (happened_held e.event w e.party told s h)
 
 -- Programs: what was built has a source, so that it is there.
 

@@ -15,7 +15,7 @@ use Rattle.spec_rights.specs.declared.act.Actor.{Actor}
 use Rattle.spec_rights.specs.declared.act.Act.TheVariants.{Start as StartAct}
 use Rattle.spec_rights.specs.Verdict.{is_master, verdict}
 use Rattle.spec_commands.specs.declared.outcome.Outcome.{Outcome as Line}
-use Rattle.spec_commands.specs.declared.outcome.Outcome.TheVariants.{Done, NotMine, Start, Edit, Leave, Dump, Stop, Retune}
+use Rattle.spec_commands.specs.declared.outcome.Outcome.TheVariants.{Done, Said, NotMine, Start, Edit, Leave, Dump, Stop, Retune}
 use Rattle.spec_commands.specs.declared.edit.EditStep.{EditStep}
 use Rattle.spec_commands.specs.declared.edit.EditStep.TheVariants.{Stay, Compile, Left}
 use Rattle.spec_commands.specs.Finding.{actor_of}
@@ -143,6 +143,7 @@ up_stops M d player (Edit program) w k = inl refl
 up_stops M d player (Start program trigger line arg) w k =
     inl (same_launched d (actor_of w.live.objects player) (record { player = player; program = program; trigger = trigger; command = line; argument = arg }) w)
 up_stops M d player Done w k = inl refl
+up_stops M d player (Said pose text) w k = inl refl
 up_stops M d player NotMine w k = inl refl
 up_stops M d player Dump w k = inl refl
 up_stops M d player Stop w k = inr (k refl)

@@ -13,6 +13,8 @@ use Rattle.spec_live.specs.declared.saving.Saving.{Saving}
 use Rattle.spec_live.specs.Objects.{Entry, dbref_of, nothing, same, is_garbage, object_in, object_at, mark_in}
 use Rattle.spec_live.specs.Saving.{all_saving}
 use Rattle.spec_live.specs.Connections.{Connection, has_number, changed_in, edited, edits}
+use Rattle.spec_live.specs.Stood.{stilled}
+use Rattle.spec_live.proofs.Tracing.{object_stilled}
 use Rattle.spec_live.proofs.Savings.{object_resaved}
 use Rattle.spec_rights.proofs.Lookups.{alive, seen_at, at_negative}
 use Rattle.spec_rights.proofs.Telling.{Told, never_both}
@@ -52,6 +54,9 @@ none_by es fs k d = at d.0
 
 pub none_resaved : (f : Saving → Saving) (es : List Entry) → NoneGoes es (all_saving f es)
 none_resaved f es = none_by es (all_saving f es) (λ n. ap (λ (o : Option Object). is_some (option_and_then alive o)) (object_resaved f n es))
+
+pub none_stilled : (es : List Entry) → NoneGoes es (stilled es)
+none_stilled es = none_by es (stilled es) (λ n. ap (λ (o : Option Object). is_some (option_and_then alive o)) (object_stilled es n))
 
 bare_there : (es : List Entry) (n : ℕ) → is_some (option_and_then alive (object_in (map without_props es) n)) ≡ is_some (option_and_then alive (object_in es n))
 unfolding object_in

@@ -189,4 +189,4 @@ tied_hooked c w h =
     (holds_begun no_process false (λ x. ⊥) New w.queue (by_hook w) c w (λ s n l. refl) (from_itself no_process false (λ x. ⊥) New w.queue))
 
 pub tied_effect : (e : Entry) (w : World) → EventOrigins e.event w (happened w e.party e.event) → AreTied w → AreTied (effect w e)
-tied_effect e w c h = effect-keeps AreTied (λ call u there k. tied_hooked call u k) w e (tied_happened e.event e.party w c h)
+tied_effect e w c h = effect-keeps AreTied (λ call u there k. tied_hooked call u k) (λ u k. k) w e (tied_happened e.event e.party w c h)

@@ -20,15 +20,12 @@ use Rattle.spec_events.specs.World.{World, booted, connection, askers_of, on_liv
 use Rattle.spec_events.specs.Dumping.{resaved, dump_stored, dump_failed, told_each}
 use Rattle.spec_events.specs.Histories.{AllLawful}
 use Rattle.spec_events.specs.Lines.{line_done, done}
-use Rattle.spec_events.specs.Slices.{units_of}
 use Rattle.spec_events.specs.Steps.{is_allowed, is_died, is_lawful, effect, happened}
 use Rattle.spec_events.specs.Endings.{Lapsed}
 use Rattle.spec_events.proofs.Endings.{IsTold}
-use Rattle.spec_events.proofs.Happening.{effect-live}
 use Rattle.spec_events.proofs.Passwords.{rising_effect}
 use Rattle.spec_events.proofs.Turns.{told_effect}
-use Rattle.spec_origins.specs.Origins.{LostIn}
-use Rattle.spec_origins.specs.Seats.{editor_at, SameEditor, EditorKept, Seated, AllSeated}
+use Rattle.spec_origins.specs.Seats.{editor_at, SameEditor, Seated, AllSeated}
 use Rattle.spec_origins.proofs.Seats.{Sits, sits_order, sits_one, sits_tell, sits_parted}
 use Rattle.spec_origins.proofs.Seating.{found, lines_in, editor_in, lines_sit, editor_sits, found_changed}
 use Rattle.spec_origins.proofs.Seated.{LineStays, slice_seats, line_stays}
@@ -241,21 +238,9 @@ dead_seated : (event : Event) (w : World) (party : ℕ) → is_died event ≡ tr
 dead_seated Died w party l = record { lines = λ d. refl; editors = λ d. refl }
 dead_seated event w party l = absurd cc
 
--- programs that start behind it change nothing of that
-pub seated_as : (event : Event) (w u v : World) → v.live ≡ u.live → Seated event w u → Seated event w v
-seated_as event w u v e s = record { lines = λ d. ap (λ (l : Live). lines_in d l.board.connections) e ∙ s.lines d; editors = λ d. kept event d (s.editors d) }
-  where
-    same : (d : ℕ) → editor_at d v ≡ editor_at d u
-    same d = ap (λ (l : Live). editor_in d l.board.connections) e
-
-    kept : (event : Event) (d : ℕ) → EditorKept event w u d → EditorKept event w v d
-    kept (Exec n) d k = subst (λ (l : Live). ((n == d) ≡ true) ⊎ SameEditor (λ x. Lapsed x w.live l) (editor_at d w) (editor_in d l.board.connections)) (sym e) k
-    kept (Slice pid) d k = subst (SameEditor (LostIn (units_of pid w)) (editor_at d w)) (sym (same d)) k
-    kept event d k = same d ∙ k
-
-entry_seated : (entry : Entry) (w : World) → is_lawful w entry ≡ true → IsTold w.live → IsRising w.live.board.connections → Seated entry.event w (effect w entry)
+entry_seated : (entry : Entry) (w : World) → is_lawful w entry ≡ true → IsTold w.live → IsRising w.live.board.connections → Seated entry.event w (happened w entry.party entry.event)
 unfolding is_lawful
-entry_seated entry w l told rising = seated_as entry.event w (happened w entry.party entry.event) (effect w entry) (effect-live w entry) (at w.dead l)
+entry_seated entry w l told rising = at w.dead l
   where
     at : (dead : Bool) → cond dead (is_died entry.event) (is_allowed w entry.party entry.event) ≡ true → Seated entry.event w (happened w entry.party entry.event)
     at true k = dead_seated entry.event w entry.party k

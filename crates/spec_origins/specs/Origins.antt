@@ -21,7 +21,7 @@ use Rattle.spec_events.specs.World.{World, connection}
 use Rattle.spec_events.specs.Slices.{Taken, queued_command, after_unit, units_of}
 use Rattle.spec_events.specs.Endings.{Lapsed}
 use Rattle.spec_events.specs.Sourced.{Each}
-use Rattle.spec_events.specs.Steps.{effect}
+use Rattle.spec_events.specs.Steps.{effect, happened}
 use Rattle.spec_origins.specs.Builds.{EventBuilds}
 
 abbrev pub Among : {X : Type 0} → X → List X → Type 0
@@ -148,13 +148,14 @@ AreOwn w = Each RunsOwn w.queue.processes
 
 -- Histories.
 
-pub record Origins (event : Event) (w v : World) : Type 0 where
+-- from what happened; and then u, behind what is hooked to it, is so that each process has its connection, and runs its own program
+pub record Origins (event : Event) (w v u : World) : Type 0 where
   pub processes : EventOrigins event w v
-  pub tied : AreTied v
-  pub runs : AreOwn v
   pub builds : EventBuilds event w v
+  pub tied : AreTied u
+  pub runs : AreOwn u
 
 -- it is so of each entry where it stands
 abbrev pub AllOrigins : World → List Entry → Type 0
 AllOrigins w [] = Unit {0}
-AllOrigins w (entry ∷ entries) = Origins entry.event w (effect w entry) × AllOrigins (effect w entry) entries
+AllOrigins w (entry ∷ entries) = Origins entry.event w (happened w entry.party entry.event) (effect w entry) × AllOrigins (effect w entry) entries

@@ -9,7 +9,7 @@ use Rattle.muck_model.specs.declared.event.Event.TheVariants.{Opened, Input, Clo
 use Rattle.spec_events.specs.World.{World, connection}
 use Rattle.spec_events.specs.Endings.{Lapsed}
 use Rattle.spec_events.specs.Slices.{units_of}
-use Rattle.spec_events.specs.Steps.{effect}
+use Rattle.spec_events.specs.Steps.{effect, happened}
 use Rattle.spec_origins.specs.Origins.{LostIn}
 
 -- the lines that wait on a connection, where it is there
@@ -44,7 +44,7 @@ pub record Seated (event : Event) (w v : World) : Type 0 where
   pub lines : (d : ℕ) → lines_at d v ≡ lines_behind event d (lines_at d w)
   pub editors : (d : ℕ) → EditorKept event w v d
 
--- it is so of each entry where it stands
+-- It is so of what happens by each entry where it stands; what is hooked to that changes no connection.
 abbrev pub AllSeated : World → List Entry → Type 0
 AllSeated w [] = Unit {0}
-AllSeated w (entry ∷ entries) = Seated entry.event w (effect w entry) × AllSeated (effect w entry) entries
+AllSeated w (entry ∷ entries) = Seated entry.event w (happened w entry.party entry.event) × AllSeated (effect w entry) entries

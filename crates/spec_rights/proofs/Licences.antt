@@ -14,7 +14,8 @@ use Rattle.spec_live.specs.Lives.{Live, Change, followed, reading}
 use Rattle.spec_live.proofs.Keeping.{Keeps, stays, one, join, keeps_after, keeps_more, keeps_told}
 pub use Rattle.spec_live.proofs.Lives.{tie, ties, Shows, Quiet, quiet_order, quiet_unchanged}
 use Rattle.spec_live.proofs.Lives.{Readies, readies}
-use Rattle.spec_live.proofs.Lives.{Goes, shows, fewer_along, marked_along}
+use Rattle.spec_live.proofs.Lives.{Goes, shows, fewer_along}
+use Rattle.spec_live.proofs.Tracing.{traced_along}
 use Rattle.spec_rights.specs.declared.act.Actor.{Actor}
 use Rattle.spec_rights.specs.declared.act.Act.{Act}
 use Rattle.spec_rights.specs.Verdict.{is_master, verdict}
@@ -379,7 +380,7 @@ end_proper a free w v t = record {
     vanished = λ x e. absurd (cc);
     objects = t.rows;
     no_fewer = fewer_along acts w v t.goes;
-    marked = marked_along acts refl w v t.goes;
+    traced = traced_along acts refl refl w v t.goes;
     lists = t.lists;
     connections = t.ties;
     tune = inl t.tune;
@@ -409,7 +410,7 @@ licensed_as a free w u v l r =
       vanished = q.vanished;
       objects = q.objects;
       no_fewer = q.no_fewer;
-      marked = q.marked;
+      traced = q.traced;
       lists = q.lists;
       connections = ties_both a _ _ _ l.connections (ties_same a u.board.connections v.board.connections r.ties);
       tune = open_both (λ tune. is_master a) _ _ _ l.tune (inl r.tune);
@@ -425,7 +426,7 @@ licensed_from a free w u v r l =
       vanished = q.vanished;
       objects = q.objects;
       no_fewer = q.no_fewer;
-      marked = q.marked;
+      traced = q.traced;
       lists = q.lists;
       connections = ties_both a _ _ _ (ties_same a w.board.connections u.board.connections r.ties) l.connections;
       tune = open_both (λ tune. is_master a) _ _ _ (inl r.tune) l.tune;

@@ -11,7 +11,7 @@ use Rattle.spec_live.specs.declared.object.Object.{Object}
 use Rattle.spec_live.specs.Flags.{has_flag, no_flags, builder, jump, link, wizard}
 use Rattle.spec_live.specs.Chain.{without}
 use Rattle.spec_live.specs.Objects.{Entry, dbref_of, nothing, home, same, index_of, is_exit, kind_in, list_in, object_at}
-use Rattle.spec_live.specs.Saving.{Marked}
+use Rattle.spec_live.specs.Stood.{Traced}
 use Rattle.spec_live.specs.Recycling.{wished_home}
 use Rattle.spec_live.specs.Seen.{listed_in}
 use Rattle.spec_live.specs.Connections.{Connection}
@@ -185,14 +185,15 @@ LeaversLicensed may (c ∷ cs) (d ∷ ds) = (d.number ≡ c.number) × Open (λ 
 LeaversLicensed may cs ds = ⊥
 
 -- every difference is open to the actor, or a consequence of one recycling: of what it may recycle, and what is gone;
--- no number goes away, since what is recycled stays there as garbage; and what changed is due for the next dump
+-- no number goes away, since what is recycled stays there as garbage; what changed is due for the next dump, and where players stood
+-- when the event began is kept
 pub record Licensed (a : Actor) (free : Freedom) (w v : Live) : Type 0 where
   pub gone : Option Dbref
   pub recycled : (x : Dbref) → gone ≡ Some x → may_recycle w.objects a x ≡ true
   pub vanished : (x : Dbref) → gone ≡ Some x → object_at x v.objects ≡ None
   pub objects : (n : ℕ) → Differs (record { actor = a; free = free; gone = gone; objects = w.objects }) (dbref_of n) (object_at (dbref_of n) w.objects) (object_at (dbref_of n) v.objects)
   pub no_fewer : length w.objects ≤ length v.objects
-  pub marked : Marked w.objects v.objects
+  pub traced : Traced w.objects v.objects
   pub lists : SameLists (record { actor = a; free = free; gone = gone; objects = w.objects }) w.objects v.objects
   pub connections : SameTies a w.board.connections v.board.connections
   pub tune : Open (λ tune. is_master a) w.board.tune v.board.tune

@@ -5,13 +5,14 @@ use Rattle.muck_store.specs.Forms.{object_of}
 use Rattle.spec_live.specs.declared.object.Object.{Object}
 use Rattle.spec_live.specs.declared.saving.Saving.TheVariants.{Due}
 use Rattle.spec_live.specs.Objects.{index_of, is_garbage}
+use Rattle.spec_live.specs.Stood.{standing}
 use Rattle.muck_db.specs.declared.slot.Slot.{Slot}
 
 -- the object of a record, none where it is garbage
 unfoldable pub object_kept : Stored → Option Object
 object_kept s = if is_garbage s.kind then None else Some (object_of s)
 
--- the object with its chain fields, of which nothing is to be told; it is due
+-- the object with its chain fields, of which nothing is to be told; it is due, and hasn't moved
 unfoldable pub slot_of : Stored → Slot
 slot_of s = record {
   object = object_kept s;
@@ -20,6 +21,7 @@ slot_of s = record {
   next = index_of s.next;
   mark = None;
   saving = Due;
+  stood = standing (object_of s);
 }
 
 unfoldable pub slots_of : List Stored → List Slot

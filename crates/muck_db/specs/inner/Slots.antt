@@ -51,6 +51,9 @@ mark_at slots k = option_and_then (λ s. s.mark) (slice_get slots k)
 unfoldable pub saving_at : List Slot → ℕ → Saving
 saving_at slots k = option_map_or (λ s. s.saving) (slice_get slots k) Due
 
+unfoldable pub stood_at : List Slot → ℕ → Option Dbref
+stood_at slots k = option_and_then (λ s. s.stood) (slice_get slots k)
+
 unfoldable pub place_at : List Slot → ℕ → Option ℕ
 place_at slots k = option_and_then (λ o. index_of o.place) (object_at slots k)
 
@@ -90,6 +93,7 @@ entry_of slots s = record {
   exits = walk (length slots) (next_at slots) s.first_exit;
   mark = s.mark;
   saving = s.saving;
+  stood = s.stood;
 }
 
 unfoldable pub entries_of : List Slot → List Entry
@@ -131,11 +135,14 @@ with_kept o s = record s { object = Some o; saving = Due }
 
 -- a slot that is in no list and whose lists are empty
 abbrev pub new_slot : Option Object → Option Mark → Slot
-new_slot object mark = record { object = object; first_content = None; first_exit = None; next = None; mark = mark; saving = Due }
+new_slot object mark = record { object = object; first_content = None; first_exit = None; next = None; mark = mark; saving = Due; stood = None }
 
 -- a slot of garbage of which is to be told, and of an exit of d likewise
+abbrev pub gone_slot : Option Dbref → Slot
+gone_slot stood = record (new_slot None (Some Gone)) { stood = stood }
+
 abbrev pub wiped : Slot → Slot
-wiped s = new_slot None (Some Gone)
+wiped s = gone_slot s.stood
 
 unfoldable pub exit_wiped : ℕ → Slot → Slot
 exit_wiped d s = if is_exit_of d (shown s) then wiped s else s
@@ -147,7 +154,7 @@ object_put n o slots = if n == length slots then slots ++ new_slot (Some o) None
 -- Room Zero, and One in it
 unfoldable pub first_slots : List Slot
 first_slots =
-    record { object = Some room_zero; first_content = Some 1; first_exit = None; next = None; mark = None; saving = Due } ∷ new_slot (Some player_one) None ∷ []
+    record { object = Some room_zero; first_content = Some 1; first_exit = None; next = None; mark = None; saving = Due; stood = None } ∷ record (new_slot (Some player_one) None) { stood = Some (dbref_of 0) } ∷ []
 
 -- Rules.
 
@@ -195,6 +202,7 @@ pub record IsUnlinked (d : ℕ) (old new : List Slot) : Type 0 where
   pub same_length : length new ≡ length old
   pub same_objects : (k : ℕ) → object_at new k ≡ object_at old k
   pub same_marks : (k : ℕ) → mark_at new k ≡ mark_at old k
+  pub same_stood : (k : ℕ) → stood_at new k ≡ stood_at old k
   pub due : (k : ℕ) → LeadsTo d (links_in (entries_of old) k) → saving_at new k ≡ Due
   pub same_savings : (k : ℕ) → (LeadsTo d (links_in (entries_of old) k) → ⊥) → saving_at new k ≡ saving_at old k
   pub chains : (exits : Bool) (p : ℕ) → IsChain (length new) (next_at new) (first_at exits new p) (without d (list_at exits old p))
@@ -204,6 +212,7 @@ pub record IsLinked (exits : Bool) (to d : ℕ) (old new : List Slot) : Type 0 w
   pub same_length : length new ≡ length old
   pub same_objects : (k : ℕ) → object_at new k ≡ object_at old k
   pub same_marks : (k : ℕ) → mark_at new k ≡ mark_at old k
+  pub same_stood : (k : ℕ) → stood_at new k ≡ stood_at old k
   pub due : saving_at new d ≡ Due
   pub place_due : saving_at new to ≡ Due
   pub same_savings : (k : ℕ) → (k ≡ d → ⊥) → (k ≡ to → ⊥) → saving_at new k ≡ saving_at old k

@@ -5,6 +5,9 @@ use Rattle.muck_model.specs.Decimal.{decimal_of}
 use Rattle.muck_script.specs.declared.act.Act.TheVariants.{Nothing, Open, Send, Close, Wait, Dump}
 use Rattle.muck_links.specs.Lines.{line_most, lines}
 use Rattle.muck_script.specs.Lines.{lines_of}
+use Rattle.spec_live.specs.Objects.{object_in}
+use Rattle.spec_live.specs.Stood.{stands_in, stilled}
+use Rattle.spec_live.specs.Start.{first_objects, room_zero, player_one}
 use Rattle.spec_live.specs.Output.{sent_lines, queue_most, bytes_of, lines_bytes, line_sent, lines_sent, sent, taken, lines_taken}
 use Rattle.spec_live.specs.Boards.{early_board, opened, closed, line_added, bytes_taken, told_one, leaving_one}
 use Rattle.spec_live.specs.Lives.{followed, reading, either, unchanged, tell, leave}
@@ -12,7 +15,9 @@ use Rattle.spec_events.specs.World.{starting, booted}
 use Rattle.spec_commands.specs.Replies.{goodbye}
 use Rattle.spec_commands.specs.Talk.{welcome, at_login, quit, waits, parted, gone_away}
 use Rattle.muck_queue.specs.Queues.{empty_queue, next_due, is_busy, reader, ended_tied}
-use Rattle.spec_events.specs.Lines.{done}
+use Rattle.spec_hooks.specs.Causes.{causes}
+use Rattle.spec_events.specs.Hooked.{hooked, started_all}
+use Rattle.spec_events.specs.Lines.{done, spoken}
 use Rattle.spec_events.specs.Steps.{is_lawful, effect, next_ready, next_process}
 use Rattle.muck_script.specs.Script.{act_of, script_of, script_most}
 use Rattle.muck_script.specs.Story.{next_turn, turns, served, line_story, asked_dump, later, told, transcript}
@@ -154,12 +159,12 @@ whole_row = refl
 -- a script of one connection
 quit_row : transcript (Open 1 ∷ Send 1 (codes "quit") ∷ []) [] starting
     ≡ codes "1< Use: connect NAME PASSWORD, WHO or QUIT." ++ 10 ∷ codes "1< Come back later!" ++ 10 ∷ codes "1 closed" ++ 10 ∷ []
-unfolding starting booted early_board opened closed line_added bytes_taken told_one leaving_one followed reading either unchanged tell leave goodbye welcome quit waits done parted empty_queue next_due is_busy reader ended_tied gone_away bytes_of lines_bytes line_sent lines_sent sent taken lines_taken is_lawful effect next_ready next_process next_turn at_login sent_lines queue_most turns served line_story told digits asked_dump
+unfolding starting booted early_board opened closed line_added bytes_taken told_one leaving_one followed reading either unchanged tell leave goodbye welcome quit waits done parted empty_queue next_due is_busy reader ended_tied gone_away bytes_of lines_bytes line_sent lines_sent sent taken lines_taken is_lawful effect next_ready next_process next_turn at_login sent_lines queue_most turns served line_story told digits asked_dump spoken hooked started_all causes stands_in stilled object_in first_objects room_zero player_one
 quit_row = refl
 
 -- nothing is written of a connection that the script closes, nor where there is none, nor of time that passes
 closed_row : transcript (Open 1 ∷ Close 1 ∷ Close 1 ∷ Wait 5 ∷ []) [] starting ≡ codes "1< Use: connect NAME PASSWORD, WHO or QUIT." ++ 10 ∷ []
-unfolding starting booted early_board opened closed line_added bytes_taken told_one leaving_one followed reading either unchanged tell leave goodbye welcome quit waits done parted empty_queue next_due is_busy reader ended_tied gone_away bytes_of lines_bytes line_sent lines_sent sent taken lines_taken is_lawful effect next_ready next_process next_turn at_login sent_lines queue_most turns served line_story told digits asked_dump
+unfolding starting booted early_board opened closed line_added bytes_taken told_one leaving_one followed reading either unchanged tell leave goodbye welcome quit waits done parted empty_queue next_due is_busy reader ended_tied gone_away bytes_of lines_bytes line_sent lines_sent sent taken lines_taken is_lawful effect next_ready next_process next_turn at_login sent_lines queue_most turns served line_story told digits asked_dump spoken hooked started_all causes stands_in stilled object_in first_objects room_zero player_one
 closed_row = refl
 
 -- it is so many seconds later, as far as seconds go

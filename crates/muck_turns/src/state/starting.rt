@@ -95,7 +95,7 @@ impl State {
     }
 
     // Where an object is, nothing where it isn't there.
-    fn place_of(&self, x: Dbref) -> Dbref
+    pub(crate) fn place_of(&self, x: Dbref) -> Dbref
         ensures { result ≡ place_at x self.now.live }
     {
         match self.db.get(x) {

@@ -29,7 +29,7 @@ abbrev pub program_three : ℕ → Object
 program_three owner = record player_one { kind = Program; name = codes "ed"; owner = dbref_of owner; lines = codes "old" ∷ [] }
 
 abbrev pub desk : ℕ → Live
-desk owner = record (company (1 ∷ [])) { objects = both_there ++ record { object = program_three owner; contents = []; exits = []; mark = None; saving = Done } ∷ [] }
+desk owner = record (company (1 ∷ [])) { objects = both_there ++ record { object = program_three owner; contents = []; exits = []; mark = None; saving = Done; stood = None } ∷ [] }
 
 abbrev pub opened_on : List (List ℕ) → EditState
 opened_on lines = record { program = dbref_of 3; lines = lines; inserting = None }

@@ -1,5 +1,5 @@
 -- Who hears what a player says, by examples.
-use Rattle.std.specs.Prelude.{◌≡◌, ℕ, List, [], ◌∷◌, codes, None, refl}
+use Rattle.std.specs.Prelude.{◌≡◌, ℕ, Bool, true, false, List, [], ◌∷◌, codes, None, refl}
 use Rattle.std.specs.Fmt.{digits}
 use Rattle.muck_model.specs.Decimal.{decimal_of}
 use Rattle.muck_model.specs.Numbers.{dbref_of as number_named}
@@ -16,7 +16,7 @@ use Rattle.spec_live.specs.Seen.{scenery_of, listed_in, places_of}
 use Rattle.spec_live.specs.Boards.{early_board, told_one, told_player, told_others}
 use Rattle.spec_live.specs.Lives.{Live, followed, reading, either, where_so, unchanged, tell, tell_player, tell_but, tell_others}
 use Rattle.spec_commands.specs.declared.outcome.Outcome.{Outcome}
-use Rattle.spec_commands.specs.declared.outcome.Outcome.TheVariants.{Done as Finished}
+use Rattle.spec_commands.specs.declared.outcome.Outcome.TheVariants.{Done as Finished, Said}
 use Rattle.spec_commands.specs.Replies.{cant_be_done, you_say, says, you_say_to, says_to, not_connected}
 use Rattle.spec_commands.specs.Finding.{finding, finding_player, is_so, shown_others}
 use Rattle.spec_commands.specs.Going.{ended}
@@ -27,7 +27,7 @@ use Rattle.spec_commands.specs.inner.Company.{held, seats, player_two, queues}
 use Rattle.spec_commands.specs.inner.EditRows.{one}
 
 abbrev pub holding : List ℕ → Object → Entry
-holding contents o = record { object = o; contents = contents; exits = []; mark = None; saving = Done }
+holding contents o = record { object = o; contents = contents; exits = []; mark = None; saving = Done; stood = None }
 
 -- One and Two stand in Room Zero, and Three in Den `#3`; they are connected in this order, and Four, who is with Three, isn't
 abbrev town : Live
@@ -46,16 +46,20 @@ seen line = let after = play_line 1 one line town in (queues after.0.board.conne
 abbrev see : List (List ℕ) → List (List ℕ) → List (List ℕ) → List (List (List ℕ)) × Outcome
 see first second third = (first ∷ second ∷ third ∷ [], Finished)
 
+-- the same of one that is said or posed, which the outcome gives
+abbrev hear : Bool → List ℕ → List (List ℕ) → List (List ℕ) → List (List (List ℕ)) × Outcome
+hear pose text first second = (first ∷ second ∷ [] ∷ [], Said pose text)
+
 abbrev line : List ℕ → List (List ℕ)
 line text = text ∷ []
 
 unfoldable pub TalkRows : Type 0
 TalkRows =
     -- what is said and posed reaches those in the place
-    (seen (codes "say hi") ≡ see (line (codes "You say, \"hi\"")) (line (codes "One says, \"hi\"")) [])
-    × (seen (codes "\"hi") ≡ see (line (codes "You say, \"hi\"")) (line (codes "One says, \"hi\"")) [])
-    × (seen (codes "pose waves") ≡ see (line (codes "One waves")) (line (codes "One waves")) [])
-    × (seen (codes ":'s gone") ≡ see (line (codes "One's gone")) (line (codes "One's gone")) [])
+    (seen (codes "say hi") ≡ hear false (codes "hi") (line (codes "You say, \"hi\"")) (line (codes "One says, \"hi\"")))
+    × (seen (codes "\"hi") ≡ hear false (codes "hi") (line (codes "You say, \"hi\"")) (line (codes "One says, \"hi\"")))
+    × (seen (codes "pose waves") ≡ hear true (codes "waves") (line (codes "One waves")) (line (codes "One waves")))
+    × (seen (codes ":'s gone") ≡ hear true (codes "'s gone") (line (codes "One's gone")) (line (codes "One's gone")))
     -- a page reaches its player alone, wherever that one is
     × (seen (codes "page three=hi") ≡ see (line (codes "You page, \"hi\" to Three.")) [] (line (codes "One pages, \"hi\"")))
     × (seen (codes "page Two=hi") ≡ see (line (codes "You page, \"hi\" to Two.")) (line (codes "One pages, \"hi\"")) [])

@@ -43,7 +43,7 @@ use Rattle.spec_commands.specs.Commands.{played}
 use Rattle.spec_commands.specs.inner.Company.{held, seats, player_two, queues}
 
 abbrev holding : List ℕ → List ℕ → Object → Entry
-holding contents exits o = record { object = o; contents = contents; exits = exits; mark = None; saving = Saved }
+holding contents exits o = record { object = o; contents = contents; exits = exits; mark = None; saving = Saved; stood = None }
 
 -- One and Two stand in Room Zero, from which exit `#5` leads to Den `#3`; there is Three, and Four is in Attic `#6`
 abbrev square : Live

@@ -32,10 +32,10 @@ acting level player = record { level = level; user = dbref_of player; player = d
 -- One and Two, and a ball `#3` of One's that nobody else sees
 abbrev dim : Live
 dim = held (
-    record { object = room_zero; contents = 3 ∷ 2 ∷ 1 ∷ []; exits = []; mark = None; saving = Done } ∷
-    record { object = player_one; contents = []; exits = []; mark = None; saving = Done } ∷
-    record { object = record player_one { name = codes "Two"; owner = dbref_of 2; flags = record { 0 = 0 } }; contents = []; exits = []; mark = None; saving = Done } ∷
-    record { object = record player_one { kind = Thing; name = codes "ball"; flags = record { 0 = dark } }; contents = []; exits = []; mark = None; saving = Done } ∷ []) []
+    record { object = room_zero; contents = 3 ∷ 2 ∷ 1 ∷ []; exits = []; mark = None; saving = Done; stood = None } ∷
+    record { object = player_one; contents = []; exits = []; mark = None; saving = Done; stood = None } ∷
+    record { object = record player_one { name = codes "Two"; owner = dbref_of 2; flags = record { 0 = 0 } }; contents = []; exits = []; mark = None; saving = Done; stood = None } ∷
+    record { object = record player_one { kind = Thing; name = codes "ball"; flags = record { 0 = dark } }; contents = []; exits = []; mark = None; saving = Done; stood = None } ∷ []) []
 
 -- what is sent where a formula of Two's does this
 abbrev heard_of : Deed → List (List (List ℕ))

@@ -20,7 +20,7 @@ abbrev pub shut : Object → Object
 shut o = with_prop (codes "_" ∷ codes "lok" ∷ []) (Number (pos 3)) o
 
 abbrev pub holding : List ℕ → Object → Entry
-holding contents o = record { object = o; contents = contents; exits = []; mark = None; saving = Done }
+holding contents o = record { object = o; contents = contents; exits = []; mark = None; saving = Done; stood = None }
 
 -- Two `#2` is in Room Zero, has B and level 2, and carries ball `#6` and program `#8`, with L. Three `#3` has neither flag nor
 -- level; he is in Den `#4`, with J, and the cup `#11` of Two with him. Hall `#5` has L, and lamp `#7`, in Room Zero, C. His program

@@ -5,11 +5,16 @@ use Rattle.muck_model.specs.declared.event.Event.{Event}
 use Rattle.muck_model.specs.declared.event.Event.TheVariants.{Opened, Input, Closed, Take, Moment, Halt, Idle}
 use Rattle.spec_live.specs.Output.{lines_bytes, bytes_of, sent_lines, queue_most, line_sent, lines_sent, taken, lines_taken}
 use Rattle.spec_live.specs.Output.{sent as sent_text}
+use Rattle.spec_live.specs.Objects.{object_in}
+use Rattle.spec_live.specs.Stood.{stands_in, stilled}
+use Rattle.spec_live.specs.Start.{first_objects, room_zero, player_one}
 use Rattle.spec_live.specs.Boards.{first_tune, early_board, opened, closed, line_added, bytes_taken}
 use Rattle.spec_live.specs.Lives.{followed, reading, unchanged}
 use Rattle.spec_commands.specs.Talk.{welcome, parted, gone_away}
 use Rattle.muck_queue.specs.Queues.{ended_tied}
+use Rattle.spec_hooks.specs.Causes.{causes}
 use Rattle.spec_events.specs.World.{booted, starting}
+use Rattle.spec_events.specs.Hooked.{hooked, started_all}
 use Rattle.spec_events.specs.Steps.{effect}
 use Rattle.spec_events.specs.Histories.{by_porter}
 use Rattle.spec_talks.specs.Parties.{own_entries, worlds_at, is_halt}
@@ -52,5 +57,5 @@ WorkedRows =
     × (map (λ w. w.moment) (worlds_at is_halt starting among) ≡ 1 ∷ [])
 
 pub worked_rows : WorkedRows
-unfolding WorkedRows talks lines_bytes bytes_of sent_lines queue_most line_sent lines_sent taken lines_taken sent_text first_tune early_board opened closed line_added bytes_taken followed reading unchanged welcome parted gone_away ended_tied booted starting effect
+unfolding WorkedRows talks lines_bytes bytes_of sent_lines queue_most line_sent lines_sent taken lines_taken sent_text first_tune early_board opened closed line_added bytes_taken followed reading unchanged welcome parted gone_away ended_tied booted starting effect hooked started_all causes stands_in stilled object_in first_objects room_zero player_one
 worked_rows = (refl, refl, refl, refl, refl, refl, refl, refl, refl, refl, refl, refl)

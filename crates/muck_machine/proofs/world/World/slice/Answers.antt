@@ -2,12 +2,11 @@ use Rattle.std.proofs.Common.{◌≡◌, refl, subst, sym, ◌∙◌, ap, true, 
 use Rattle.std.proofs.lemmas.Bool.{cond-true, cond-false}
 use Rattle.muck_model.specs.declared.event.Event.TheVariants.{Slice, Lost}
 use Rattle.spec_events.specs.Steps.{is_lawful, is_there}
-use Rattle.spec_events.specs.Histories.{now}
-use Rattle.spec_events.specs.Licences.{EventLicensed}
+use Rattle.spec_events.specs.Histories.{now, EntryLicensed}
 use Rattle.spec_events.proofs.Claims.{slice_lawful, lost_lawful}
 use Rattle.muck_turns.specs.contracts.state.State as state
 use Rattle.muck_machine.specs.inner.Keeping.{history}
-use Rattle.muck_machine.proofs.Keepings.{keeps_entered, keeps_concluded}
+use Rattle.muck_machine.proofs.Keepings.{keeps_entered, keeps_concluded, told_seen, still_seen}
 use Rattle.muck_machine.proofs.Taken.{lost_so}
 use Rattle.muck_machine.proofs.Licences.{told_licensed}
 use Rattle.muck_machine.proofs.world.World.slice.Goals as goal
@@ -25,6 +24,12 @@ returns-then-not-has_process-clause-ran c =
     let back : to_z w32 (of_z w32 c.args.pid) ≡ c.args.pid = search rules in
     let there : is_there c.args.pid (now c.args.self.now) ≡ false = ap (λ n. is_there n (now c.args.self.now)) (sym back) ∙ sym (c.has_process.ensures c.requires.alive) ∙ c.if-not-has_process.true in
     sym (cond-false _ _ _ there)
+
+pub slice-done-requires-clause-still : goal.slice-done-requires-clause-still
+slice-done-requires-clause-still c = still_seen c.self.inside.past _ _ c.self.invariant c.self.view_is c.requires.alive
+
+pub slice-done-requires-clause-told : goal.slice-done-requires-clause-told
+slice-done-requires-clause-told c = told_seen c.self.inside.past _ _ c.self.invariant c.self.view_is c.requires.alive
 
 pub invariant_of-self-2 : goal.invariant_of-self-2
 invariant_of-self-2 c =
@@ -52,8 +57,8 @@ returns-then-not-has_process-clause-licensed c = told_licensed c.self.inside.pas
 pub returns-clause-licensed : goal.returns-clause-licensed
 returns-clause-licensed c =
     let back : to_z w32 (of_z w32 c.args.pid) ≡ c.args.pid = search rules in
-    subst (λ pid. EventLicensed (Slice pid) (now c.args.self.now) (now (history c.conclude.new.self))) back
+    subst (λ pid. EntryLicensed (record { party = c.args.party; event = Slice pid }) (now c.args.self.now) (now (history c.conclude.new.self))) back
     (told_licensed c.self.inside.past c.conclude.new.self _ _ _ c.self.invariant c.self.view_is c.in_ok-conclude.ensures.past)
 
 pub returns-clause-whole : goal.returns-clause-whole
-returns-clause-whole c = λ ran. (returns-clause-licensed c).whole
+returns-clause-whole c = λ ran. (returns-clause-licensed c).0.whole

@@ -3,15 +3,20 @@ use Rattle.std.proofs.lemmas.Bool.{cond-true}
 use Rattle.muck_model.specs.declared.event.Event.TheVariants.{Slice}
 use Rattle.muf_debug.specs.Watching.{SeesAll}
 use Rattle.spec_events.specs.Steps.{is_lawful, is_there}
-use Rattle.spec_events.specs.Histories.{now}
-use Rattle.spec_events.specs.Licences.{EventLicensed}
+use Rattle.spec_events.specs.Histories.{now, EntryLicensed}
 use Rattle.spec_events.proofs.Claims.{slice_lawful}
 use Rattle.spec_views.specs.Views.{views_of}
 use Rattle.muck_machine.specs.inner.Keeping.{history}
-use Rattle.muck_machine.proofs.Keepings.{keeps_concluded}
+use Rattle.muck_machine.proofs.Keepings.{keeps_concluded, told_seen, still_seen}
 use Rattle.muck_machine.proofs.Licences.{told_licensed}
 use Rattle.muck_machine.proofs.Seeing.{nothing_seen, whatever, seen_now}
 use Rattle.muck_machine.proofs.world.World.slice_seen.Goals as goal
+
+pub slice_seen-done-requires-clause-still : goal.slice_seen-done-requires-clause-still
+slice_seen-done-requires-clause-still g c = still_seen c.self.inside.past _ _ c.self.invariant c.self.view_is c.requires.alive
+
+pub slice_seen-done-requires-clause-told : goal.slice_seen-done-requires-clause-told
+slice_seen-done-requires-clause-told g c = told_seen c.self.inside.past _ _ c.self.invariant c.self.view_is c.requires.alive
 
 pub invariant_of-self : goal.invariant_of-self
 invariant_of-self g c =
@@ -36,11 +41,11 @@ returns-clause-ran g c =
 pub returns-clause-licensed : goal.returns-clause-licensed
 returns-clause-licensed g c =
     let back : to_z w32 (of_z w32 c.args.pid) ≡ c.args.pid = search rules in
-    subst (λ pid. EventLicensed (Slice pid) (now c.args.self.now) (now (history c.conclude.new.self))) back
+    subst (λ pid. EntryLicensed (record { party = c.args.party; event = Slice pid }) (now c.args.self.now) (now (history c.conclude.new.self))) back
     (told_licensed c.self.inside.past c.conclude.new.self _ _ _ c.self.invariant c.self.view_is c.in_ok-conclude.ensures.past)
 
 pub returns-clause-whole : goal.returns-clause-whole
-returns-clause-whole g c = λ ran. (returns-clause-licensed g c).whole
+returns-clause-whole g c = λ ran. (returns-clause-licensed g c).0.whole
 
 pub returns-then-not-has_process-clause-seen : goal.returns-then-not-has_process-clause-seen
 returns-then-not-has_process-clause-seen g c =

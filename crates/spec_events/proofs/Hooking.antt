@@ -1,15 +1,15 @@
 -- What hooks start, and that they do nothing else.
 use Rattle.std.proofs.Common.{◌≡◌, ◌⊎◌, ℕ, ℤ, pos, ◌+ℤ◌, Bool, true, false, cond, List, [], ◌∷◌, ◌++◌, refl, sym, ◌∙◌, ap, arith, append_assoc, append-nil, Option, Some, None, inl, inr}
 use Rattle.std.specs.Prelude.{is_some, Result, Ok, Err}
-use Rattle.std.specs.List.{filter_map, flat_map}
+use Rattle.std.specs.List.{filter_map, flat_map, cons_option}
 use Rattle.std.specs.Option.{option_map_or, option_and_then}
+use Rattle.std.proofs.lemmas.Bool.{cond_both}
 use Rattle.std.proofs.lemmas.Int.{ints}
 use Rattle.muck_model.specs.declared.dbref.Dbref.{Dbref}
 use Rattle.spec_live.specs.declared.object.Object.{Object}
 use Rattle.spec_live.specs.Objects.{Entry, object_at}
 use Rattle.spec_live.specs.Lives.{Live}
 use Rattle.muf_model.specs.declared.fault.MufFault.{MufFault}
-use Rattle.muf_model.specs.declared.fault.MufFault.TheVariants.{ProcessLimit}
 use Rattle.muf_model.specs.Tree.{Tree}
 use Rattle.muf_model.specs.Source.{Source}
 use Rattle.muck_library.specs.Library.{form_at, formed}
@@ -27,13 +27,36 @@ use Rattle.spec_hooks.specs.declared.cause.Cause.{Cause}
 use Rattle.spec_hooks.specs.declared.cause.Fire.{Fire}
 use Rattle.spec_hooks.specs.Causes.{causes}
 use Rattle.spec_hooks.specs.Firing.{directory, argument, values_in, named_program, may_fire, fire_by, fired, fired_by, carriers, firing}
-use Rattle.spec_hooks.specs.Hooked.{hook_command, call_of, calls_of, and_then, started_all, hooked, IsHooked, OnlyStarts}
-use Rattle.spec_hooks.proofs.Lists.{each_flat, each_map, each_found}
+use Rattle.spec_events.specs.Hooked.{hook_command, call_of, calls_of, is_limit, and_then, started_all, hooked}
+use Rattle.spec_events.specs.OnlyStarts.{IsHooked, OnlyStarts}
+
+-- What is so of each item.
+
+module _ {X : Type 0} (P : X → Type 0) where
+  pub each_both : (xs ys : List X) → Each P xs → Each P ys → Each P (xs ++ ys)
+  each_both [] ys h k = k
+  each_both (x ∷ xs) ys h k = (h.0, each_both xs ys h.1 k)
+
+  pub each_flat : {A : Type 0} (f : A → List X) (l : List A) → ((a : A) → Each P (f a)) → Each P (flat_map f l)
+  each_flat f [] h = tt
+  each_flat f (a ∷ l) h = each_both (f a) (flat_map f l) (h a) (each_flat f l h)
+
+  pub each_map : {A : Type 0} (f : A → X) (l : List A) → Each (λ a. P (f a)) l → Each P (map f l)
+  each_map f [] h = tt
+  each_map f (a ∷ l) h = (h.0, each_map f l h.1)
+
+  pub each_found : {A : Type 0} (f : A → Option X) (l : List A) → ((a : A) (x : X) → f a ≡ Some x → P x) → Each P (filter_map f l)
+  each_found f [] h = tt
+  each_found {A} f (a ∷ l) h = by (f a) refl (each_found f l h)
+    where
+      by : (o : Option X) → f a ≡ o → Each P (filter_map f l) → Each P (cons_option o (filter_map f l))
+      by None e k = k
+      by (Some x) e k = (h a x e, k)
 
 -- What starts is started by what is there.
 
 -- as a hook calls, where these objects are there
-abbrev IsCall : List Entry → Call → Type 0
+abbrev pub IsCall : List Entry → Call → Type 0
 IsCall es c = (is_some (object_at c.trigger es) ≡ true) × (c.command ≡ hook_command)
 
 module _ (es : List Entry) (cause : Cause) where
@@ -59,7 +82,7 @@ module _ (es : List Entry) (cause : Cause) where
       at None e = tt
       at (Some x) e = each_found IsThere (fired es cause carrier) (values_in (directory cause) x.props) (λ value f k. named_there carrier (named_program value) f (ap is_some e) k)
 
-  calls_there : Each (IsCall es) (calls_of es cause)
+  pub calls_there : Each (IsCall es) (calls_of es cause)
   unfolding firing
   calls_there = each_map (IsCall es) (call_of cause) (firing es cause) (with_command (firing es cause) (each_flat IsThere (fired_by es cause) (carriers es cause) fired_there))
     where
@@ -70,10 +93,10 @@ module _ (es : List Entry) (cause : Cause) where
 -- What stays so where one is started is so behind all.
 module _ (es : List Entry) (P : World → Type 0) (one : (c : Call) (w : World) → w.live.objects ≡ es → IsCall es c → P w → P (begun (by_hook w) c w).0) where
   stepped : (r : World × Result ℤ MufFault) (more : World → World) → P r.0 → (P r.0 → P (more r.0)) → P (and_then r more)
-  stepped (w, Err ProcessLimit) more p k = p
-  stepped (w, r) more p k = k p
+  stepped (w, Ok pid) more p k = k p
+  stepped (w, Err fault) more p k = cond_both (is_limit fault) w (more w) P (λ e. p) (λ e. k p)
 
-  all_keep : (cs : List Call) → Each (IsCall es) cs → (w : World) → w.live.objects ≡ es → P w → P (started_all cs w)
+  pub all_keep : (cs : List Call) → Each (IsCall es) cs → (w : World) → w.live.objects ≡ es → P w → P (started_all cs w)
   unfolding started_all
   all_keep [] h w at p = p
   all_keep (c ∷ cs) h w at p =
@@ -83,7 +106,7 @@ module _ (es : List Entry) (P : World → Type 0) (one : (c : Call) (w : World) 
 -- Nothing else is done.
 
 module _ (v : World) where
-  none_starts : OnlyStarts v v
+  pub none_starts : OnlyStarts v v
   none_starts = record {
     live = refl;
     new = [];

@@ -1,0 +1,68 @@
+-- What the properties below a directory fire, and what those fire that aren't players.
+use Rattle.std.proofs.Common.{◌≡◌, ℕ, ◌+◌, zero, suc, List, [], ◌∷◌, ◌++◌, map, drop, length, refl, sym, ◌∙◌, ap, append_assoc, append-nil, Bool, true, false, cond, eqb, not, ◌&&◌, Option, Some, None}
+use Rattle.std.specs.Prelude.{MatchOption}
+use Rattle.std.specs.List.{filter, filter_map, flat_map, cons_option}
+use Rattle.std.specs.FinMap.{entries}
+use Rattle.muck_model.specs.declared.dbref.Dbref.{Dbref}
+use Rattle.muck_prop.specs.declared.value.PropValue.{PropValue}
+use Rattle.muck_prop.specs.Order.{is_below}
+use Rattle.muck_prop.specs.Store.{PropMap, behind, listed_below}
+use Rattle.spec_live.specs.Objects.{Entry}
+use Rattle.spec_live.specs.Seen.{places_of}
+use Rattle.spec_rights.specs.Levels.{is_player_at}
+use Rattle.spec_hooks.specs.declared.cause.Cause.{Cause}
+use Rattle.spec_hooks.specs.declared.cause.Fire.{Fire}
+use Rattle.spec_hooks.specs.Firing.{values_in, fired, fired_by}
+use Rattle.muck_hook.specs.Firing.{fired_listed, upward_from, fired_unplayed}
+
+-- as much behind a directory as it is longer
+one_longer : (n : ℕ) (xs : List (List ℕ)) → eqb (length (drop n xs)) 1 ≡ eqb (length xs) (n + 1)
+one_longer zero xs = refl
+one_longer (suc n) [] = refl
+one_longer (suc n) (x ∷ xs) = one_longer n xs
+
+joined : {X : Type 0} (o : Option X) (xs : List X) → cons_option o [] ++ xs ≡ cons_option o xs
+joined None xs = refl
+joined (Some x) xs = refl
+
+-- the value of what stands directly in a directory
+abbrev direct : List (List ℕ) → List (List ℕ) × PropValue → Option PropValue
+direct dir p = cond (is_below dir p.0 && eqb (length p.0) (length dir + 1)) (Some p.1) None
+
+pub fired_below : (es : List Entry) (cause : Cause) (carrier : Dbref) (dir : List (List ℕ)) (m : PropMap) →
+    flat_map (fired_listed es cause carrier) (listed_below dir m) ≡ filter_map (fired es cause carrier) (values_in dir m)
+unfolding listed_below
+fired_below es cause carrier dir m = by_entries (entries m)
+  where
+    step : (p : List (List ℕ) × PropValue) (b c : Bool) (ps : List (List (List ℕ) × PropValue)) (vs : List PropValue) → eqb (length (drop (length dir) p.0)) 1 ≡ c →
+        flat_map (fired_listed es cause carrier) (map (behind (length dir)) ps) ≡ filter_map (fired es cause carrier) vs →
+        flat_map (fired_listed es cause carrier) (map (behind (length dir)) (cond b (p ∷ ps) ps)) ≡ filter_map (fired es cause carrier) (cons_option (cond (b && c) (Some p.1) None) vs)
+    step p false c ps vs e rest = rest
+    step p true true ps vs e rest =
+        ap (λ x. cond x (cons_option (fired es cause carrier p.1) []) [] ++ flat_map (fired_listed es cause carrier) (map (behind (length dir)) ps)) e
+        ∙ joined (fired es cause carrier p.1) (flat_map (fired_listed es cause carrier) (map (behind (length dir)) ps)) ∙ ap (λ fs. cons_option (fired es cause carrier p.1) fs) rest
+    step p true false ps vs e rest =
+        ap (λ x. cond x (cons_option (fired es cause carrier p.1) []) [] ++ flat_map (fired_listed es cause carrier) (map (behind (length dir)) ps)) e ∙ rest
+
+    by_entries : (ps : List (List (List ℕ) × PropValue)) → flat_map (fired_listed es cause carrier) (map (behind (length dir)) (filter (λ p. is_below dir p.0) ps)) ≡ filter_map (fired es cause carrier) (filter_map (direct dir) ps)
+    by_entries [] = refl
+    by_entries (p ∷ ps) = step p (is_below dir p.0) (eqb (length p.0) (length dir + 1)) (filter (λ q. is_below dir q.0) ps) (filter_map (direct dir) ps) (one_longer (length dir) p.0) (by_entries ps)
+
+-- those that aren't players, one by one
+pub fired_others : (es : List Entry) (cause : Cause) (ds : List Dbref) → flat_map (fired_unplayed es cause) ds ≡ flat_map (fired_by es cause) (filter (λ d. not (is_player_at es d)) ds)
+fired_others es cause [] = refl
+fired_others es cause (d ∷ ds) = by (is_player_at es d) (fired_others es cause ds)
+  where
+    by : (b : Bool) → flat_map (fired_unplayed es cause) ds ≡ flat_map (fired_by es cause) (filter (λ x. not (is_player_at es x)) ds) →
+        cond b [] (fired_by es cause d) ++ flat_map (fired_unplayed es cause) ds ≡ flat_map (fired_by es cause) (cond (not b) (d ∷ filter (λ x. not (is_player_at es x)) ds) (filter (λ x. not (is_player_at es x)) ds))
+    by true rest = rest
+    by false rest = ap (λ fs. fired_by es cause d ++ fs) rest
+
+-- one place more upward
+pub upward_more : (es : List Entry) (cause : Cause) (at : Dbref) (next : Option Dbref) (fs gs : List Fire) → MatchOption next (places_of es at ≡ []) (λ up. places_of es at ≡ up ∷ places_of es up) → gs ≡ fs ++ fired_by es cause at →
+    gs ++ flat_map (fired_by es cause) (upward_from es next) ≡ fs ++ flat_map (fired_by es cause) (at ∷ places_of es at)
+upward_more es cause at None fs gs e is =
+    append-nil gs ∙ is ∙ ap (λ hs. fs ++ hs) (sym (append-nil (fired_by es cause at)) ∙ ap (λ ds. fired_by es cause at ++ flat_map (fired_by es cause) ds) (sym e))
+upward_more es cause at (Some up) fs gs e is =
+    ap (λ hs. hs ++ flat_map (fired_by es cause) (up ∷ places_of es up)) is ∙ append_assoc fs (fired_by es cause at) (flat_map (fired_by es cause) (up ∷ places_of es up))
+    ∙ ap (λ ds. fs ++ (fired_by es cause at ++ flat_map (fired_by es cause) ds)) (sym e)

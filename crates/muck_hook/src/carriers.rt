@@ -1,0 +1,102 @@
+// The objects that a cause meets: a place or a player and its places upward, or a place and what is in it.
+ghost use Rattle.std.specs.Prelude.{◌≡◌, ◌++◌, ◌∷◌, [], false, not, MatchOption, OnOk};
+ghost use Rattle.std.specs.List.{filter, flat_map};
+ghost use Rattle.spec_live.specs.Seen.{listed_in, places_of};
+ghost use Rattle.spec_rights.specs.Levels.{is_player_at};
+ghost use Rattle.spec_hooks.specs.Firing.{directory, fired_by};
+ghost use Rattle.muck_hook.specs.Firing.{fired_unplayed};
+
+use crate::fires::push_fires;
+use muck_db::Db;
+use muck_match::Scene;
+use muck_model::{Dbref, NoMemory};
+use muck_perm::is_player_at;
+use muck_prop::Path;
+use spec_hooks::{Cause, Fire};
+use std::alloc::Global;
+
+// The next of the places upward.
+#[tactic(auto, unfolding(spec_live::specs::Seen::scenery_of, muck_match::specs::Scenery::upward, muck_match::specs::Scenery::is_there))]
+fn place_above(db: &Db, object: Dbref) -> Option<Dbref>
+    ensures { MatchOption result (places_of db.now object ≡ []) (λ up. places_of db.now object ≡ up ∷ places_of db.now up) }
+{
+    let place = db.place(object)?;
+    if db.kind(place).is_some() {
+        return Some(place);
+    }
+    None
+}
+
+// By an object and the places upward from it.
+#[tactic(auto, using(crate::proofs::Listed::upward_more))]
+pub fn upward(
+    alloc: Global,
+    db: &Db,
+    cause: &Cause,
+    dir: &Path,
+    object: Dbref,
+    fires: &mut Vec<Fire>,
+) -> Result<(), NoMemory>
+    requires { dir.now ≡ directory cause.now }
+    ensures { OnOk result (fires.new.items ≡ fires.old.items ++ flat_map (fired_by db.now cause.now) (object ∷ places_of db.now object)) }
+{
+    let mut next = Some(object);
+    while let Some(at) = next {
+        push_fires(alloc, db, cause, dir, at, fires)?;
+        next = place_above(db, at);
+    }
+    Ok(())
+}
+
+// By one object, unless it is a player.
+fn push_other(
+    alloc: Global,
+    db: &Db,
+    cause: &Cause,
+    dir: &Path,
+    object: Dbref,
+    fires: &mut Vec<Fire>,
+) -> Result<(), NoMemory>
+    requires { dir.now ≡ directory cause.now }
+    ensures { OnOk result (fires.new.items ≡ fires.old.items ++ fired_unplayed db.now cause.now object) }
+{
+    if is_player_at(db, object) {
+        return Ok(());
+    }
+    push_fires(alloc, db, cause, dir, object, fires)
+}
+
+fn push_others(
+    alloc: Global,
+    db: &Db,
+    cause: &Cause,
+    dir: &Path,
+    things: &[Dbref],
+    fires: &mut Vec<Fire>,
+) -> Result<(), NoMemory>
+    requires { dir.now ≡ directory cause.now }
+    ensures { OnOk result (fires.new.items ≡ fires.old.items ++ flat_map (fired_unplayed db.now cause.now) things.now) }
+{
+    for object in things {
+        push_other(alloc, db, cause, dir, *object, fires)?;
+    }
+    Ok(())
+}
+
+// By a place and by what is in it but players.
+#[tactic(auto, using(crate::proofs::Listed::fired_others))]
+pub fn around(
+    alloc: Global,
+    db: &Db,
+    cause: &Cause,
+    dir: &Path,
+    place: Dbref,
+    fires: &mut Vec<Fire>,
+) -> Result<(), NoMemory>
+    requires { dir.now ≡ directory cause.now }
+    ensures { OnOk result (fires.new.items ≡ fires.old.items ++ flat_map (fired_by db.now cause.now) (place ∷ filter (λ d. not (is_player_at db.now d)) (listed_in false place db.now))) }
+{
+    let things: Vec<Dbref> = db.contents(place).collect(alloc)?;
+    push_fires(alloc, db, cause, dir, place, fires)?;
+    push_others(alloc, db, cause, dir, &things, fires)
+}
