@@ -14,7 +14,7 @@ use cmd_common::{Write, message_path, try_write};
 use muck_model::{Dbref, Line, NoMemory};
 use muck_perm::Guard;
 use muck_prop::Path;
-use spec_commands::Message;
+use spec_live::Message;
 
 /// Keeps a message or a lock of an object, where neither a rule nor the world denies it; an empty text clears it.
 pub fn keep(

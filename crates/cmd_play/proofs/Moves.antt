@@ -14,7 +14,7 @@ use Rattle.spec_rights.specs.Licence.{at_hand, at_hand_kind}
 use Rattle.spec_rights.proofs.Licences.{Quiet}
 use Rattle.spec_commands.specs.Finding.{is_so, shown_others}
 use Rattle.spec_commands.specs.declared.typed.Typed.{Typed}
-use Rattle.spec_commands.specs.declared.word.Message.{Message}
+use Rattle.spec_live.specs.declared.message.Message.{Message}
 use Rattle.spec_commands.specs.Going.{may_move, is_carried, both_shown}
 use Rattle.spec_commands.proofs.Showing.{quiet_shown_others}
 use Rattle.std.specs.Prelude.{map}

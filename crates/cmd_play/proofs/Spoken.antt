@@ -5,7 +5,7 @@ use Rattle.muck_model.specs.declared.memory.NoMemory.{NoMemory}
 use Rattle.spec_live.specs.Lives.{Change}
 use Rattle.spec_rights.specs.declared.act.Actor.{Actor}
 use Rattle.spec_commands.specs.declared.typed.Typed.{Typed}
-use Rattle.spec_commands.specs.declared.word.Message.{Message}
+use Rattle.spec_live.specs.declared.message.Message.{Message}
 use Rattle.std.specs.Prelude.{IfOk}
 use Rattle.std.proofs.Common.{◌≡◌, ap}
 use Rattle.spec_mpi.specs.Messages.{spoken as said_of}

@@ -20,7 +20,8 @@ use muck_match::{ExitHit, HOME, NOTHING, exit_for};
 use muck_model::{Dbref, Line, NoMemory};
 use muck_perm::{Guard, Pass, verdict};
 use muck_queue::Queue;
-use spec_commands::{Message, Outcome, Typed};
+use spec_commands::{Outcome, Typed};
+use spec_live::Message;
 use spec_rights::Act;
 
 // The home of an object, `#-1` where it isn't there.

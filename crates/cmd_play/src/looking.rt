@@ -15,8 +15,8 @@ use crate::typed::word_typed;
 use cmd_common::{list, name_and, place_at, show_name};
 use muck_model::{Dbref, Kind, NoMemory};
 use muck_perm::{Guard, command_level, controls_as};
-use spec_commands::{Message, Typed};
-use spec_live::{DARK, has_flag};
+use spec_commands::Typed;
+use spec_live::{DARK, Message, has_flag};
 
 // The connection sees a head and the names of these objects, where there are any.
 #[tactic(auto, unfolding(spec_live::specs::Lives::followed, spec_live::specs::Lives::unchanged, spec_commands::specs::Finding::listed_under))]

@@ -11,22 +11,15 @@ use crate::texts::joined;
 use cmd_common::{message_path, show_others};
 use muck_model::{Dbref, Line, NoMemory};
 use muck_perm::Guard;
-use spec_commands::{Message, Typed};
+use spec_commands::Typed;
+use spec_live::Message;
 
 // How a message is called where it is spoken.
 fn how_of(message: Message) -> &'static [u8]
     ensures how { result.now ≡ message_how message }
     ensures text { text_fault result.now ≡ None }
 {
-    match message {
-        Message::Describe => b"(@desc)",
-        Message::Success => b"(@succ)",
-        Message::OthersSuccess => b"(@osucc)",
-        Message::Fail => b"(@fail)",
-        Message::OthersFail => b"(@ofail)",
-        Message::Drop => b"(@drop)",
-        Message::OthersDrop => b"(@odrop)",
-    }
+    message.row().how
 }
 
 // A text that an object carries is spoken by the rights of the actor.

@@ -15,7 +15,8 @@ use cmd_common::{cant_be_done, place_at, refuse};
 use muck_match::NOTHING;
 use muck_model::{Dbref, Denial, Kind, NoMemory};
 use muck_perm::{Guard, Pass, verdict};
-use spec_commands::{Message, Typed};
+use spec_commands::Typed;
+use spec_live::Message;
 use spec_rights::Act;
 
 // Whether an object is a thing or a program.

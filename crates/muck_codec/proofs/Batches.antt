@@ -8,14 +8,17 @@ use Rattle.std.proofs.lemmas.List.{append-nil}
 use Rattle.std.proofs.lemmas.List.Elements.{All-nil, All-cons}
 use Rattle.muck_model.specs.declared.dbref.Dbref.{Dbref}
 use Rattle.muck_model.specs.declared.tune.Tune.{Tune}
+use Rattle.muck_model.specs.declared.tune.Parameter.{Parameter}
+use Rattle.muck_model.specs.Parameters.{parameters, with_parameter, values_of, first_tune}
+use Rattle.muck_model.proofs.Parameters.{put_all, filled, taken_again, as_many}
 use Rattle.muck_codec.specs.declared.stored.Stored.{Stored}
 use Rattle.muck_codec.specs.declared.stored.Batch.{Batch}
-use Rattle.muck_codec.specs.Reading.{◌>>=◌, both, counted, number_at}
+use Rattle.muck_codec.specs.Reading.{◌>>=◌, both, counted, mapped, several, number_at}
 use Rattle.muck_codec.specs.Records.{record_at}
-use Rattle.muck_codec.specs.Batches.{is_above, next_at, records_at, tune_of, four_at, tune_at, batch_of, batch_at, whole_batch, four_bytes, tune_bytes, batch_bytes}
+use Rattle.muck_codec.specs.Batches.{is_above, next_at, records_at, parameters_at, tune_at, batch_of, batch_at, whole_batch, tune_bytes, batch_bytes}
 use Rattle.muck_codec.specs.Spelling.{spelling}
-use Rattle.muck_codec.specs.inner.Stored.{IsStored, Run}
-use Rattle.muck_codec.proofs.Codes.{IsBytes, bind_ok, test_ok, ok_is, Takes, Codes, both_codes, mapped_codes, counted_codes}
+use Rattle.muck_codec.specs.inner.Stored.{IsStored, Run, IsWord, AreWords, IsTune}
+use Rattle.muck_codec.proofs.Codes.{IsBytes, bind_ok, test_ok, ok_is, Takes, Codes, both_codes, mapped_codes, several_take, several_again, counted_codes}
 use Rattle.muck_codec.proofs.Fields.{codes32}
 use Rattle.muck_codec.proofs.Records.{record_codes}
 
@@ -72,39 +75,51 @@ all_stored before (o ∷ os) run = All-cons IsStored o os run.0.0 (all_stored (S
 
 -- The tune parameters.
 
-abbrev Word : ℕ → Type 0
-Word n = n < 2 ^ 32
+abbrev itself : ℕ → ℕ
+itself n = n
 
-abbrev Four : Type 0
-Four = ℕ × (ℕ × (ℕ × ℕ))
+abbrev words_at : Option ℕ → ℕ → List ℕ → Result (List ℕ × List ℕ) ℕ
+words_at before n bytes = several itself (λ before. number_at w32) before n bytes
 
-abbrev AreWords : Four → Type 0
-AreWords x = Word x.0 × (Word x.1.0 × (Word x.1.1.0 × Word x.1.1.1))
+words_codes : (n : ℕ) → Codes (words_at None n) (flat_map (to_be_bytes w32)) (λ ns. (length ns ≡ n) × AreWords ns)
+words_codes n = record {
+  takes = λ bytes rest ns fits e. several_take itself (λ before. number_at w32) (to_be_bytes w32) IsWord (λ before. codes32) None n bytes rest ns fits e;
+  again = λ ns rest rule.
+      subst (λ m. words_at None m (flat_map (to_be_bytes w32) ns ++ rest) ≡ Ok (ns, rest)) rule.0
+      (several_again itself (λ before. number_at w32) (to_be_bytes w32) IsWord (λ before. codes32) None ns rest rule.1);
+}
 
-abbrev four_spelled : Four → List ℕ
-four_spelled x = to_be_bytes w32 x.0 ++ (to_be_bytes w32 x.1.0 ++ (to_be_bytes w32 x.1.1.0 ++ to_be_bytes w32 x.1.1.1))
+as_words : (ps : List Parameter) (tune : Tune) (before : Option ℕ) (bytes : List ℕ) → parameters_at ps tune bytes ≡ mapped (λ ns. put_all ps ns tune) (words_at before (length ps)) bytes
+unfolding several
+as_words [] tune before bytes = refl
+as_words (p ∷ ps) tune before bytes = step (number_at w32 bytes)
+  where
+    regroup : (n : ℕ) (r : Result (List ℕ × List ℕ) ℕ) → (r >>= λ x. Ok (put_all ps x.0 (with_parameter p n tune), x.1)) ≡ ((r >>= λ o. Ok (n ∷ o.0, o.1)) >>= λ x. Ok (put_all (p ∷ ps) x.0 tune, x.1))
+    regroup n (Ok o) = refl
+    regroup n (Err left) = refl
 
-four_codes : Codes four_at four_spelled AreWords
-four_codes =
-    both_codes (number_at w32) (both (number_at w32) (both (number_at w32) (number_at w32))) (to_be_bytes w32) (λ x. to_be_bytes w32 x.0 ++ (to_be_bytes w32 x.1.0 ++ to_be_bytes w32 x.1.1))
-    Word (λ x. Word x.0 × (Word x.1.0 × Word x.1.1)) codes32
-    (both_codes (number_at w32) (both (number_at w32) (number_at w32)) (to_be_bytes w32) (λ x. to_be_bytes w32 x.0 ++ to_be_bytes w32 x.1) Word (λ x. Word x.0 × Word x.1) codes32
-    (both_codes (number_at w32) (number_at w32) (to_be_bytes w32) (to_be_bytes w32) Word Word codes32 codes32))
+    step : (r : Result (ℕ × List ℕ) ℕ) → (r >>= λ n. parameters_at ps (with_parameter p n.0 tune) n.1)
+        ≡ ((r >>= λ n. words_at (Some n.0) (length ps) n.1 >>= λ o. Ok (n.0 ∷ o.0, o.1)) >>= λ x. Ok (put_all (p ∷ ps) x.0 tune, x.1))
+    step (Ok n) = as_words ps (with_parameter p n.0 tune) (Some n.0) n.1 ∙ regroup n.0 (words_at (Some n.0) (length ps) n.1)
+    step (Err left) = refl
 
-abbrev first_four : Tune → Four
-first_four t = (t.instr_slice, (t.preempt_units, (t.m1_units, t.m2_units)))
-
-abbrev last_four : Tune → Four
-last_four t = (t.process_limit, (t.player_processes, (t.mpi_commands, t.dump_interval)))
-
--- each parameter has 32 bits
-abbrev pub IsTune : Tune → Type 0
-IsTune t = AreWords (first_four t) × AreWords (last_four t)
+by_words : (tune : Tune) → tune_bytes tune ≡ flat_map (to_be_bytes w32) (values_of tune)
+unfolding tune_bytes parameters
+by_words tune = refl
 
 tune_codes : Codes tune_at tune_bytes IsTune
-unfolding tune_at tune_bytes four_bytes
-tune_codes = mapped_codes tune_of (both four_at four_at) (λ x. four_spelled x.0 ++ four_spelled x.1) tune_bytes (λ x. AreWords x.0 × AreWords x.1) IsTune
-    (λ x rule. refl) (λ x rule. rule) (λ t rule. ((first_four t, last_four t), refl, rule)) (both_codes four_at four_at four_spelled four_spelled AreWords AreWords four_codes four_codes)
+unfolding tune_at
+tune_codes = record {
+  takes = λ bytes rest x fits e. worded.takes bytes rest x fits (sym (as_words parameters first_tune None bytes) ∙ e);
+  again = λ x rest rule. as_words parameters first_tune None (tune_bytes x ++ rest) ∙ worded.again x rest rule;
+}
+  where
+    worded : Codes (mapped (λ ns. put_all parameters ns first_tune) (words_at None (length parameters))) tune_bytes IsTune
+    worded = mapped_codes (λ ns. put_all parameters ns first_tune) (words_at None (length parameters)) (flat_map (to_be_bytes w32)) tune_bytes (λ ns. (length ns ≡ length parameters) × AreWords ns) IsTune
+        (λ ns rule. by_words (put_all parameters ns first_tune) ∙ ap (flat_map (to_be_bytes w32)) (filled ns rule.0))
+        (λ ns rule. subst AreWords (sym (filled ns rule.0)) rule.1)
+        (λ tune rule. (values_of tune, taken_again tune, (as_many tune, rule)))
+        (words_codes (length parameters))
 
 -- The batch.
 

@@ -9,7 +9,7 @@ use Rattle.muck_codec.specs.inner.Stored.{IsStored}
 use Rattle.muck_db.specs.inner.Limits.{IsWithinLimits}
 use Rattle.muck_store.specs.inner.Changes.{LeavesOut}
 use Rattle.muck_store.specs.Forms.{persist}
-use Rattle.spec_admin.specs.Parameters.{IsInRange}
+use Rattle.muck_model.specs.Parameters.{IsInRange}
 use Rattle.spec_live.specs.Consistent.{IsConsistent}
 use Rattle.muck_log.specs.File.{after_number}
 use Rattle.muck_log.specs.Store.{LogState, IsMounted}

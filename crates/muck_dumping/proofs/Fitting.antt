@@ -6,6 +6,7 @@ use Rattle.std.proofs.lemmas.Bool.{and_from, or_left, or_right, eq-eqb, le-leb, 
 use Rattle.std.proofs.lemmas.List.Sums.{list_all-from_AllPass}
 use Rattle.muck_model.specs.Bytes.{lines_most}
 use Rattle.muck_model.specs.declared.tune.Tune.{Tune}
+use Rattle.muck_model.proofs.Parameters.{fits_in_range}
 use Rattle.spec_live.specs.Objects.{Entry}
 use Rattle.muck_db.specs.inner.Limits.{IsDigest, FitsLimits, IsWithinLimits}
 use Rattle.muck_codec.specs.declared.stored.Stored.{Stored}
@@ -19,7 +20,7 @@ use Rattle.muck_store.specs.Forms.{stored_of, stored_from, persist}
 use Rattle.muck_store.specs.Limits.{is_digit, is_digest, fits}
 use Rattle.muck_dumping.specs.declared.parts.Pending.{Pending}
 use Rattle.muck_dumping.specs.inner.Between.{IsBatchOf, base_in}
-use Rattle.muck_dumping.proofs.Appending.{tune_of, two_there}
+use Rattle.muck_dumping.proofs.Appending.{two_there}
 use Rattle.muck_dumping.proofs.Records.{batch_few}
 
 digest_fits : (digest : List ℕ) → IsDigest digest → is_digest digest ≡ true
@@ -56,7 +57,7 @@ makes_world o log p is has kept covers =
     let b = has.2 in
     let left : LeavesOut (base_of log) (persist objects) p.batch.records = subst (λ (x : Option LogState). LeavesOut (base_in x) (persist objects) p.batch.records) is b.records in (
       record { objects = persist objects; tune = tune },
-      fit_makes log p.batch objects tune kept b.storable (batch_few objects left b.consistent) left b.tuning (fine_world objects tune b.consistent (persist_fits objects b.limits) (tune_of tune b.tuned)) (two_there objects b.consistent)
+      fit_makes log p.batch objects tune kept b.storable (batch_few objects left b.consistent) left b.tuning (fine_world objects tune b.consistent (persist_fits objects b.limits) (fits_in_range tune b.tuned)) (two_there objects b.consistent)
           (omega (arith, covers, b.size)),
     )
 

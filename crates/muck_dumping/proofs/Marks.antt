@@ -6,6 +6,8 @@ use Rattle.muck_model.specs.declared.event.Entry.{Entry}
 use Rattle.muck_model.specs.declared.event.Event.TheVariants.{Cut}
 use Rattle.muck_model.specs.declared.note.Note.{Note}
 use Rattle.muck_model.specs.declared.tune.Tune.{Tune}
+use Rattle.muck_model.specs.Parameters.{tune_fits}
+use Rattle.muck_model.proofs.Parameters.{fits_in_range}
 use Rattle.muck_codec.specs.declared.stored.Stored.{Stored}
 use Rattle.muck_db.specs.inner.Limits.{IsWithinLimits}
 use Rattle.spec_live.specs.declared.saving.Saving.{Saving}
@@ -17,7 +19,7 @@ use Rattle.spec_live.proofs.Resaved.{consistent_resaved}
 use Rattle.muck_store.specs.inner.Changes.{LeavesOut, KeepsUndue}
 use Rattle.muck_store.specs.Forms.{persist}
 use Rattle.muck_store.proofs.Undue.{persist_resaved}
-use Rattle.muck_log.specs.World.{World as Kept, laid, tune_fits}
+use Rattle.muck_log.specs.World.{World as Kept, laid}
 use Rattle.muck_log.specs.Store.{LogState, opens_new, target}
 use Rattle.muck_log.specs.Append.{IsNext, base_of, payload_of}
 use Rattle.spec_events.specs.World.{World}
@@ -30,7 +32,7 @@ use Rattle.spec_dumps.proofs.Undue.{kept_undue}
 use Rattle.muck_dumping.specs.declared.parts.Pending.{Pending}
 use Rattle.muck_dumping.specs.inner.Dumps.{by, ending_event}
 use Rattle.muck_dumping.specs.inner.Between.{IsBatchOf, IsBatchOfWorld, IsBatchAtCut, HoldsThese, GoesByMarks, base_in}
-use Rattle.muck_dumping.proofs.Appending.{tune_of, two_there}
+use Rattle.muck_dumping.proofs.Appending.{two_there}
 use Rattle.muck_dumping.proofs.Mounting.{one_log}
 use Rattle.muck_dumping.proofs.Steps.{cut_live}
 
@@ -91,7 +93,7 @@ pub appended_holds : (marks : Bool) (o : Option LogState) (log new : LogState) (
     IsNext log new (payload_of log p.batch) → HoldsThese marks (Some new) es
 appended_holds marks o log new p es tune is b covers whole next = λ on x same.
     let left : LeavesOut (base_of log) (persist es) p.batch.records = subst (λ (y : Option LogState). LeavesOut (base_in y) (persist es) p.batch.records) is b.records in
-    let wrote = whole left b.tuning (tune_of tune b.tuned) (two_there es b.consistent) (omega (arith, covers, b.size)) in
+    let wrote = whole left b.tuning (fits_in_range tune b.tuned) (two_there es b.consistent) (omega (arith, covers, b.size)) in
     ap (λ (l : LogState). l.chosen.held.world.objects) (one_log (Some new) x new same refl)
     ∙ ap (λ (w : Kept). w.objects) (same_world new.chosen.held.world (record { objects = persist es; tune = tune }) (sym next.makes ∙ wrote))
 

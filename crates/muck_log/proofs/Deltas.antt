@@ -1,8 +1,8 @@
 -- Laying what is written of a batch gives the world that it was taken from.
-use Rattle.std.proofs.Common.{◌≡◌, ℕ, suc, ◌<◌, ◌≤◌, ◌^◌, Bool, true, false, cond, not, ltb, eqb, List, [], ◌∷◌, ◌++◌, length, set, Option, Some, None, option_and_then, Ok, refl, sym, ap, subst, ◌∙◌, append_assoc, arith, length-append}
+use Rattle.std.proofs.Common.{◌≡◌, ℕ, suc, ◌<◌, ◌≤◌, ◌^◌, Bool, true, false, cond, not, ltb, eqb, List, [], ◌∷◌, ◌++◌, length, map, set, Option, Some, None, option_and_then, Ok, refl, sym, ap, subst, ◌∙◌, append_assoc, arith, length-append}
 use Rattle.std.specs.Prelude.{All, pos, int_lt, nat_le, slice_get}
 use Rattle.std.specs.List.{filter, list_all}
-use Rattle.std.proofs.lemmas.Bool.{and_parts, and_from, le-leb, cond-true, cond-false, leb-true, lt-ltb, le-ltb, eq-eqb}
+use Rattle.std.proofs.lemmas.Bool.{and_parts, and_from, le-leb, cond-true, cond-false, lt-ltb, le-ltb, eq-eqb}
 use Rattle.std.proofs.lemmas.List.{append-nil}
 use Rattle.std.proofs.lemmas.List.Elements.{All-head, All-tail}
 use Rattle.std.proofs.lemmas.List.Filters.{length-filter_both}
@@ -10,13 +10,16 @@ use Rattle.std.proofs.lemmas.Option.{slice_get_past, same_Some, none-some}
 use Rattle.std.proofs.Math.Seq.{set-append_seam}
 use Rattle.muck_model.specs.declared.dbref.Dbref.{Dbref}
 use Rattle.muck_model.specs.declared.tune.Tune.{Tune}
+use Rattle.muck_model.specs.declared.tune.Parameter.{Parameter}
+use Rattle.muck_model.specs.Parameters.{parameters, parameter_of, tune_fits}
+use Rattle.muck_model.proofs.Parameters.{in_range, most_is_word}
 use Rattle.spec_live.specs.Consistent.{IsConsistent}
 use Rattle.spec_live.specs.Objects.{Entry, dbref_of, index_of}
 use Rattle.muck_codec.specs.declared.stored.Stored.{Stored}
 use Rattle.muck_codec.specs.declared.stored.Batch.{Batch}
 use Rattle.muck_codec.specs.Batches.{is_above, whole_batch, batch_bytes}
-use Rattle.muck_codec.specs.inner.Stored.{IsStored, Run}
-use Rattle.muck_codec.proofs.Batches.{IsNextRecord, dbref_key, IsTune, whole_reads}
+use Rattle.muck_codec.specs.inner.Stored.{IsStored, IsTune, IsWord, Run}
+use Rattle.muck_codec.proofs.Batches.{IsNextRecord, dbref_key, whole_reads}
 use Rattle.muck_store.proofs.Changing.{left_filter, left_whole}
 use Rattle.muck_store.proofs.Stored.{consistent_whole}
 use Rattle.muck_store.proofs.StoredForms.{length_persist}
@@ -25,7 +28,7 @@ use Rattle.muck_store.specs.Forms.{stored_of, stored_from, persist, world_batch}
 use Rattle.muck_store.specs.Limits.{fits}
 use Rattle.muck_store.specs.Whole.{is_whole}
 use Rattle.muck_log.specs.File.{begin}
-use Rattle.muck_log.specs.World.{World, IsFine, start, is_between, tune_fits, is_fine, put_at, placed, all_placed, judged_world, laid_over, batch_if, laid, kept_of, differs, written}
+use Rattle.muck_log.specs.World.{World, IsFine, start, is_fine, put_at, placed, all_placed, judged_world, laid_over, batch_if, laid, kept_of, differs, written}
 use Rattle.muck_log.specs.Store.{Chosen, LogState, opens_new, target}
 use Rattle.muck_log.specs.Append.{IsLaidNext, MakesWorld, base_of, payload_of}
 use Rattle.muck_log.proofs.Differing.{differs_by, equals, found_stored, kept_same}
@@ -159,23 +162,13 @@ written_rises test before k (o ∷ os) below number stored =
 few : (test : Stored → Bool) (records : List Stored) → length (filter test records) ≤ length records
 few test records = omega (arith, length-filter_both test (λ o. not (test o)) (λ o. refl) records)
 
-narrow : (n most : ℕ) → is_between n most ≡ true → most < 2 ^ 32 → n < 2 ^ 32
-narrow n most e lt = omega (arith, lt, leb-true n most (and_parts (nat_le 1 n) (nat_le n most) e).1)
-
 -- parameters within their limits are numbers of 32 bits
 pub tune_words : (t : Tune) → tune_fits t ≡ true → IsTune t
-unfolding tune_fits
-tune_words t e =
-    let a = and_parts (is_between t.instr_slice 20000) _ e in
-    let b = and_parts (is_between t.preempt_units 20000) _ a.1 in
-    let c = and_parts (is_between t.m1_units 1000000) _ b.1 in
-    let d = and_parts (is_between t.m2_units 1000000) _ c.1 in
-    let f = and_parts (is_between t.process_limit 400) _ d.1 in
-    let g = and_parts (is_between t.player_processes 400) _ f.1 in
-    let h = and_parts (is_between t.mpi_commands 2048) (is_between t.dump_interval 86400) g.1 in (
-      (narrow t.instr_slice 20000 a.0 (omega arith), (narrow t.preempt_units 20000 b.0 (omega arith), (narrow t.m1_units 1000000 c.0 (omega arith), narrow t.m2_units 1000000 d.0 (omega arith)))),
-      (narrow t.process_limit 400 f.0 (omega arith), (narrow t.player_processes 400 g.0 (omega arith), (narrow t.mpi_commands 2048 h.0 (omega arith), narrow t.dump_interval 86400 h.1 (omega arith)))),
-    )
+tune_words t e = words None parameters
+  where
+    words : (before : Option ℕ) (ps : List Parameter) → Run (λ (n : ℕ). n) IsWord before (map (λ p. parameter_of p t) ps)
+    words before [] = tt
+    words before (p ∷ ps) = (omega (arith, (in_range t e p).1, most_is_word p), words (Some (parameter_of p t)) ps)
 
 -- What is laid.
 

@@ -13,13 +13,12 @@ use Rattle.muck_codec.specs.declared.stored.Batch.{Batch}
 use Rattle.muck_codec.specs.Reading.{◌>>=◌, both, counted, several, number_at}
 use Rattle.muck_codec.specs.Batches.{is_above, next_at, records_at, tune_at, batch_of, batch_at, whole_batch, tune_bytes, batch_bytes}
 use Rattle.muck_codec.specs.Spelling.{spelling}
-use Rattle.muck_codec.specs.inner.Stored.{IsStored, Run}
+use Rattle.muck_codec.specs.inner.Stored.{IsStored, IsTune, Run}
 use Rattle.muck_codec.proofs.Batches.{IsNextRecord, dbref_key, whole_reads}
 use Rattle.muck_codec.proofs.Codes.{bind_ok, test_ok, ok_is}
 use Rattle.muck_codec.proofs.Fields.{codes32}
 use Rattle.muck_codec.proofs.Records.{record_codes}
 use Rattle.muck_log.specs.World.{World, IsFine, is_fine, judged_world, laid_over, batch_if, laid}
-use Rattle.muck_log.specs.inner.Head.{HasWords}
 
 -- Records that are read rise.
 
@@ -79,7 +78,7 @@ some_batch v w (Ok b) e = (b, refl)
 some_batch v w (Err left) e = absurd (none-some w e)
 
 -- the bytes of a batch that make a world make the one with the batch laid over it
-pub laid_as_it_is : (b : Batch) (v w : World) → All IsStored b.records → length b.records < 2 ^ 32 → HasWords b.tune → laid (batch_bytes b.records b.tune) v ≡ Some w → laid (batch_bytes b.records b.tune) v ≡ laid_over b v
+pub laid_as_it_is : (b : Batch) (v w : World) → All IsStored b.records → length b.records < 2 ^ 32 → IsTune b.tune → laid (batch_bytes b.records b.tune) v ≡ Some w → laid (batch_bytes b.records b.tune) v ≡ laid_over b v
 unfolding laid
 laid_as_it_is b v w stored few words e =
     let read = some_batch v w (whole_batch 1 (batch_bytes b.records b.tune)) e in
@@ -91,7 +90,7 @@ judged_is : (yes : Bool) (made w : World) → cond yes (Some made) None ≡ Some
 judged_is true made w e = (refl, sym (same_Some made w e))
 judged_is false made w e = absurd (none-some w e)
 
-module _ (b : Batch) (v : World) (stored : All IsStored b.records) (few : length b.records < 2 ^ 32) (words : HasWords b.tune) (makes : (w : World) × (laid (batch_bytes b.records b.tune) v ≡ Some w)) where
+module _ (b : Batch) (v : World) (stored : All IsStored b.records) (few : length b.records < 2 ^ 32) (words : IsTune b.tune) (makes : (w : World) × (laid (batch_bytes b.records b.tune) v ≡ Some w)) where
   pub never_refused : laid_over b v ≡ None → ⊥
   never_refused none = none-some makes.0 (sym none ∙ sym (laid_as_it_is b v makes.0 stored few words makes.1) ∙ makes.1)
 

@@ -5,6 +5,7 @@ use Rattle.std.specs.List.{filter, list_all}
 use Rattle.muck_model.specs.Bytes.{lines_most}
 use Rattle.muck_model.specs.declared.dbref.Kind.TheVariants.{Room, Player}
 use Rattle.muck_model.specs.declared.tune.Tune.{Tune}
+use Rattle.muck_model.specs.Parameters.{first_tune, tune_fits}
 use Rattle.spec_live.specs.Objects.{dbref_of, index_of, nothing}
 use Rattle.spec_live.specs.Flags.{no_flags, wizard}
 use Rattle.muck_codec.specs.declared.stored.Stored.{Stored}
@@ -62,18 +63,6 @@ player_one = record {
   digest = first_digest;
 }
 
-unfoldable pub first_tune : Tune
-first_tune = record {
-  instr_slice = 2000;
-  preempt_units = 20000;
-  m1_units = 20000;
-  m2_units = 80000;
-  process_limit = 400;
-  player_processes = 32;
-  mpi_commands = 2048;
-  dump_interval = 900;
-}
-
 -- Room Zero, and One in it
 unfoldable pub start : World
 start = record { objects = room_zero ∷ player_one ∷ []; tune = first_tune }
@@ -83,13 +72,6 @@ unfoldable pub lost : World
 lost = record { objects = []; tune = first_tune }
 
 -- Limits.
-
-abbrev pub is_between : ℕ → ℕ → Bool
-is_between n most = nat_le 1 n && nat_le n most
-
-unfoldable pub tune_fits : Tune → Bool
-tune_fits t = is_between t.instr_slice 20000 && (is_between t.preempt_units 20000 && (is_between t.m1_units 1000000 && (is_between t.m2_units 1000000
-    && (is_between t.process_limit 400 && (is_between t.player_processes 400 && (is_between t.mpi_commands 2048 && is_between t.dump_interval 86400))))))
 
 -- every value is within its limits, and the world hangs together
 unfoldable pub is_fine : List Stored → Tune → Bool

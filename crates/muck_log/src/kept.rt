@@ -4,11 +4,11 @@ ghost use Rattle.std.specs.Bool.{Decides};
 ghost use Rattle.std.specs.List.{flat_map, list_all};
 ghost use Rattle.muck_model.specs.Bytes.{text_fault};
 ghost use Rattle.muck_codec.specs.Spelling.{spelling};
-ghost use Rattle.muck_codec.specs.inner.Stored.{IsStored};
+ghost use Rattle.muck_codec.specs.inner.Stored.{IsStored, IsTune};
 ghost use Rattle.muck_codec.specs.Batches.{batch_bytes};
-ghost use Rattle.muck_log.specs.World.{World, room_zero, first_digest, player_one, first_tune, start, lost, is_between, tune_fits, is_fine, IsFine, placed, all_placed, laid, kept_of, differs, written};
+ghost use Rattle.muck_log.specs.World.{World, room_zero, first_digest, player_one, start, lost, is_fine, IsFine, placed, all_placed, laid, kept_of, differs, written};
 ghost use Rattle.muck_store.specs.Limits.{fits};
-ghost use Rattle.muck_log.specs.inner.Head.{HasWords, IsLaid, IsPut, IsPlaced, ArePlaced};
+ghost use Rattle.muck_log.specs.inner.Head.{IsLaid, IsPut, IsPlaced, ArePlaced};
 
 use crate::same::is_same;
 use muck_codec::{Batch, CodecFault, Stored, put_record, put_tune, take_batch};
@@ -110,42 +110,6 @@ fn player_one(alloc: Global) -> Result<Stored, NoMemory>
     })
 }
 
-#[tactic(auto, unfolding(crate::specs::World::first_tune))]
-fn first_tune() -> Tune
-    ensures { result ≡ first_tune }
-{
-    Tune {
-        instr_slice: 2_000,
-        preempt_units: 20_000,
-        m1_units: 20_000,
-        m2_units: 80_000,
-        process_limit: 400,
-        player_processes: 32,
-        mpi_commands: 2_048,
-        dump_interval: 900,
-    }
-}
-
-fn is_between(n: u32, most: u32) -> bool
-    ensures { result ≡ is_between n most }
-{
-    n >= 1 && n <= most
-}
-
-#[tactic(auto, unfolding(crate::specs::World::tune_fits))]
-fn tune_fits(tune: &Tune) -> bool
-    ensures { result ≡ tune_fits tune.now }
-{
-    is_between(tune.instr_slice, 20_000)
-        && is_between(tune.preempt_units, 20_000)
-        && is_between(tune.m1_units, 1_000_000)
-        && is_between(tune.m2_units, 1_000_000)
-        && is_between(tune.process_limit, 400)
-        && is_between(tune.player_processes, 400)
-        && is_between(tune.mpi_commands, 2_048)
-        && is_between(tune.dump_interval, 86_400)
-}
-
 fn all_fit(objects: &[Stored]) -> bool
     ensures { result ≡ list_all fits objects.now }
 {
@@ -156,7 +120,7 @@ fn all_fit(objects: &[Stored]) -> bool
 fn is_fine(alloc: Global, objects: &[Stored], tune: &Tune) -> Result<bool, NoMemory>
     ensures { IfOk result (λ yes. yes ≡ is_fine objects.now tune.now) }
 {
-    if objects.len() > 100_000 || !all_fit(objects) || !tune_fits(tune) {
+    if objects.len() > 100_000 || !all_fit(objects) || !tune.fits() {
         return Ok(false);
     }
     Ok(is_whole(alloc, objects)?)
@@ -216,7 +180,7 @@ impl Kept {
         Ok(Kept {
             alloc,
             objects,
-            tune: first_tune(),
+            tune: Tune::first(),
         })
     }
 
@@ -226,7 +190,7 @@ impl Kept {
         ensures { self.new ≡ lost }
     {
         self.objects.clear();
-        self.tune = first_tune();
+        self.tune = Tune::first();
     }
 
     /// The record of each object, by its number from 0 on.
@@ -293,8 +257,9 @@ impl Kept {
 }
 
 // For contracts alone: each parameter fits its bytes.
+#[tactic(auto, unfolding(muck_model::specs::Parameters::parameters))]
 fn see_tune(tune: Tune)
-    ensures { HasWords tune }
+    ensures { IsTune tune }
 {}
 
 // Whether a record is what is kept of its object.

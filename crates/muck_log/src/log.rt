@@ -3,7 +3,8 @@ ghost use Rattle.std.specs.Prelude.{◌≡◌, ◌⊎◌, ◌≤◌, ◌<◌, �
 ghost use Rattle.muck_disk.specs.Images.{Only};
 ghost use Rattle.muck_io.specs.Faults.{Rose};
 ghost use Rattle.muck_log.specs.Body.{body_bytes};
-ghost use Rattle.muck_log.specs.World.{World, IsFine, laid, tune_fits};
+ghost use Rattle.muck_log.specs.World.{World, IsFine, laid};
+ghost use Rattle.muck_model.specs.Parameters.{tune_fits};
 ghost use Rattle.muck_model.specs.declared.tune.Tune.{Tune};
 ghost use Rattle.spec_live.specs.Objects.{Entry as WorldEntry};
 ghost use Rattle.muck_store.specs.inner.Changes.{LeavesOut};

@@ -1,5 +1,5 @@
 -- What is seen of an object by who only looks into a world, as a list of lines.
-use Rattle.std.specs.Prelude.{ℕ, false, not, List, [], ◌∷◌, ◌++◌, map, take, codes, Option, Some, None}
+use Rattle.std.specs.Prelude.{ℕ, false, not, List, [], ◌∷◌, ◌++◌, map, take, Option, Some, None}
 use Rattle.std.specs.Option.{option_map, option_map_or}
 use Rattle.std.specs.List.{filter}
 use Rattle.muck_model.specs.Bytes.{text_most}
@@ -8,6 +8,8 @@ use Rattle.spec_live.specs.Flags.{dark}
 use Rattle.spec_live.specs.Objects.{Entry, object_at}
 use Rattle.spec_live.specs.Seen.{listed_in, long_form}
 use Rattle.spec_live.specs.Worth.{message_at, lock_text}
+use Rattle.spec_live.specs.Messages.{path_of}
+use Rattle.spec_live.specs.declared.message.Message.TheVariants.{Describe}
 use Rattle.spec_rights.specs.Levels.{number_of, owner_at, flag_at}
 use Rattle.spec_commands.specs.Replies.{contents_head, owner_line, lock_line}
 
@@ -27,7 +29,7 @@ abbrev pub name_at : List Entry → Dbref → List ℕ
 name_at es d = option_map_or (λ o. o.name) (object_at d es) []
 
 abbrev pub description_path : List (List ℕ)
-description_path = codes "_" ∷ codes "de" ∷ []
+description_path = path_of Describe
 
 abbrev pub if_any : Option (List ℕ) → List (List ℕ)
 if_any None = []

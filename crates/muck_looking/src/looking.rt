@@ -2,35 +2,23 @@
 ghost use Rattle.std.specs.Prelude.{◌≡◌, ◌++◌, ◌∷◌, None, IfOk, OnOk, map};
 ghost use Rattle.std.specs.Option.{option_copied};
 ghost use Rattle.muck_model.specs.Bytes.{text_fault};
-ghost use Rattle.spec_live.specs.Worth.{message_at, lock_text, lock_of_object};
+ghost use Rattle.spec_live.specs.Worth.{message_at, lock_text};
 ghost use Rattle.spec_rights.specs.Levels.{owner_at};
 ghost use Rattle.muck_looking.specs.Looks.{cut, form_line, name_at, description_path, if_any, under_head, open_in, looked, examined};
 ghost use Rattle.spec_commands.specs.Replies.{owner_line, lock_line};
 
 use crate::lines::{form, headed};
-use muck_db::{Db, KnownPaths, value_text};
+use muck_db::{Db, KnownPaths};
 use muck_model::{Dbref, Line, LineList, NoMemory};
-use muck_perm::{flag_at, owner_at};
-use muck_prop::{Path, PropValue};
-use spec_live::{DARK, Object};
+use muck_perm::{flag_at, lock_text, message_at, owner_at};
+use spec_live::{DARK, Message};
 use std::alloc::Global;
-
-// The text that an object keeps at a path.
-#[tactic(auto, unfolding(spec_live::specs::Worth::message_at))]
-fn message_at<'a>(db: &'a Db, d: Dbref, path: &Path) -> Option<&'a Line>
-    ensures { option_copied result ≡ message_at path.now d db.now }
-{
-    match db.get(d)?.props().get(path) {
-        Some(PropValue::Text(text)) => Some(text),
-        _ => None,
-    }
-}
 
 // The description of an object.
 fn description<'a>(db: &'a Db, paths: &KnownPaths, d: Dbref) -> Option<&'a Line>
     ensures { option_copied result ≡ message_at description_path d db.now }
 {
-    message_at(db, d, &paths.describe)
+    message_at(db, d, paths.message(Message::Describe))
 }
 
 // Adds its description, where it has one.
@@ -113,28 +101,6 @@ fn owner_line(alloc: Global, db: &Db, d: Dbref) -> Result<Line, NoMemory>
 {
     let owner = owner_at(db, d);
     headed(alloc, b"Owner: ", name_of(db, owner))
-}
-
-// What is kept as the lock of an object.
-fn kept_lock<'a>(paths: &KnownPaths, object: &'a Object) -> Option<&'a PropValue>
-    ensures { option_copied result ≡ lock_of_object object.now }
-{
-    object.props().get(&paths.lock)
-}
-
-// Its lock, as it is shown.
-#[tactic(auto, unfolding(spec_live::specs::Worth::lock_text))]
-fn lock_text(alloc: Global, db: &Db, d: Dbref) -> Result<Line, NoMemory>
-    ensures { IfOk result (λ text. text ≡ lock_text d db.now) }
-{
-    let kept = match db.get(d) {
-        Some(object) => kept_lock(db.paths(), object),
-        None => None,
-    };
-    match kept {
-        Some(value) => value_text(alloc, value),
-        None => Line::of_text(alloc, b"*UNLOCKED*"),
-    }
 }
 
 // The line of its lock.

@@ -3,7 +3,7 @@ ghost use Rattle.std.specs.Prelude.{◌≡◌, ◌≤◌, IfOk, IfSome, OnOk, On
 ghost use Rattle.std.specs.Option.{option_map_or};
 ghost use Rattle.muck_model.specs.declared.event.Event.{Event};
 ghost use Rattle.muck_queue.specs.Queues.{is_tied};
-ghost use Rattle.spec_admin.specs.Parameters.{IsInRange};
+ghost use Rattle.muck_model.specs.Parameters.{IsInRange};
 ghost use Rattle.spec_live.specs.Stood.{IsStill};
 ghost use Rattle.spec_events.specs.World.{starting, booted, connection, queue_of, is_leaving};
 ghost use Rattle.spec_events.specs.Steps.{is_lawful, has_claim, is_there, next_ready, next_process};
@@ -33,18 +33,6 @@ use std::marker::Model;
 
 /// The most connections.
 const CONNECTIONS_MOST: usize = 256;
-
-/// What a wizard tuned before anybody did.
-const FIRST_TUNE: Tune = Tune {
-    instr_slice: 2000,
-    preempt_units: 20_000,
-    m1_units: 20_000,
-    m2_units: 80_000,
-    process_limit: 400,
-    player_processes: 32,
-    mpi_commands: 2048,
-    dump_interval: 900,
-};
 
 /// The world. Contracts see it as its history: how it began, each entry since, and the notes of the disks between them. The world as it is now is the one
 /// after these entries. A dead world has lost memory in the midst of something: it takes no entry any more but `Died`.
@@ -119,7 +107,7 @@ impl World {
     }
 
     /// Room Zero and One as they are at first, and nobody connected: nothing has happened yet.
-    #[tactic(auto, unfolding(spec_events::specs::World::starting, spec_live::specs::Boards::first_tune), using(crate::proofs::Keepings::told_first, crate::proofs::Keepings::still_first))]
+    #[tactic(auto, unfolding(spec_events::specs::World::starting), using(crate::proofs::Keepings::told_first, crate::proofs::Keepings::still_first))]
     pub fn starting(alloc: Global) -> Result<Self, NoMemory>
         ensures { IfOk result (λ w. w ≡ record { start = starting; entries = []; notes = []; counted = None }) }
     {
@@ -128,7 +116,7 @@ impl World {
             alloc,
             Persisted {
                 db,
-                tune: FIRST_TUNE,
+                tune: Tune::first(),
             },
             0,
             0,

@@ -8,7 +8,7 @@ use Rattle.muck_codec.specs.declared.stored.Stored.{Stored}
 use Rattle.muck_codec.specs.inner.Stored.{AreProperties, IsStored}
 use Rattle.muck_store.specs.Limits.{fits}
 use Rattle.muck_store.specs.Whole.{is_whole}
-use Rattle.muck_log.specs.World.{World, tune_fits, is_fine}
+use Rattle.muck_log.specs.World.{World, is_fine}
 use Rattle.muck_mirror.specs.Laying.{IsSound}
 
 pub few : (w : World) (objects : List Stored) → IsSound w → objects ≡ w.objects → length objects ≤ 100000

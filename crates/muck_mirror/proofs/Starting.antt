@@ -1,8 +1,9 @@
 -- The starting world is sound.
 use Rattle.std.proofs.Common.{◌≡◌, List, [], ◌∷◌, ◌++◌, sym, ap, subst, ◌∙◌}
 use Rattle.muck_model.specs.declared.tune.Tune.{Tune}
+use Rattle.muck_model.specs.Parameters.{first_tune}
 use Rattle.muck_codec.specs.declared.stored.Stored.{Stored}
-use Rattle.muck_log.specs.World.{World, start, room_zero, player_one, first_tune}
+use Rattle.muck_log.specs.World.{World, start, room_zero, player_one}
 use Rattle.muck_log.proofs.Fine.{start_fine}
 use Rattle.muck_log.proofs.Spellings.{start_stored}
 use Rattle.muck_mirror.specs.Laying.{IsSound}

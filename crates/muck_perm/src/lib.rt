@@ -13,6 +13,6 @@ pub use levels::{
     MASTER, command_level, controls_as, effective, flag_at, is_player_at, level, level_at, owner_at,
     user,
 };
-pub use locks::opens_at;
+pub use locks::{lock_text, message_at, opens_at};
 pub use rules::{Pass, verdict};
 pub use shown::{long_form, name_shown};

@@ -1,5 +1,5 @@
 -- The properties of one object, as a map from paths to values.
-use Rattle.std.specs.Prelude.{◌≡◌, ℕ, Bool, true, false, ◌&&◌, ◌==◌, ◌⊎◌, pos, if◌then◌else◌, List, [], ◌∷◌, ◌++◌, map, Option, None, Some, is_some, length, drop}
+use Rattle.std.specs.Prelude.{◌≡◌, ℕ, ℤ, Bool, true, false, ◌&&◌, ◌==◌, ◌⊎◌, pos, if◌then◌else◌, List, [], ◌∷◌, ◌++◌, map, Option, None, Some, is_some, length, drop}
 use Rattle.std.specs.List.{list_any, filter}
 use Rattle.std.specs.Ordering.{is_lt, is_gt, int_eq}
 use Rattle.std.specs.FinMap.{FinMap, get, insert, remove, keys, entries}
@@ -16,6 +16,16 @@ PropMap = FinMap path_cmp PropValue
 abbrev pub is_nothing : PropValue → Bool
 is_nothing (Text text) = length text == 0
 is_nothing (Number n) = int_eq n (pos 0)
+
+-- the text that is kept, where it is one
+abbrev pub kept_text : PropValue → Option (List ℕ)
+kept_text (Text text) = Some text
+kept_text (Number n) = None
+
+-- the number that is kept, where it is one
+abbrev pub kept_number : PropValue → Option ℤ
+kept_number (Text text) = None
+kept_number (Number n) = Some n
 
 -- the map after a value is stored at a path: what stands for no property removes it
 abbrev pub stored : List (List ℕ) → PropValue → PropMap → PropMap

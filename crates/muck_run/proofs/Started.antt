@@ -1,12 +1,12 @@
 -- A run starts on the world of a log that was mounted.
-use Rattle.std.proofs.Common.{◌≡◌, ℕ, ◌≤◌, true, false, List, length, refl, sym, ap, subst, ◌∙◌, Option, Some, None}
+use Rattle.std.proofs.Common.{◌≡◌, ℕ, true, false, List, length, refl, sym, ap, subst, ◌∙◌, Option, Some, None}
 use Rattle.std.proofs.lemmas.Bool.{and_parts, leb-true}
 use Rattle.std.proofs.lemmas.List.Elements.{All-weaker, recursion_from_All}
 use Rattle.std.specs.Prelude.{All, nat_le, slice_get}
 use Rattle.std.specs.List.{list_all}
 use Rattle.std.specs.Option.{option_map, option_and_then}
 use Rattle.muck_model.specs.declared.note.Note.{Note}
-use Rattle.muck_model.specs.declared.tune.Tune.{Tune}
+use Rattle.muck_model.specs.Parameters.{tune_fits}
 use Rattle.muck_codec.specs.declared.stored.Stored.{Stored}
 use Rattle.muck_codec.specs.inner.Stored.{AreProperties, IsStored}
 use Rattle.muck_store.specs.Forms.{entry_of, loaded}
@@ -17,10 +17,7 @@ use Rattle.muck_store.proofs.Round.{persist_loaded}
 use Rattle.muck_store.proofs.Sound.{whole_hangs}
 use Rattle.muck_log.specs.inner.Mount.{IsMountedAs}
 use Rattle.muck_log.specs.Store.{LogState}
-use Rattle.muck_log.specs.World.{World as Kept, is_between, tune_fits, is_fine}
-use Rattle.spec_admin.specs.Parameters.{parameter_of, parameter_most, IsInRange}
-use Rattle.spec_admin.specs.declared.word.Parameter.{Parameter}
-use Rattle.spec_admin.specs.declared.word.Parameter.TheVariants.{InstrSlice, PreemptUnits, M1Units, M2Units, ProcessLimit, PlayerProcesses, MpiCommands, DumpInterval}
+use Rattle.muck_log.specs.World.{World as Kept, is_fine}
 use Rattle.spec_dumps.specs.Fronts.{persisted, file_most}
 use Rattle.spec_dumps.specs.inner.Holding.{Rests}
 use Rattle.spec_dumps.proofs.Begun.{rests_begun}
@@ -60,33 +57,6 @@ bootable kept fine =
     let b = and_parts (list_all fits kept.objects) _ a.1 in
     let c = and_parts (tune_fits kept.tune) (is_whole kept.objects) b.1 in
     record { few = leb-true (length kept.objects) 100000 a.0; whole = c.1; fit = b.0; tuned = c.0 }
-
-between : (n most : ℕ) → is_between n most ≡ true → (1 ≤ n) × (n ≤ most)
-between n most e = let both = and_parts (nat_le 1 n) (nat_le n most) e in (leb-true 1 n both.0, leb-true n most both.1)
-
--- what is kept of the parameters is in its range
-pub in_range : (t : Tune) → tune_fits t ≡ true → IsInRange t
-unfolding tune_fits
-in_range t e p =
-    let a = and_parts (is_between t.instr_slice 20000) _ e in
-    let b = and_parts (is_between t.preempt_units 20000) _ a.1 in
-    let c = and_parts (is_between t.m1_units 1000000) _ b.1 in
-    let d = and_parts (is_between t.m2_units 1000000) _ c.1 in
-    let f = and_parts (is_between t.process_limit 400) _ d.1 in
-    let g = and_parts (is_between t.player_processes 400) _ f.1 in
-    let h = and_parts (is_between t.mpi_commands 2048) (is_between t.dump_interval 86400) g.1 in
-    at p a.0 b.0 c.0 d.0 f.0 g.0 h.0 h.1
-  where
-    at : (p : Parameter) → is_between t.instr_slice 20000 ≡ true → is_between t.preempt_units 20000 ≡ true → is_between t.m1_units 1000000 ≡ true → is_between t.m2_units 1000000 ≡ true → is_between t.process_limit 400 ≡ true →
-        is_between t.player_processes 400 ≡ true → is_between t.mpi_commands 2048 ≡ true → is_between t.dump_interval 86400 ≡ true → (1 ≤ parameter_of p t) × (parameter_of p t ≤ parameter_most p)
-    at InstrSlice a b c d f g h i = between t.instr_slice 20000 a
-    at PreemptUnits a b c d f g h i = between t.preempt_units 20000 b
-    at M1Units a b c d f g h i = between t.m1_units 1000000 c
-    at M2Units a b c d f g h i = between t.m2_units 1000000 d
-    at ProcessLimit a b c d f g h i = between t.process_limit 400 f
-    at PlayerProcesses a b c d f g h i = between t.player_processes 400 g
-    at MpiCommands a b c d f g h i = between t.mpi_commands 2048 h
-    at DumpInterval a b c d f g h i = between t.dump_interval 86400 i
 
 pub properties : (os : List Stored) → All IsStored os → All (λ s. AreProperties s.props) os
 properties os all = All-weaker IsStored (λ s. AreProperties s.props) (λ x s. s.props) os all

@@ -94,7 +94,7 @@ pub fn mount<D: Disk>(alloc: Global, store: &str, first: &mut D, second: &mut D)
 }
 
 // The world of what a store holds at this second, which its random numbers begin with too; nothing has happened in it yet.
-#[tactic(auto, using(crate::proofs::Started::in_range, crate::proofs::Started::properties, crate::proofs::Started::unmarked, crate::proofs::Started::unmoved))]
+#[tactic(auto, using(muck_model::proofs::Parameters::in_range, crate::proofs::Started::properties, crate::proofs::Started::unmarked, crate::proofs::Started::unmoved))]
 fn boot(alloc: Global, kept: &Kept, began: u64) -> Result<World, NoMemory>
     requires { IsBootable kept.now }
     ensures storable { All IsStored kept.now.objects }

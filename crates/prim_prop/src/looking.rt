@@ -56,18 +56,26 @@ fn as_item(alloc: Global, value: Option<&PropValue>) -> Result<Value, NoMemory>
 fn as_text(alloc: Global, value: Option<&PropValue>) -> Result<Value, NoMemory>
     ensures { IfOk result (λ v. view v ≡ as_text (option_copied value.entry)) }
 {
-    match value {
-        Some(PropValue::Text(line)) => text_item(alloc, line.copy(alloc)?),
-        _ => text_item(alloc, Line::of_text(alloc, b"")?),
+    let text = match value {
+        Some(value) => value.text(),
+        None => None,
+    };
+    match text {
+        Some(line) => text_item(alloc, line.copy(alloc)?),
+        None => text_item(alloc, Line::of_text(alloc, b"")?),
     }
 }
 
 fn as_number(value: Option<&PropValue>) -> Value
     ensures { view result ≡ as_number (option_copied value.entry) }
 {
-    match value {
-        Some(PropValue::Number(number)) => Value::Int(*number),
-        _ => Value::Int(0),
+    let number = match value {
+        Some(value) => value.number(),
+        None => None,
+    };
+    match number {
+        Some(number) => Value::Int(number),
+        None => Value::Int(0),
     }
 }
 

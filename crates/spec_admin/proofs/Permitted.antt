@@ -33,7 +33,7 @@ use Rattle.spec_commands.proofs.Lawful.{Lawful, lawful_with, open_quiet, open_en
 use Rattle.spec_commands.proofs.Permitted.{Leading, leading_found}
 use Rattle.muck_queue.specs.declared.process.Process.{Process}
 use Rattle.muck_queue.specs.Queues.{Queue}
-use Rattle.spec_admin.specs.declared.word.Parameter.{Parameter}
+use Rattle.muck_model.specs.declared.tune.Parameter.{Parameter}
 use Rattle.spec_admin.specs.declared.word.AdminWord.{AdminWord}
 use Rattle.spec_admin.specs.declared.word.AdminWord.TheVariants.{Processes, Kill, Tune as TuneWord, Boot, NewPlayer, NewPassword}
 use Rattle.spec_admin.specs.Replies.{killed_reply, booted_reply, password_reply}
@@ -62,9 +62,9 @@ quiet_kill_told d a q text = at (process_meant text q)
 
 -- And so does what is told of the parameters. Who sets one leaves that to what follows.
 
-quiet_parameter_shown : (d : ℕ) (tune : Tune) (row : List ℕ × Parameter) → Quiet (parameter_shown d tune row)
+quiet_parameter_shown : (d : ℕ) (tune : Tune) (p : Parameter) → Quiet (parameter_shown d tune p)
 unfolding parameter_shown
-quiet_parameter_shown d tune row = quiet_tell d _
+quiet_parameter_shown d tune p = quiet_tell d _
 
 quiet_parameters_shown : (d : ℕ) → Quiet (parameters_shown d)
 unfolding parameters_shown

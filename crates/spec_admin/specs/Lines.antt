@@ -3,6 +3,8 @@ use Rattle.std.specs.Prelude.{ℕ, ◌||◌, List, [], ◌∷◌, ◌++◌, code
 use Rattle.std.specs.Option.{option_map_or}
 use Rattle.muck_model.specs.declared.dbref.Dbref.{Dbref}
 use Rattle.muck_model.specs.declared.tune.Tune.{Tune}
+use Rattle.muck_model.specs.declared.tune.Parameter.{Parameter}
+use Rattle.muck_model.specs.Parameters.{row_of, parameters, parameter_of}
 use Rattle.spec_live.specs.Lives.{Live, Change, ◌▸◌, reading, either, tell, tell_all, name_at}
 use Rattle.spec_rights.specs.declared.act.Actor.{Actor}
 use Rattle.spec_rights.specs.declared.act.Act.TheVariants.{Wizard}
@@ -20,11 +22,10 @@ use Rattle.spec_commands.specs.Programming.{over, over_denied}
 use Rattle.spec_commands.specs.Reading.{looked_up, is_empty, has_full, left_part, right_part, incomplete, shaped, by_table}
 use Rattle.muck_queue.specs.declared.process.Process.{Process}
 use Rattle.muck_queue.specs.Queues.{Queue, without}
-use Rattle.spec_admin.specs.declared.word.Parameter.{Parameter}
 use Rattle.spec_admin.specs.declared.word.AdminWord.{AdminWord}
 use Rattle.spec_admin.specs.declared.word.AdminWord.TheVariants.{Processes, Kill, Tune as TuneWord, Boot, Wall, NewPlayer, NewPassword, Dump, Shutdown}
 use Rattle.spec_admin.specs.Replies.{parameter_line, parameter_reply, bad_parameter, booted_reply, shouts, dumping, going_down}
-use Rattle.spec_admin.specs.Parameters.{parameters, parameter_of, retuned}
+use Rattle.spec_admin.specs.Parameters.{retuned}
 use Rattle.spec_admin.specs.Processes.{processes_shown, kill_told, killed}
 use Rattle.spec_admin.specs.Players.{player_made, password_changed}
 
@@ -34,8 +35,8 @@ use Rattle.spec_admin.specs.Players.{player_made, password_changed}
 abbrev pub by_wizard : ℕ → Actor → Play → Play
 by_wizard d a go = asked a Wizard (over_denied d) go
 
-unfoldable pub parameter_shown : ℕ → Tune → List ℕ × Parameter → Change
-parameter_shown d tune row = tell d (parameter_line row.0 (parameter_of row.1 tune))
+unfoldable pub parameter_shown : ℕ → Tune → Parameter → Change
+parameter_shown d tune p = tell d (parameter_line (row_of p).name (parameter_of p tune))
 
 -- a line for each parameter
 unfoldable pub parameters_shown : ℕ → Change

@@ -18,7 +18,7 @@ use Rattle.spec_mpi.proofs.Leave.{heard_touches}
 use Rattle.spec_rights.proofs.Shown.{quiet_tell, quiet_tell_others}
 use Rattle.spec_mpi.proofs.Deeds.{touching_order, notes_quiet}
 use Rattle.spec_commands.specs.declared.typed.Typed.{Typed}
-use Rattle.spec_commands.specs.declared.word.Message.{Message}
+use Rattle.spec_live.specs.declared.message.Message.{Message}
 use Rattle.spec_commands.proofs.Showing.{quiet_shown_others, quiet_listed}
 use Rattle.spec_commands.specs.Messages.{message_how, spoken, spoken_some, with_message}
 use Rattle.spec_commands.specs.Going.{both_shown}

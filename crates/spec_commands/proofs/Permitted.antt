@@ -16,8 +16,8 @@ use Rattle.spec_commands.specs.declared.outcome.Outcome.{Outcome}
 use Rattle.spec_commands.specs.declared.outcome.Outcome.TheVariants.{Done, NotMine}
 use Rattle.spec_commands.specs.declared.word.PlayWord.{PlayWord}
 use Rattle.spec_commands.specs.declared.word.PlayWord.TheVariants.{Look, Say, Pose, Go, Get, Drop, Home}
-use Rattle.spec_commands.specs.declared.word.Message.{Message}
-use Rattle.spec_commands.specs.declared.word.Message.TheVariants.{Describe, Success, OthersSuccess, Fail, OthersFail, Drop as DropMessage, OthersDrop}
+use Rattle.spec_live.specs.declared.message.Message.{Message}
+use Rattle.spec_live.specs.declared.message.Message.TheVariants.{Describe, Success, OthersSuccess, Fail, OthersFail, Drop as DropMessage, OthersDrop}
 use Rattle.spec_commands.specs.declared.word.BuildWord.{BuildWord}
 use Rattle.spec_commands.specs.declared.shape.Shape.{Shape}
 use Rattle.spec_commands.specs.declared.shape.Arguments.{Arguments}
@@ -64,7 +64,7 @@ play_lawful a own may d typed command args = record { licence = play_open a own 
 
 -- What builders do.
 
-message_guarded : (message : Message) → is_guarded (class_of (message_path (message_name message))) ≡ true
+pub message_guarded : (message : Message) → is_guarded (class_of (message_path (message_name message))) ≡ true
 message_guarded Describe = refl
 message_guarded Success = refl
 message_guarded OthersSuccess = refl

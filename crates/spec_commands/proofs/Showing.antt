@@ -15,7 +15,7 @@ use Rattle.spec_rights.proofs.Licences.{Quiet, Stays, Whole, whole_told, quiet_u
 use Rattle.spec_mpi.specs.Messages.{heard, variables_of, shown as shown_of, spoken as said_of}
 use Rattle.spec_mpi.proofs.Leave.{stays_heard}
 use Rattle.spec_commands.specs.declared.typed.Typed.{Typed}
-use Rattle.spec_commands.specs.declared.word.Message.{Message}
+use Rattle.spec_live.specs.declared.message.Message.{Message}
 use Rattle.spec_commands.specs.Messages.{message_how, spoken, spoken_some, with_message}
 use Rattle.spec_commands.specs.declared.presence.Presence.{Presence}
 use Rattle.spec_commands.specs.Finding.{each, chosen, finding, named_player, finding_player, where_so, finding_object, shown_others, message_or, message_shown, message_to_others, listed, listed_under, room_shown, looked, owner_shown}

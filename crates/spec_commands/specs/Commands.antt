@@ -1,5 +1,5 @@
 -- A line of a player.
-use Rattle.std.specs.Prelude.{ℕ, Bool, false, true, ◌||◌, ◌==◌, if◌then◌else◌, List, [], ◌∷◌, codes, Option, Some, None}
+use Rattle.std.specs.Prelude.{ℕ, Bool, false, true, ◌||◌, ◌==◌, if◌then◌else◌, List, [], ◌∷◌, ◌++◌, map, codes, Option, Some, None}
 use Rattle.muck_match.specs.declared.exits.ExitHit.{ExitHit}
 use Rattle.muck_match.specs.Exits.{exit_for}
 use Rattle.spec_live.specs.Objects.{dbref_of, nothing}
@@ -16,7 +16,8 @@ use Rattle.spec_commands.specs.declared.shape.Shape.{Shape}
 use Rattle.spec_commands.specs.declared.shape.Arguments.{Arguments}
 use Rattle.spec_commands.specs.declared.word.PlayWord.{PlayWord}
 use Rattle.spec_commands.specs.declared.word.PlayWord.TheVariants.{Look, Say, Pose, Page, Whisper, Go, Get, Drop, Inventory, Home, Examine, Who, Quit}
-use Rattle.spec_commands.specs.declared.word.Message.TheVariants.{Describe, Success, OthersSuccess, Fail, OthersFail, Drop as DropMessage, OthersDrop}
+use Rattle.spec_live.specs.declared.message.Message.{Message}
+use Rattle.spec_live.specs.Messages.{row_of, messages}
 use Rattle.spec_commands.specs.declared.word.BuildWord.{BuildWord}
 use Rattle.spec_commands.specs.declared.word.BuildWord.TheVariants.{Dig, Create, Open, Action, Link, Unlink, Name, Set, Lock, Unlock, Teleport, Recycle, Chown, Assign, Find, Program, Edit, List as ListWord, Run}
 use Rattle.spec_commands.specs.Texts.{first_word, other_words, trimmed}
@@ -104,8 +105,9 @@ play_line d a (b ∷ line) =
 
 -- What builders do.
 
-unfoldable pub build_words : List (List ℕ × BuildWord)
-build_words =
+-- but for messages
+unfoldable pub build_own : List (List ℕ × BuildWord)
+build_own =
     (codes "@dig", Dig) ∷
     (codes "@create", Create) ∷
     (codes "@open", Open) ∷
@@ -113,13 +115,6 @@ build_words =
     (codes "@link", Link) ∷
     (codes "@unlink", Unlink) ∷
     (codes "@name", Name) ∷
-    (codes "@describe", Set Describe) ∷
-    (codes "@success", Set Success) ∷
-    (codes "@osuccess", Set OthersSuccess) ∷
-    (codes "@fail", Set Fail) ∷
-    (codes "@ofail", Set OthersFail) ∷
-    (codes "@drop", Set DropMessage) ∷
-    (codes "@odrop", Set OthersDrop) ∷
     (codes "@lock", Lock) ∷
     (codes "@unlock", Unlock) ∷
     (codes "@teleport", Teleport) ∷
@@ -132,6 +127,13 @@ build_words =
     (codes "@list", ListWord) ∷
     (codes "@run", Run) ∷
     []
+
+-- the word of a message sets it
+abbrev pub set_word : Message → List ℕ × BuildWord
+set_word m = ((row_of m).word, Set m)
+
+unfoldable pub build_words : List (List ℕ × BuildWord)
+build_words = build_own ++ map set_word messages
 
 -- how each takes the text behind its word
 abbrev pub build_shape : BuildWord → Shape

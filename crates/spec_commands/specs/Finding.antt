@@ -16,8 +16,8 @@ use Rattle.spec_rights.specs.declared.act.Actor.{Actor}
 use Rattle.spec_live.specs.Worth.{lock_text}
 use Rattle.spec_rights.specs.Levels.{command_level, controls_as, flag_at, name_shown, owner_at}
 use Rattle.spec_commands.specs.declared.typed.Typed.{Typed}
-use Rattle.spec_commands.specs.declared.word.Message.{Message}
-use Rattle.spec_commands.specs.declared.word.Message.TheVariants.{Describe}
+use Rattle.spec_live.specs.declared.message.Message.{Message}
+use Rattle.spec_live.specs.declared.message.Message.TheVariants.{Describe}
 use Rattle.spec_commands.specs.Replies.{not_understood, not_known, contents_head, cant_be_done, nothing_special, owner_line, lock_line}
 use Rattle.spec_commands.specs.Messages.{with_message}
 pub use Rattle.spec_commands.specs.Messages.{message_path}

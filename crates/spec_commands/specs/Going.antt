@@ -17,8 +17,8 @@ use Rattle.spec_rights.specs.Changing.{moved_to}
 use Rattle.spec_commands.specs.declared.outcome.Outcome.{Outcome}
 use Rattle.spec_commands.specs.declared.outcome.Outcome.TheVariants.{Done, Start}
 use Rattle.spec_commands.specs.declared.typed.Typed.{Typed}
-use Rattle.spec_commands.specs.declared.word.Message.{Message}
-use Rattle.spec_commands.specs.declared.word.Message.TheVariants.{Success, OthersSuccess, Fail, OthersFail, Drop, OthersDrop}
+use Rattle.spec_live.specs.declared.message.Message.{Message}
+use Rattle.spec_live.specs.declared.message.Message.TheVariants.{Success, OthersSuccess, Fail, OthersFail, Drop, OthersDrop}
 use Rattle.spec_commands.specs.Replies.{cant_be_done, cant_go, cant_take, has_left, has_arrived, carrying_head, carrying_nothing, taken_reply, dropped_reply}
 use Rattle.spec_commands.specs.Finding.{where_so, is_room_at, is_so, message_or, message_shown, message_to_others, shown_others, listed_under, looked}
 

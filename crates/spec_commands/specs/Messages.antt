@@ -6,28 +6,16 @@ use Rattle.spec_rights.specs.declared.act.Actor.{Actor}
 use Rattle.spec_live.specs.Worth.{message_at}
 use Rattle.spec_mpi.specs.Messages.{spoken as said_of}
 use Rattle.spec_commands.specs.declared.typed.Typed.{Typed}
-use Rattle.spec_commands.specs.declared.word.Message.{Message}
-use Rattle.spec_commands.specs.declared.word.Message.TheVariants.{Describe, Success, OthersSuccess, Fail, OthersFail, Drop, OthersDrop}
+use Rattle.spec_live.specs.declared.message.Message.{Message}
+use Rattle.spec_live.specs.Messages.{row_of}
 
--- The seven messages: the word of each in its path, and how it is called where it is spoken.
+-- The last part of the path of a message, and how it is called where it is spoken.
 
 abbrev pub message_name : Message → List ℕ
-message_name Describe = codes "de"
-message_name Success = codes "sc"
-message_name OthersSuccess = codes "osc"
-message_name Fail = codes "fl"
-message_name OthersFail = codes "ofl"
-message_name Drop = codes "dr"
-message_name OthersDrop = codes "odr"
+message_name m = (row_of m).name
 
 abbrev pub message_how : Message → List ℕ
-message_how Describe = codes "(@desc)"
-message_how Success = codes "(@succ)"
-message_how OthersSuccess = codes "(@osucc)"
-message_how Fail = codes "(@fail)"
-message_how OthersFail = codes "(@ofail)"
-message_how Drop = codes "(@drop)"
-message_how OthersDrop = codes "(@odrop)"
+message_how m = (row_of m).how
 
 abbrev pub message_path : List ℕ → List (List ℕ)
 message_path word = codes "_" ∷ word ∷ []

@@ -25,7 +25,7 @@ use Rattle.spec_mpi.proofs.Deeds.{touching_order, notes_quiet}
 use Rattle.spec_commands.specs.declared.outcome.Outcome.{Outcome}
 use Rattle.spec_commands.specs.declared.outcome.Outcome.TheVariants.{Done}
 use Rattle.spec_commands.specs.declared.typed.Typed.{Typed}
-use Rattle.spec_commands.specs.declared.word.Message.TheVariants.{Fail, OthersFail}
+use Rattle.spec_live.specs.declared.message.Message.TheVariants.{Fail, OthersFail}
 use Rattle.spec_commands.specs.declared.word.PlayWord.{PlayWord}
 use Rattle.spec_commands.specs.declared.word.PlayWord.TheVariants.{Say, Pose, Go, Get}
 use Rattle.spec_commands.specs.Commands.{play_words, play_shape, play_done, line_typed, begins_with_sign, signed, play_line, build_line, or_next, or_else, commanded, through, played}

@@ -4,8 +4,9 @@ use Rattle.std.specs.Prelude.{not, nat_le, nat_lt, ◌&&◌, if◌then◌else◌
 use Rattle.muck_model.specs.declared.event.Entry.{Entry}
 use Rattle.muck_model.specs.declared.event.Event.TheVariants.{Cut, Stored, DumpFailed}
 use Rattle.muck_model.specs.declared.note.Note.{Note}
+use Rattle.muck_model.specs.Parameters.{parameters}
 use Rattle.spec_live.specs.Saving.{all_saving}
-use Rattle.muck_codec.specs.Batches.{batch_bytes, tune_bytes, four_bytes}
+use Rattle.muck_codec.specs.Batches.{batch_bytes, tune_bytes}
 use Rattle.muck_store.specs.Forms.{persist, stored_from}
 use Rattle.muck_log.specs.Append.{more_of, payload_of}
 use Rattle.muck_log.specs.Body.{body_bytes, magic}
@@ -37,7 +38,7 @@ unfolding stored picked file_of is_open
 none_stored = refl
 
 small : end_with empty (at_cut bare (by_porter (Cut 1) ∷ [])) < file_most
-unfolding last_cut booted effect all_saving target opens_new begin more_of next_body body_bytes magic after_number payload_of written start batch_bytes tune_bytes four_bytes persist stored_from file_most
+unfolding last_cut booted effect all_saving target opens_new begin more_of next_body body_bytes magic after_number payload_of written start batch_bytes tune_bytes parameters persist stored_from file_most
 small = lit< tt
 
 no_cause : HasCause nothing_left true true bare 0 (by_porter (Cut 1) ∷ by_porter (DumpFailed 1) ∷ []) one_dump 0 (quiet_note 1 1) (quiet_note 0 0) → ⊥

@@ -43,7 +43,7 @@ use Rattle.muck_queue.specs.declared.process.Process.{Process}
 use Rattle.muck_queue.specs.Queues.{reader, on_process, told_line, without}
 use Rattle.spec_commands.proofs.Numbered.{numbers, numbers-ties, numbers-same_ties, leavers_ties, leavers_both, Seating}
 use Rattle.spec_commands.proofs.Lines.{seating_at_login}
-use Rattle.spec_admin.specs.Parameters.{IsInRange}
+use Rattle.muck_model.specs.Parameters.{IsInRange}
 use Rattle.spec_events.specs.World.{World, on_live, on_queue}
 use Rattle.spec_events.specs.Dumping.{resaved}
 use Rattle.spec_events.specs.Following.{swept, settled}

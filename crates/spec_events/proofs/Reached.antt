@@ -1,5 +1,5 @@
 -- Lawful entries lead from sound worlds to sound worlds.
-use Rattle.std.proofs.Common.{◌≡◌, ℕ, ◌<◌, ◌≤◌, lit≤, Bool, true, false, not, ◌&&◌, ◌||◌, cond, List, [], ◌∷◌, length, refl, sym, ◌∙◌, ap, subst, arith, Option, Some, None, ltb, ◌==◌, ◌≢◌}
+use Rattle.std.proofs.Common.{◌≡◌, ℕ, ◌<◌, ◌≤◌, Bool, true, false, not, ◌&&◌, ◌||◌, cond, List, [], ◌∷◌, length, refl, sym, ◌∙◌, ap, subst, arith, Option, Some, None, ltb, ◌==◌, ◌≢◌}
 use Rattle.std.proofs.lemmas.Bool.Decides.{nat_tests}
 use Rattle.std.proofs.lemmas.Bool.{cond-true, cond-false, ltb-true, ltb-false, and_parts, eq-eqb}
 use Rattle.std.specs.Prelude.{find, is_none, is_some, nat_lt, nat_le}
@@ -18,8 +18,8 @@ use Rattle.spec_live.specs.Boards.{Board, player_in, opened, closed, line_added,
 use Rattle.spec_live.specs.Lives.{Live, Change, followed, reading, on_board}
 use Rattle.spec_live.proofs.Steps.{Walk}
 use Rattle.spec_live.proofs.Walks.{walk_stored, walk_failed}
-use Rattle.spec_admin.specs.declared.word.Parameter.TheVariants.{InstrSlice, PreemptUnits, M1Units, M2Units, ProcessLimit, PlayerProcesses, MpiCommands, DumpInterval}
-use Rattle.spec_admin.specs.Parameters.{IsInRange}
+use Rattle.muck_model.specs.Parameters.{IsInRange}
+use Rattle.muck_model.proofs.Parameters.{in_range, first_fits}
 use Rattle.spec_commands.specs.Talk.{welcome, parted, gone_away}
 use Rattle.spec_commands.specs.inner.Rising.{IsAbove, IsRising}
 use Rattle.spec_rights.proofs.Shown.{loose_one}
@@ -255,18 +255,6 @@ pub sound-booted : (objects : List Kept) (tune : Tune) (moment start : ℕ) → 
 unfolding booted early_board
 sound-booted objects tune moment start h = record { alive = refl; rising = tt; tuned = h }
 
--- what is tuned at first is in its range
-pub first_in_range : IsInRange first_tune
-unfolding first_tune
-first_in_range InstrSlice = (lit≤ tt, lit≤ tt)
-first_in_range PreemptUnits = (lit≤ tt, lit≤ tt)
-first_in_range M1Units = (lit≤ tt, lit≤ tt)
-first_in_range M2Units = (lit≤ tt, lit≤ tt)
-first_in_range ProcessLimit = (lit≤ tt, lit≤ tt)
-first_in_range PlayerProcesses = (lit≤ tt, lit≤ tt)
-first_in_range MpiCommands = (lit≤ tt, lit≤ tt)
-first_in_range DumpInterval = (lit≤ tt, lit≤ tt)
-
 pub sound-starting : IsSound starting
 unfolding starting
-sound-starting = sound-booted first_objects first_tune 0 0 first_in_range
+sound-starting = sound-booted first_objects first_tune 0 0 (in_range first_tune first_fits)

@@ -7,6 +7,7 @@ use Rattle.rand_pcg.specs.Pcg.{pcg32, pcg32_of_seed}
 use Rattle.muck_model.specs.declared.dbref.Dbref.{Dbref}
 use Rattle.muck_model.specs.declared.edit.EditState.{EditState}
 use Rattle.muck_model.specs.declared.tune.Tune.{Tune}
+pub use Rattle.muck_model.specs.Parameters.{first_tune}
 use Rattle.spec_live.specs.Output.{bytes_of, taken}
 use Rattle.spec_live.specs.Connections.{Connection, has_number, changed_in, placed, without, newcomer, told, left, seated, lined, edited, edits, edited_where, is_of, hears, told_where, left_where, has_player}
 
@@ -14,18 +15,6 @@ pub record Board : Type 0 where
   pub connections : List Connection
   pub random : Lcg
   pub tune : Tune
-
-unfoldable pub first_tune : Tune
-first_tune = record {
-  instr_slice = 2000;
-  preempt_units = 20000;
-  m1_units = 20000;
-  m2_units = 80000;
-  process_limit = 400;
-  player_processes = 32;
-  mpi_commands = 2048;
-  dump_interval = 900;
-}
 
 -- the random numbers that begin so
 unfoldable pub random_from : ℕ → Lcg

@@ -13,6 +13,7 @@ pub mod Marks
 pub mod Consistent
 pub mod Seen
 pub mod Worth
+pub mod Messages
 pub mod Start
 pub mod Output
 pub mod Connections

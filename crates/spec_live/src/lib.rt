@@ -7,6 +7,7 @@
 mod fault;
 mod flag;
 mod mark;
+mod message;
 mod moved;
 mod object;
 mod paths;
@@ -18,6 +19,7 @@ pub use flag::{
     BUILDER, CHOWN, DARK, HAVEN, JUMP, LINK, QUELL, SETUID, VEHICLE, WIZARD, flag_of, has_flag,
 };
 pub use mark::{Changed, Mark};
+pub use message::{Message, MessageRow};
 pub use moved::Move;
 pub use object::Object;
 pub use paths::paths_agree;

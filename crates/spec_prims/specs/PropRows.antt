@@ -9,7 +9,7 @@ use Rattle.muck_prop.specs.declared.value.PropValue.{PropValue}
 use Rattle.muck_prop.specs.declared.value.PropValue.TheVariants.{Text, Number}
 use Rattle.muck_prop.specs.Paths.{is_slash, path_fault, path_text, segments_of}
 use Rattle.muck_prop.specs.Order.{child}
-use Rattle.muck_prop.specs.Store.{is_dir, next_among}
+use Rattle.muck_prop.specs.Store.{kept_text, kept_number, is_dir, next_among}
 use Rattle.spec_live.specs.declared.object.Object.{Object}
 use Rattle.spec_live.specs.Objects.{object_at}
 use Rattle.spec_live.specs.Seen.{places_of}
@@ -50,12 +50,10 @@ as_item (Some (Number n)) = int n
 as_item None = int (pos 0)
 
 abbrev pub as_text : Option PropValue → Datum
-as_text (Some (Text t)) = text t
-as_text value = text []
+as_text value = option_map_or text (option_and_then kept_text value) (text [])
 
 abbrev pub as_number : Option PropValue → Datum
-as_number (Some (Number n)) = int n
-as_number value = int (pos 0)
+as_number value = option_map_or int (option_and_then kept_number value) (int (pos 0))
 
 -- whether it has properties below a path
 abbrev pub has_below : Option Object → List (List ℕ) → Datum

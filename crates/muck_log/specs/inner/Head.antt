@@ -1,7 +1,6 @@
-use Rattle.std.specs.Prelude.{◌≡◌, ℕ, ◌+◌, Bool, true, false, Option, Some, None, List, option_map, Result, Ok, Err, not, ◌<◌, ◌≤◌, ◌^◌}
+use Rattle.std.specs.Prelude.{◌≡◌, ℕ, ◌+◌, Bool, true, false, Option, Some, None, List, option_map, Result, Ok, Err, not, ◌≤◌}
 use Rattle.muck_log.specs.Body.{Body, body_of}
 use Rattle.muck_log.specs.World.{World, laid, laid_over, placed, all_placed, judged_world, IsFine}
-use Rattle.muck_model.specs.declared.tune.Tune.{Tune}
 use Rattle.muck_codec.specs.declared.stored.Batch.{Batch}
 use Rattle.muck_codec.specs.declared.stored.Stored.{Stored}
 use Rattle.muck_log.specs.File.{Reading, join, ending}
@@ -23,11 +22,6 @@ IsLaid false payload old new = laid payload old ≡ None
 abbrev pub IsPut : Bool → Batch → World → World → Type 0
 IsPut true batch old new = laid_over batch old ≡ judged_world new.tune new.objects
 IsPut false batch old new = laid_over batch old ≡ None
-
--- each parameter is a number of 32 bits
-abbrev pub HasWords : Tune → Type 0
-HasWords t = ((t.instr_slice < 2 ^ 32) × ((t.preempt_units < 2 ^ 32) × ((t.m1_units < 2 ^ 32) × (t.m2_units < 2 ^ 32))))
-    × ((t.process_limit < 2 ^ 32) × ((t.player_processes < 2 ^ 32) × ((t.mpi_commands < 2 ^ 32) × (t.dump_interval < 2 ^ 32))))
 
 -- the record is in its place, or has none
 abbrev pub IsPlaced : Bool → Stored → List Stored → List Stored → Type 0

@@ -2,6 +2,7 @@
 use Rattle.std.specs.Prelude.{◌≡◌, ℕ, ℤ, pos, true, false, List, [], ◌∷◌, map, refl, codes, Some, None}
 use Rattle.std.specs.Option.{option_map_or}
 use Rattle.muck_model.specs.declared.tune.Tune.{Tune}
+use Rattle.muck_model.specs.Parameters.{first_tune}
 use Rattle.spec_live.specs.Objects.{dbref_of, nothing}
 use Rattle.muf_model.specs.declared.code.Closer.TheVariants.{Semicolon}
 use Rattle.muf_model.specs.Datum.{Datum, int, text}
@@ -114,16 +115,7 @@ added_row = refl
 
 -- this many in all, and this many of a player
 abbrev pub limits : ℕ → ℕ → Tune
-limits most own = record {
-  instr_slice = 1;
-  preempt_units = 1;
-  m1_units = 1;
-  m2_units = 1;
-  process_limit = most;
-  player_processes = own;
-  mpi_commands = 1;
-  dump_interval = 1;
-}
+limits most own = record first_tune { process_limit = most; player_processes = own }
 
 abbrev pub of_two : Queue
 of_two = record { processes = sample (pos 1) 5 ∷ of_player 2 (sample (pos 2) 5) ∷ []; last = pos 2; claims = [] }

@@ -6,7 +6,7 @@ use Rattle.muck_model.specs.declared.note.Note.{Note}
 use Rattle.muck_store.specs.Forms.{loaded}
 use Rattle.muck_store.specs.Limits.{fits}
 use Rattle.muck_store.specs.Whole.{is_whole}
-use Rattle.muck_log.specs.World.{World as Kept, tune_fits}
+use Rattle.muck_log.specs.World.{World as Kept}
 use Rattle.muck_log.specs.Store.{LogState, stored}
 use Rattle.muck_log.specs.declared.fault.LogFault.{LogFault}
 use Rattle.muck_log.specs.declared.fault.LogFault.TheVariants.{NoMemory as LogMemory, DiskFault as LogDisk, Damaged as LogDamaged, StoreFull as LogFull, Stale}

@@ -34,7 +34,8 @@ use Rattle.muck_queue.specs.declared.mode.Mode.TheVariants.{Background}
 use Rattle.muck_queue.specs.declared.mode.Wait.TheVariants.{Nothing}
 use Rattle.muck_queue.specs.declared.process.Process.{Process}
 use Rattle.muck_queue.specs.Queues.{Queue}
-use Rattle.spec_admin.specs.Parameters.{parameters, retuned}
+use Rattle.muck_model.specs.Parameters.{parameters}
+use Rattle.spec_admin.specs.Parameters.{retuned}
 use Rattle.spec_admin.specs.Replies.{process_line, processes_count, killed_reply, no_process, parameter_line, parameter_reply, bad_parameter, booted_reply, shouts, password_reply, dumping, going_down}
 use Rattle.spec_admin.specs.Processes.{process_shown, processes_shown, kill_told}
 use Rattle.spec_admin.specs.Players.{password_most, password_drawn, player_put, player_made, password_changed}

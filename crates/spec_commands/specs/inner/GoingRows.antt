@@ -22,8 +22,8 @@ use Rattle.spec_rights.specs.Verdict.{when, or_else, verdict}
 use Rattle.spec_rights.specs.Asking.{answered, asked}
 use Rattle.spec_rights.specs.Changing.{moved_to}
 use Rattle.spec_commands.specs.declared.typed.Typed.{Typed}
-use Rattle.spec_commands.specs.declared.word.Message.{Message}
-use Rattle.spec_commands.specs.declared.word.Message.TheVariants.{Success, OthersSuccess}
+use Rattle.spec_live.specs.declared.message.Message.{Message}
+use Rattle.spec_live.specs.declared.message.Message.TheVariants.{Success, OthersSuccess}
 use Rattle.spec_commands.specs.Messages.{message_name, message_path, spoken_some, with_message}
 use Rattle.spec_commands.specs.Replies.{taken_reply}
 use Rattle.spec_commands.specs.Finding.{is_so, message_shown, message_to_others, shown_others}

@@ -29,7 +29,8 @@ use Rattle.spec_commands.specs.Going.{ended}
 use Rattle.spec_commands.specs.Building.{is_name, created_shown}
 use Rattle.spec_commands.specs.Programming.{lines_shown, program_put, program_new, program_made, program_edited, program_listed, program_run}
 use Rattle.spec_commands.specs.Reading.{incomplete, judged, sought, with_fit, with_parts, with_arguments, by_table}
-use Rattle.spec_commands.specs.Commands.{build_words, build_done, build_line}
+use Rattle.spec_live.specs.Messages.{messages}
+use Rattle.spec_commands.specs.Commands.{build_own, build_words, build_done, build_line}
 use Rattle.spec_commands.specs.inner.Company.{company, queues}
 use Rattle.spec_commands.specs.inner.EditRows.{desk, one, two}
 
@@ -72,5 +73,5 @@ ProgramRows =
     × (typed one 1 (codes "@programs ed") ≡ ([] ∷ [], NotMine))
 
 pub rows : ProgramRows
-unfolding ProgramRows follower number_named is_same begins_with has_word placed aliases numbers sight_place things_in exit_order is_there fits answers objects_near near named if_there found_by_sign found sent_lines queue_most lines_bytes line_sent lines_sent sent object_at number_in kind_in flags_in place_in object_in list_in is_vehicle_in fits_in changed_at garbage walk has without objects_most free_in blank_entry grown new_object created may_make make_judged owner_judged create_check set_down moved next_in links_in due_from relinked room_zero player_one scenery_of listed_in places_of flag_letters long_form early_board told_one followed reading either unchanged tell level_at owner_at flag_at owns controls_as controls controls_or asked denied_text refused created_so bad_name cant_be_done usage created_reply not_understood entering_editor finding where_so is_so ended is_name created_shown lines_shown program_put program_new program_made program_edited program_listed program_run incomplete judged sought with_fit with_parts with_arguments by_table build_words build_done build_line decimal_of digits
+unfolding ProgramRows follower number_named is_same begins_with has_word placed aliases numbers sight_place things_in exit_order is_there fits answers objects_near near named if_there found_by_sign found sent_lines queue_most lines_bytes line_sent lines_sent sent object_at number_in kind_in flags_in place_in object_in list_in is_vehicle_in fits_in changed_at garbage walk has without objects_most free_in blank_entry grown new_object created may_make make_judged owner_judged create_check set_down moved next_in links_in due_from relinked room_zero player_one scenery_of listed_in places_of flag_letters long_form early_board told_one followed reading either unchanged tell level_at owner_at flag_at owns controls_as controls controls_or asked denied_text refused created_so bad_name cant_be_done usage created_reply not_understood entering_editor finding where_so is_so ended is_name created_shown lines_shown program_put program_new program_made program_edited program_listed program_run incomplete judged sought with_fit with_parts with_arguments by_table build_own build_words messages build_done build_line decimal_of digits
 rows = (refl, refl, refl, refl, refl, refl, refl, refl, refl, refl, refl, refl, refl, refl, refl, refl, refl)

@@ -33,8 +33,8 @@ use Rattle.spec_rights.specs.Changing.{moved_to}
 use Rattle.spec_commands.specs.declared.outcome.Outcome.{Outcome}
 use Rattle.spec_commands.specs.declared.outcome.Outcome.TheVariants.{Done}
 use Rattle.spec_commands.specs.declared.typed.Typed.{Typed}
-use Rattle.spec_commands.specs.declared.word.Message.{Message}
-use Rattle.spec_commands.specs.declared.word.Message.TheVariants.{Success, OthersSuccess, Drop, OthersDrop, Describe}
+use Rattle.spec_live.specs.declared.message.Message.{Message}
+use Rattle.spec_live.specs.declared.message.Message.TheVariants.{Success, OthersSuccess, Drop, OthersDrop, Describe}
 use Rattle.spec_commands.specs.Messages.{message_name, message_path, spoken_some, with_message}
 use Rattle.spec_commands.specs.Replies.{cant_go, has_left, has_arrived, contents_head}
 use Rattle.spec_commands.specs.Finding.{is_so, message_shown, message_to_others, shown_others, listed, listed_under, seen_in, room_shown, looked}

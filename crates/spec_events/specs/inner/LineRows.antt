@@ -20,10 +20,12 @@ use Rattle.spec_commands.specs.Replies.{huh}
 use Rattle.spec_commands.specs.Finding.{actor_of, where_so}
 use Rattle.spec_commands.specs.Going.{ended}
 use Rattle.spec_commands.specs.Reading.{with_fit, with_parts, with_arguments, by_table}
-use Rattle.spec_commands.specs.Commands.{play_words, play_line, build_words, build_line, or_else, commanded, played}
+use Rattle.spec_live.specs.Messages.{messages}
+use Rattle.spec_commands.specs.Commands.{play_words, play_line, build_own, build_words, build_line, or_else, commanded, played}
 use Rattle.spec_commands.specs.inner.Company.{queues}
 use Rattle.muck_queue.specs.Queues.{empty_queue, number_most, is_full, added, without}
-use Rattle.spec_admin.specs.Parameters.{parameters, retuned}
+use Rattle.muck_model.specs.Parameters.{parameters}
+use Rattle.spec_admin.specs.Parameters.{retuned}
 use Rattle.spec_admin.specs.Replies.{killed_reply, parameter_reply, dumping, going_down}
 use Rattle.spec_admin.specs.Processes.{kill_told}
 use Rattle.spec_admin.specs.Lines.{parameter_set, tune_done, admin_words, admin_done, admin_line, line_ends, after_line}
@@ -60,5 +62,5 @@ LineRows =
     × ((by 1 (codes "@tune instr_slice=5") one_runs).live.board.tune.instr_slice ≡ 5)
 
 pub line_rows : LineRows
-unfolding LineRows is_same begins_with has_word placed aliases numbers sight_place things_in exit_order is_there takes rest_behind hits_in runs hits_at hits_on hits exit_for sent_lines queue_most lines_bytes line_sent lines_sent sent object_at number_in kind_in flags_in place_in object_in list_in is_vehicle_in fits_in changed_at walk has room_zero player_one first_objects scenery_of listed_in places_of first_tune early_board told_one followed reading either unchanged tell actor_of command_level level_at owner_at flag_at owns controls_as controls controls_or asked denied_text refused tuned huh where_so ended with_fit with_parts with_arguments by_table play_words play_line build_words build_line or_else commanded played empty_queue number_most is_full added without parameters retuned killed_reply parameter_reply dumping going_down kill_told parameter_set tune_done admin_words admin_done admin_line line_ends after_line booted starting swept settled new_process by_keeper typed left_by in_world decimal_of digits
+unfolding LineRows is_same begins_with has_word placed aliases numbers sight_place things_in exit_order is_there takes rest_behind hits_in runs hits_at hits_on hits exit_for sent_lines queue_most lines_bytes line_sent lines_sent sent object_at number_in kind_in flags_in place_in object_in list_in is_vehicle_in fits_in changed_at walk has room_zero player_one first_objects scenery_of listed_in places_of first_tune early_board told_one followed reading either unchanged tell actor_of command_level level_at owner_at flag_at owns controls_as controls controls_or asked denied_text refused tuned huh where_so ended with_fit with_parts with_arguments by_table play_words play_line build_own build_words messages build_line or_else commanded played empty_queue number_most is_full added without parameters retuned killed_reply parameter_reply dumping going_down kill_told parameter_set tune_done admin_words admin_done admin_line line_ends after_line booted starting swept settled new_process by_keeper typed left_by in_world decimal_of digits
 line_rows = (refl, refl, refl, refl, refl, refl, refl)
