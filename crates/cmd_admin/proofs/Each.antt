@@ -1,5 +1,5 @@
 -- A change for each of a list, one after another.
-use Rattle.std.proofs.Common.{◌≡◌, ℕ, ◌+◌, ◌<◌, List, ◌∷◌, length, drop, get_or, refl, sym, ◌∙◌, ap, add-one, drop-cons, Result, Ok, Err}
+use Rattle.std.proofs.Common.{◌≡◌, ℕ, List, ◌∙◌, ap, Result, Ok, Err}
 use Rattle.muck_model.specs.declared.memory.NoMemory.{NoMemory}
 use Rattle.muck_model.specs.declared.tune.Tune.{Tune}
 use Rattle.muck_model.specs.declared.tune.Parameter.{Parameter}
@@ -9,12 +9,6 @@ use Rattle.spec_commands.specs.Finding.{each}
 use Rattle.spec_admin.specs.Lines.{parameter_shown, parameters_shown}
 use Rattle.muck_perm.specs.declared.guard.Guard.{Guard}
 use Rattle.muck_perm.specs.inner.Guards.{Did, world_of}
-
--- one of them, and those behind it
-pub split_here : {A : Type 0} (xs : List A) (i : ℕ) (e : A) → i < length xs → e ≡ get_or xs i e → drop i xs ≡ e ∷ drop (i + 1) xs
-split_here xs i e h is =
-    let more : drop i xs ≡ get_or xs i e ∷ drop (i + 1) xs = rw (add-one, drop-cons xs i e) refl in
-    more ∙ ap (λ x. x ∷ drop (i + 1) xs) (sym is)
 
 -- all parameters
 pub all_shown : (d : ℕ) (tune : Tune) (ps : List Parameter) (old new : Guard) (r : Result (Unit {0}) NoMemory) → ps ≡ parameters → tune ≡ (world_of old).board.tune →

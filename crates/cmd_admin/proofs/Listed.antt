@@ -2,6 +2,7 @@
 use Rattle.std.proofs.Common.{◌≡◌, ℕ, ◌+◌, ◌<◌, ◌≤◌, Bool, true, false, List, [], ◌∷◌, length, drop, get_or, Result, Ok, Err, inl, inr, refl, sym, ◌∙◌, ap, subst, arith}
 use Rattle.std.proofs.lemmas.List.{drop_all}
 use Rattle.std.specs.List.{filter}
+use Rattle.laws.proofs.Places.{split_here}
 use Rattle.muck_model.specs.declared.memory.NoMemory.{NoMemory}
 use Rattle.spec_live.specs.Lives.{Live, Change, ◌▸◌, followed, reading, unchanged, tell}
 use Rattle.spec_rights.specs.declared.act.Actor.{Actor}
@@ -14,7 +15,6 @@ use Rattle.muck_perm.specs.declared.guard.Guard.{Guard}
 use Rattle.muck_perm.specs.inner.Guards.{Did, Done, objects_of, world_of}
 use Rattle.muck_perm.proofs.Worlds.{did_both}
 use Rattle.cmd_admin.specs.inner.Shown.{IsShown}
-use Rattle.cmd_admin.proofs.Each.{split_here}
 
 -- these are shown, and how many they and those before them are
 abbrev pub shown_on : ℕ → List Process → ℕ → Change

@@ -1,6 +1,7 @@
 -- What a move does that was allowed, and what showing keeps.
-use Rattle.std.proofs.Common.{◌≡◌, ℕ, Bool, true, false, List, refl, sym, ap, ◌∙◌, Option, Some, None, Result, Ok, Err, OnOk, ◌&&◌, ◌||◌}
+use Rattle.std.proofs.Common.{◌≡◌, ℕ, true, false, List, refl, sym, ap, ◌∙◌, Option, Some, None, Result, Ok, Err, OnOk, ◌&&◌, ◌||◌}
 use Rattle.std.specs.Option.{option_map_or}
+use Rattle.laws.proofs.Truths.{hand_by}
 use Rattle.muck_model.specs.declared.dbref.Dbref.{Dbref}
 use Rattle.muck_model.specs.declared.memory.NoMemory.{NoMemory}
 use Rattle.spec_live.specs.declared.fault.DbFault.{DbFault}
@@ -72,11 +73,6 @@ here_kept pass d a typed mine theirs x y old new leave e =
     ap (λ (p : Dbref). same p (place_of (objects_of new) new.actor.player)) mine ∙ ap (λ (p : Dbref). same (place_of (objects_of old) y) p) theirs ∙ take_allowed (objects_of old) old.actor y leave.2
 
 -- What is carried is at hand.
-
-hand_by : (kind item carried here : Bool) → (item ≡ true → kind ≡ true) → (item && carried) ≡ true → (kind && (carried || here)) ≡ true
-hand_by kind true true here f e = rw (f refl) refl
-hand_by kind true false here f e = cc
-hand_by kind false carried here f e = cc
 
 carried_by : (es : List Entry) (a : Actor) (o : Option Object) → option_map_or (λ (k : Object). (is_thing k.kind || is_program k.kind) && same k.place a.player) o false ≡ true →
     option_map_or (λ (k : Object). at_hand_kind k.kind && (same k.place a.player || same k.place (place_of es a.player))) o false ≡ true

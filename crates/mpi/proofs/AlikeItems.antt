@@ -3,12 +3,15 @@ use Rattle.std.proofs.Common.{◌≡◌, ℕ, ◌+◌, ◌<◌, ◌≤◌, zero,
 use Rattle.std.specs.Prelude.{Result, Ok, Err, Option, Some, None, option_map, not, ◌&&◌, if◌then◌else◌, ◌==◌}
 use Rattle.std.specs.Cmp.Lexicographic.{nat_list_cmp_total}
 use Rattle.std.specs.FinMap.{get, insert, get-insert, get-remove, get_tied, same_map}
-use Rattle.std.specs.List.{slice_split, onto_first, join_with_byte}
+use Rattle.std.specs.List.{slice_split, join_with_byte}
 use Rattle.std.specs.Ordering.{eq_by_cmp, is_eq}
 use Rattle.std.specs.declared.cmp.Ordering.TheVariants.{Less, Equal, Greater}
 use Rattle.std.proofs.lemmas.Bool.{false≢true}
 use Rattle.std.proofs.lemmas.List.{append-nil}
 use Rattle.std.proofs.lemmas.List.Splits.{slice_split-cons_yes, slice_split-cons_no, length-slice_split, join_with_byte-slice_split}
+use Rattle.laws.proofs.Lists.{behind_byte, short_ahead}
+use Rattle.laws.proofs.Tests.{all_head, all_tail}
+use Rattle.laws.proofs.Texts.{behind_onto, join_grown, join_longer}
 use Rattle.mpi.specs.declared.fault.MpiFault.{MpiFault}
 use Rattle.mpi.specs.declared.fault.MpiFault.TheVariants.{Unclosed, UnknownFunction, BadCount, BadValue, TooManyCommands, TooLong, Denied, NoMemory}
 use Rattle.mpi.specs.declared.functions.Keep.{Keep}
@@ -26,7 +29,7 @@ use Rattle.mpi.specs.Variables.{Variables, name_cmp, given_back}
 use Rattle.mpi.specs.inner.Alike.{said, alike_items, answer_alike, transposed}
 use Rattle.muck_model.specs.Bytes.{text_fault, text_most}
 use Rattle.mpi.specs.inner.Written.{is_plain_byte, is_plain}
-use Rattle.mpi.proofs.Inside.{text_short, all_head, all_tail}
+use Rattle.mpi.proofs.Inside.{text_short}
 use Rattle.mpi.proofs.Items.{items_some}
 use Rattle.mpi.proofs.Lengths.{is_short}
 use Rattle.mpi.proofs.Maps.{name_cmp_same}
@@ -48,22 +51,10 @@ pub said_call : (first : ℕ) (more rest body : List ℕ) → (call body, rest) 
 unfolding said
 said_call first more rest body e = said_ahead first more rest (call body) e
 
-behind_byte : (out : List ℕ) (b : ℕ) (o : Option (List ℕ)) → option_map (λ xs. out ++ xs) (option_map (λ xs. b ∷ xs) o) ≡ option_map (λ xs. (out ++ b ∷ []) ++ xs) o
-behind_byte out b None = refl
-behind_byte out b (Some xs) = ap Some (sym (append_assoc out (b ∷ []) xs))
-
 pub said_byte : (out : List ℕ) (first : ℕ) (more rest : List ℕ) (b : ℕ) → (byte b, rest) ≡ first_piece first more
     → option_map (λ xs. out ++ xs) (said (pieces (first ∷ more))) ≡ option_map (λ xs. (out ++ b ∷ []) ++ xs) (said (pieces rest))
 unfolding said
 said_byte out first more rest b e = ap (option_map (λ xs. out ++ xs)) (said_ahead first more rest (byte b) e) ∙ behind_byte out b (said (pieces rest))
-
--- what is said is no longer than the text
-short_ahead : (n : ℕ) (rest_text said_text : List ℕ) (b : ℕ) (o : Option (List ℕ)) → ((rest : List ℕ) → o ≡ Some rest → length rest ≤ n) → option_map (λ xs. b ∷ xs) o ≡ Some said_text → length said_text ≤ suc n
-short_ahead n rest_text said_text b None next e = absurd (let f : None ≡ Some said_text = e in cc)
-short_ahead n rest_text said_text b (Some rest) next e =
-    let f : Some (b ∷ rest) ≡ Some said_text = e in
-    let is : b ∷ rest ≡ said_text = cc in
-    omega (arith, next rest refl, ap length is)
 
 first_short : (n : ℕ) (p : Piece) (rest said_text : List ℕ) → ((xs : List ℕ) → said (pieces_up_to n rest) ≡ Some xs → length xs ≤ n) → said (p ∷ pieces_up_to n rest) ≡ Some said_text → length said_text ≤ suc n
 unfolding said
@@ -281,14 +272,6 @@ none_of text (item ∷ more) isnt =
     (λ i. cond (is_long (as_text (cond (isnt i) (Some item) None))) (Err TooLong) (alike_items keep.Items text (cond (isnt i) (Some item) None) more))
     ∙ ap (λ t. cond t (Err TooLong) (alike_items keep.Items text None more)) (is_short [] (omega arith)) ∙ none_of text more isnt
 
-join_grown : (list item : List ℕ) (more : List (List ℕ)) → join_with_byte 13 ((list ++ 13 ∷ item) ∷ more) ≡ list ++ 13 ∷ join_with_byte 13 (item ∷ more)
-join_grown list item [] = refl
-join_grown list item (next ∷ more) = append_assoc list (13 ∷ item) (13 ∷ join_with_byte 13 (next ∷ more))
-
-join_longer : (list : List ℕ) (more : List (List ℕ)) → length list ≤ length (join_with_byte 13 (list ∷ more))
-join_longer list [] = omega arith
-join_longer list (next ∷ more) = omega (arith, length-append list (13 ∷ join_with_byte 13 (next ∷ more)))
-
 all_behind : (text list : List ℕ) (parts : List (List ℕ)) → is_true text ≡ true → length (join_with_byte 13 (list ∷ parts)) ≤ text_most
     → alike_items keep.Items text (Some list) parts ≡ Ok (join_with_byte 13 (list ∷ parts))
 unfolding alike_items
@@ -333,10 +316,6 @@ next_text : (text bytes : List ℕ) (parts : List (List ℕ)) → 0 < length par
 unfolding alike_items
 next_text text bytes [] some = absurd (omega (arith, some))
 next_text text bytes (part ∷ parts) some = refl
-
-behind_onto : (x : ℕ) (parts : List (List ℕ)) → drop 1 (onto_first x parts) ≡ drop 1 parts
-behind_onto x [] = refl
-behind_onto x (part ∷ parts) = refl
 
 behind_first : (text bytes xs : List ℕ) → alike_items keep.Texts text (Some bytes) (drop 1 (slice_split (λ c. c == 13) xs)) ≡ texts_behind text bytes xs
 unfolding alike_items texts_behind

@@ -1,8 +1,8 @@
 -- What stands between brackets comes to, and what functions that evaluate their arguments themselves come to.
 use Rattle.std.proofs.Common.{◌≡◌, ℕ, ◌-◌, ◌<◌, zero, suc, true, false, cond, List, [], refl, sym, subst, ap, ◌∙◌, arith}
 use Rattle.std.specs.Prelude.{Result, Ok, Err, Option, Some, None, ℤ, ◌==◌}
-use Rattle.std.proofs.lemmas.Bool.Decides.{nat_tests}
 use Rattle.std.specs.FinMap.{get}
+use Rattle.laws.proofs.Numbers.{not_zero}
 use Rattle.mpi.specs.declared.fault.MpiFault.{MpiFault}
 use Rattle.mpi.specs.declared.fault.MpiFault.TheVariants.{TooManyCommands, NoMemory}
 use Rattle.mpi.specs.declared.functions.Function.{Function}
@@ -27,9 +27,6 @@ use Rattle.mpi.proofs.Turns.{counted_first}
 -- want of memory
 pub refused : {S A : Type 0} (v : Result A MpiFault × State S) (s : State S) (r : Result A MpiFault) → r ≡ Err NoMemory → Comes v s r
 refused v s r e = subst (λ x. Comes v s x) (sym e) tt
-
-not_zero : (n : ℕ) → 0 < n → (n == 0) ≡ false
-not_zero n h = grind (arith, nat_tests)
 
 one_less_is : (m : Mind) → 0 < m.left → one_less m ≡ (Ok tt, record m { left = m.left - 1 })
 one_less_is m h = ap (λ t. cond t (Err TooManyCommands, m) (Ok tt, record m { left = m.left - 1 })) (not_zero m.left h)

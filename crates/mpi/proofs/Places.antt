@@ -1,11 +1,12 @@
 -- The first place of a part in a text: what a search finds is what is meant.
-use Rattle.std.proofs.Common.{◌≡◌, ℕ, ◌+◌, ◌<◌, ◌≤◌, zero, suc, true, false, List, [], ◌∷◌, length, take, drop, get_or, Some, None, refl, sym, ap, subst, ◌∙◌, arith, ⊎_elim}
+use Rattle.std.proofs.Common.{◌≡◌, ℕ, ◌+◌, ◌<◌, ◌≤◌, zero, suc, true, false, List, [], ◌∷◌, length, take, drop, get_or, Some, None, sym, ap, subst, ◌∙◌, arith, ⊎_elim}
 use Rattle.std.specs.Prelude.{Option, IfSome}
 use Rattle.std.specs.Option.{option_map}
 use Rattle.std.proofs.Math.Seq.{drop-cons}
 use Rattle.std.proofs.lemmas.Bool.{cases_Bool, cases_eq, cond-true, cond-false, eq-eqb, ne_eqb, false≢true}
 use Rattle.std.proofs.lemmas.List.{drop_all, length-take, length-drop}
 use Rattle.std.proofs.lemmas.Slice.Eq.{bytes_eq-Decides}
+use Rattle.laws.proofs.Options.{mapped_on, mapped_zero}
 use Rattle.memchr.specs.Find.{OccursAt, IsFirst, FindsNeedle}
 use Rattle.memchr.proofs.lemmas.MatchLemmas.{OccursAt-part, OccursAt-from_part}
 use Rattle.mpi.specs.Values.{begins_with, place_in}
@@ -40,14 +41,6 @@ occurs text part at le h =
 -- the first place from a place on, as the definition has it
 abbrev place_from : List ℕ → List ℕ → ℕ → Option ℕ
 place_from text part at = option_map (λ k. at + k) (place_in (drop at text) part)
-
-mapped_on : (at : ℕ) (o : Option ℕ) → option_map (λ k. at + k) (option_map suc o) ≡ option_map (λ k. suc at + k) o
-mapped_on at None = refl
-mapped_on at (Some k) = let is : at + suc k ≡ suc at + k = omega arith in ap Some is
-
-mapped_none : (o : Option ℕ) → option_map (λ k. 0 + k) o ≡ o
-mapped_none None = refl
-mapped_none (Some k) = let is : 0 + k ≡ k = omega arith in ap Some is
 
 -- where the text begins with the part, its place is here
 from_here : (text part : List ℕ) (at : ℕ) → at < length text → begins_with (drop at text) part ≡ true → place_from text part at ≡ Some (at + 0)
@@ -109,7 +102,7 @@ found_from text part (suc n) at r e h =
     (cases_Bool (begins_with (drop at text) part))
 
 pub found_first : (text part : List ℕ) (r : Option ℕ) → FindsNeedle text part 0 r → r ≡ place_in text part
-found_first text part r h = found_from text part (length text) 0 r (omega arith) h ∙ mapped_none (place_in text part)
+found_first text part r h = found_from text part (length text) 0 r (omega arith) h ∙ mapped_zero (place_in text part)
 
 pub found_within : (text part : List ℕ) (r : Option ℕ) → FindsNeedle text part 0 r → IfSome r (λ n. n ≤ length text)
 found_within text part None h = tt

@@ -1,9 +1,11 @@
 -- Texts in which one part takes the place of another.
-use Rattle.std.proofs.Common.{◌≡◌, ℕ, ◌+◌, ◌-◌, ◌<◌, ◌≤◌, zero, suc, Bool, true, false, cond, List, [], ◌∷◌, ◌++◌, length, take, drop, Some, None, refl, sym, ap, subst, ◌∙◌, arith, append_assoc, ⊎_elim}
+use Rattle.std.proofs.Common.{◌≡◌, ℕ, ◌+◌, ◌-◌, ◌<◌, ◌≤◌, zero, suc, true, false, cond, List, [], ◌∷◌, ◌++◌, length, take, drop, Some, None, refl, sym, ap, subst, ◌∙◌, arith, append_assoc, ⊎_elim}
 use Rattle.std.proofs.lemmas.Bool.{cases_Bool}
-use Rattle.std.proofs.lemmas.List.{append-nil}
-use Rattle.std.specs.Prelude.{Ok, Err, Option, ◌&&◌, ◌==◌}
+use Rattle.std.specs.Prelude.{Ok, Err, Option, ◌==◌}
 use Rattle.std.specs.Option.{option_map}
+use Rattle.laws.proofs.Lists.{further_fits}
+use Rattle.laws.proofs.Options.{not_mapped}
+use Rattle.laws.proofs.Truths.{and_rest}
 use Rattle.muck_model.specs.Bytes.{text_most}
 use Rattle.mpi.specs.declared.fault.MpiFault.{MpiFault}
 use Rattle.mpi.specs.Hosting.{Means}
@@ -11,10 +13,6 @@ use Rattle.mpi.specs.Made.{is_long, text_or_long, IsGrown}
 use Rattle.mpi.specs.Values.{begins_with, place_in, replaced, substituted}
 use Rattle.mpi.proofs.Lengths.{is_short, front_long, long_fails, made_whole}
 use Rattle.mpi.proofs.Places.{place_end, place_first, place_other}
-
-and_right : (a b : Bool) → a && b ≡ true → b ≡ true
-and_right true b h = h
-and_right false b h = absurd (let e : false ≡ true = h in cc)
 
 skipped : (old new : List ℕ) (n : ℕ) (xs : List ℕ) → replaced old new n xs ≡ replaced old new 0 (drop n xs)
 unfolding replaced
@@ -60,11 +58,6 @@ replaced_at old new (b ∷ more) k some h =
     (λ other. first_other old new b more other ∙ further_at old new b more k (place_in more old) (λ j e. replaced_at old new more j some e) (sym (place_other b more old other) ∙ h))
     (cases_Bool (begins_with (b ∷ more) old))
 
--- a text in which the part stands nowhere stays
-not_mapped : (o : Option ℕ) → option_map suc o ≡ None → o ≡ None
-not_mapped None h = refl
-not_mapped (Some n) h = absurd (let e : Some (suc n) ≡ None = h in cc)
-
 replaced_end : (old new : List ℕ) → replaced old new 0 [] ≡ []
 unfolding replaced
 replaced_end old new = refl
@@ -86,15 +79,9 @@ whole_front whole out old new rest front behind k e some h f g =
     ∙ ap (λ xs. (out ++ xs) ++ (new ++ replaced old new 0 (drop (k + length old) rest))) (sym f)
     ∙ ap (λ xs. (out ++ front) ++ (new ++ replaced old new 0 xs)) (sym g)
 
-pub whole_new : (whole out front made new more : List ℕ) → whole ≡ (out ++ front) ++ (new ++ more) → made ≡ out ++ front → whole ≡ (made ++ new) ++ more
-whole_new whole out front made new more e is = e ∙ ap (λ xs. xs ++ (new ++ more)) (sym is) ∙ sym (append_assoc made new more)
-
 -- what was made and the rest are the whole
 pub whole_rest : (whole out old new rest : List ℕ) → whole ≡ out ++ replaced old new 0 rest → place_in rest old ≡ None → whole ≡ out ++ rest
 whole_rest whole out old new rest e h = e ∙ ap (λ xs. out ++ xs) (replaced_nowhere old new rest h)
-
-pub whole_end : (whole out : List ℕ) → whole ≡ out → whole ≡ out ++ []
-whole_end whole out e = e ∙ sym (append-nil out)
 
 -- a front that is too long
 pub whole_long : (whole out more rest new : List ℕ) (f : MpiFault) → whole ≡ (out ++ more) ++ rest → IsGrown out more new (Err f) → Means (text_or_long whole) (Err f)
@@ -117,15 +104,7 @@ none_part text (b ∷ more) new h = absurd (omega (arith, h))
 begun_within : (xs ys : List ℕ) → begins_with xs ys ≡ true → length ys ≤ length xs
 begun_within xs [] h = omega arith
 begun_within [] (y ∷ ys) h = absurd (let e : false ≡ true = h in cc)
-begun_within (x ∷ xs) (y ∷ ys) h = omega (arith, begun_within xs ys (and_right (y == x) (begins_with xs ys) h))
-
--- a part that stands at a place ends within the text
-further_fits : (more part : List ℕ) (k : ℕ) (o : Option ℕ) → ((j : ℕ) → o ≡ Some j → j + length part ≤ length more) → option_map suc o ≡ Some k → k + length part ≤ suc (length more)
-further_fits more part k None h e = absurd (let f : None ≡ Some k = e in cc)
-further_fits more part k (Some j) h e =
-    let f : Some (suc j) ≡ Some k = e in
-    let is : suc j ≡ k = cc in
-    omega (arith, is, h j refl)
+begun_within (x ∷ xs) (y ∷ ys) h = omega (arith, begun_within xs ys (and_rest (y == x) (begins_with xs ys) h))
 
 pub place_fits : (text part : List ℕ) (k : ℕ) → 0 < length part → place_in text part ≡ Some k → k + length part ≤ length text
 place_fits [] part k some h = absurd (let e : None ≡ Some k = sym (place_end part (λ none. omega (arith, some, none))) ∙ h in cc)

@@ -1,5 +1,5 @@
 -- What the pieces of a text come to, one after another.
-use Rattle.std.proofs.Common.{◌≡◌, ℕ, true, false, cond, List, [], ◌∷◌, ◌++◌, length, refl, sym, subst, ap, ◌∙◌, arith}
+use Rattle.std.proofs.Common.{◌≡◌, ℕ, true, false, cond, List, [], ◌∷◌, ◌++◌, refl, sym, subst, ap, ◌∙◌}
 use Rattle.std.specs.Prelude.{Result, Ok, Err, if◌then◌else◌}
 use Rattle.mpi.specs.declared.fault.MpiFault.{MpiFault}
 use Rattle.mpi.specs.declared.fault.MpiFault.TheVariants.{Unclosed, UnknownFunction, BadCount, BadValue, TooManyCommands, TooLong, Denied, NoMemory}
@@ -9,10 +9,6 @@ use Rattle.mpi.specs.Thoughts.{State, Thought, Comes, Thinks, carried, followed,
 use Rattle.mpi.specs.Meaning.{spelled}
 use Rattle.mpi.proofs.Pieces.{pieces_ahead}
 use Rattle.mpi.proofs.Thinking.{then_err}
-
-pub no_bytes : (xs : List ℕ) → length xs ≡ 0 → xs ≡ []
-no_bytes [] h = refl
-no_bytes (x ∷ xs) h = absurd (omega (arith, h))
 
 -- where a text grew too long, or memory was refused
 pub grown_fails : {S A : Type 0} (old more new : List ℕ) (v : Result A MpiFault × State S) (s : State S) (f : MpiFault)

@@ -1,14 +1,15 @@
 -- Texts as truths, numbers and lists, and what the functions of these give.
-use Rattle.std.specs.Prelude.{ℕ, ◌+◌, ◌-◌, ◌/◌, ◌%◌, zero, suc, Bool, true, false, not, ◌&&◌, ◌||◌, ◌==◌, nat_eq, nat_lt, if◌then◌else◌, List, [], ◌∷◌, ◌++◌, map, length, take, drop, reverse, Option, Some, None, option_map, bytes_eq, slice_get, codes, ℤ, pos, negsuc, int_lt, int_le, int_rem}
+use Rattle.std.specs.Prelude.{ℕ, ◌+◌, ◌-◌, ◌/◌, ◌%◌, zero, suc, Bool, true, false, not, ◌&&◌, ◌||◌, ◌==◌, nat_eq, nat_lt, if◌then◌else◌, List, [], ◌∷◌, ◌++◌, map, length, take, drop, reverse, Option, Some, None, option_map, bytes_eq, slice_get, codes, ℤ, pos, negsuc, int_lt, int_le}
 use Rattle.std.specs.Char.{to_ascii_lowercase, to_ascii_uppercase}
 use Rattle.std.specs.List.{fold, position, slice_split, join_with_byte, starts_with}
 use Rattle.std.specs.Option.{unwrap_or, option_map_or}
 use Rattle.std.specs.Fmt.{decimal}
-use Rattle.std.specs.Ordering.{nat_cmp, int_cmp, int_eq, is_eq, is_lt, is_gt, is_le, is_ge}
+use Rattle.std.specs.Ordering.{nat_cmp, int_cmp, is_eq, is_lt, is_gt, is_le, is_ge}
 use Rattle.std.specs.declared.cmp.Ordering.{Ordering}
 use Rattle.std.specs.Cmp.Lexicographic.{slice_cmp}
-use Rattle.std.specs.Int.{w32, int_wrapping_add, int_wrapping_sub, int_wrapping_mul, int_wrapping_div, int_wrapping_neg, int_signum}
+use Rattle.std.specs.Int.{w32, int_wrapping_add, int_wrapping_sub, int_wrapping_mul, int_signum}
 use Rattle.muck_model.specs.Decimal.{decimal_of}
+use Rattle.muck_model.specs.Division.{quotient, remainder, magnitude}
 use Rattle.muck_model.specs.Numbers.{below}
 use Rattle.mpi.specs.declared.functions.Function.{Function}
 use Rattle.mpi.specs.declared.functions.Function.TheVariants.{Nothing, Xor, Not, Equal, Unequal, Greater, Less, AtLeast, AtMost, Add, Subtract, Multiply, Divide, Modulo, Absolute, Sign, Least, Most, Length, Upper, Lower, Strip, Find, Substitute, Middle, MakeList, Count, Member, Sublist}
@@ -69,20 +70,12 @@ test_of AtLeast x y = is_ge (order_of x y)
 test_of AtMost x y = is_le (order_of x y)
 test_of _ x y = false
 
--- toward zero, and 0 where the divisor is 0
-abbrev pub quotient : ℤ → ℤ → ℤ
-quotient i j = if int_eq j (pos 0) then pos 0 else int_wrapping_div w32 i j
-
--- with the sign of i, and 0 where the divisor is 0
-abbrev pub remainder : ℤ → ℤ → ℤ
-remainder i j = if int_eq j (pos 0) then pos 0 else int_rem i j
-
 -- what a function of one or two numbers gives; results wrap to 32 bits
 abbrev pub number_row : Function → ℤ → ℤ → ℤ
 number_row Subtract i j = int_wrapping_sub w32 i j
 number_row Divide i j = quotient i j
 number_row Modulo i j = remainder i j
-number_row Absolute i j = if int_lt i (pos 0) then int_wrapping_neg w32 i else i
+number_row Absolute i j = magnitude i
 number_row Sign i j = int_signum i
 number_row Least i j = if int_lt j i then j else i
 number_row Most i j = if int_lt i j then j else i

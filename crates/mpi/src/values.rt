@@ -2,11 +2,11 @@
 ghost use Rattle.std.specs.Prelude.{◌≡◌, ◌≤◌, None, IfOk};
 ghost use Rattle.muck_model.specs.Bytes.{text_fault};
 ghost use Rattle.muck_model.specs.Numbers.{below};
-ghost use Rattle.mpi.specs.Values.{nth, is_true, bare, number_read, number_of, lowered, order_of, test_of, quotient, remainder, number_row, sum_of, product_of, computed};
+ghost use Rattle.mpi.specs.Values.{nth, is_true, bare, number_read, number_of, lowered, order_of, test_of, number_row, sum_of, product_of, computed};
 
 use crate::argument::Argument;
 use crate::functions::Function;
-use muck_model::{Line, NoMemory, decimal};
+use muck_model::{Line, NoMemory, decimal, magnitude, quotient, remainder};
 use std::alloc::Global;
 use std::cmp::Ordering;
 
@@ -120,20 +120,6 @@ pub(crate) fn test_of(
     }
 }
 
-// Toward zero, and 0 where the divisor is 0.
-fn quotient(i: i32, j: i32) -> i32
-    ensures { result ≡ quotient i j }
-{
-    if j == 0 { 0 } else { i.wrapping_div(j) }
-}
-
-// With the sign of the dividend, and 0 where the divisor is 0.
-fn remainder(i: i32, j: i32) -> i32
-    ensures { result ≡ remainder i j }
-{
-    if j == 0 { 0 } else { i.wrapping_rem(j) }
-}
-
 /// What a function of one or two numbers gives.
 fn number_row(function: Function, i: i32, j: i32) -> i32
     ensures { result ≡ number_row function i j }
@@ -142,7 +128,7 @@ fn number_row(function: Function, i: i32, j: i32) -> i32
         Function::Subtract => i.wrapping_sub(j),
         Function::Divide => quotient(i, j),
         Function::Modulo => remainder(i, j),
-        Function::Absolute if i < 0 => i.wrapping_neg(),
+        Function::Absolute => magnitude(i),
         Function::Sign => i.signum(),
         Function::Least if j < i => j,
         Function::Most if i < j => j,

@@ -1,7 +1,7 @@
 -- Lines with their ends, one behind the other.
 use Rattle.std.proofs.Common.{◌≡◌, ℕ, ◌+◌, ◌-◌, ◌<◌, ◌≤◌, Bool, true, false, cond, leb, not, zero, suc, List, [], ◌∷◌, ◌++◌, length, take, drop, refl, sym, subst, ◌∙◌, ap, arith, append-nil, length-append, length-drop}
 use Rattle.std.proofs.lemmas.Bool.{cond_both, eqb-true, leb-true, leb-false}
-use Rattle.std.proofs.lemmas.List.{drop-append-le, take-append-le, drop-drop, drop-take}
+use Rattle.std.proofs.lemmas.List.{drop-append-le, drop-drop, append_assoc}
 use Rattle.std.proofs.lemmas.Grind.{flat_map-append}
 use Rattle.std.proofs.Math.Seq.{drop-append-add, take-append_seam}
 use Rattle.std.specs.Prelude.{◌||◌}
@@ -11,11 +11,6 @@ use Rattle.spec_live.specs.Output.{is_return, sent_form, lines_bytes, newest}
 use Rattle.muck_board.specs.inner.Sent.{lines_from, lines_in, sent_most, IsLine, IsLines}
 use Rattle.muck_board.specs.inner.Waiting.{end_behind}
 use Rattle.muck_board.proofs.Outputs.{lines_length, none_length, newest_fits, newest_next, sent_length}
-
--- a line and its end, before others
-joined : (xs ys zs : List ℕ) → (xs ++ ys) ++ zs ≡ xs ++ (ys ++ zs)
-joined [] ys zs = refl
-joined (x ∷ xs) ys zs = ap (λ l. x ∷ l) (joined xs ys zs)
 
 line_begins : (line more : List ℕ) → list_any is_return line ≡ false → lines_in (line ++ 13 ∷ 10 ∷ more) ≡ line ∷ lines_in more
 unfolding lines_from
@@ -31,7 +26,7 @@ lines_are : (lines : List (List ℕ)) → AllByRecursion IsLine lines → lines_
 unfolding lines_from lines_bytes
 lines_are [] each = refl
 lines_are (line ∷ lines) each =
-    ap lines_in (joined line (13 ∷ 10 ∷ []) (lines_bytes lines)) ∙ line_begins line (lines_bytes lines) each.0.whole ∙ ap (λ ls. line ∷ ls) (lines_are lines each.1)
+    ap lines_in (append_assoc line (13 ∷ 10 ∷ []) (lines_bytes lines)) ∙ line_begins line (lines_bytes lines) each.0.whole ∙ ap (λ ls. line ∷ ls) (lines_are lines each.1)
 
 -- these bytes are those lines
 pub read_back : (bytes : List ℕ) (lines : List (List ℕ)) → bytes ≡ lines_bytes lines → AllByRecursion IsLine lines → lines_in bytes ≡ lines
@@ -81,7 +76,7 @@ ends_begin b text =
 pub line_sent_on : (sent new all line : List ℕ) (before more : List (List ℕ)) → new ≡ sent ++ sent_form line → before ≡ line ∷ more → sent ++ lines_bytes before ≡ all → new ++ lines_bytes more ≡ all
 unfolding lines_bytes
 line_sent_on sent new all line before more e is h =
-    ap (λ l. l ++ lines_bytes more) e ∙ joined sent (sent_form line) (lines_bytes more) ∙ ap (λ ls. sent ++ lines_bytes ls) (sym is) ∙ h
+    ap (λ l. l ++ lines_bytes more) e ∙ append_assoc sent (sent_form line) (lines_bytes more) ∙ ap (λ ls. sent ++ lines_bytes ls) (sym is) ∙ h
 
 -- no line is left
 pub all_lines_sent : (sent all : List ℕ) (left : List (List ℕ)) → left ≡ [] → sent ++ lines_bytes left ≡ all → sent ≡ all
@@ -162,7 +157,7 @@ any_dropped (suc n) (b ∷ line) h = any_dropped n line (behind (is_return b) h)
 -- the first line, as bytes with what stands behind it
 first_bytes : (line : List ℕ) (lines : List (List ℕ)) → lines_bytes (line ∷ lines) ≡ line ++ 13 ∷ 10 ∷ lines_bytes lines
 unfolding lines_bytes
-first_bytes line lines = joined line (13 ∷ 10 ∷ []) (lines_bytes lines)
+first_bytes line lines = append_assoc line (13 ∷ 10 ∷ []) (lines_bytes lines)
 
 past_first : (line : List ℕ) (lines : List (List ℕ)) (n : ℕ) → drop (length (sent_form line) + n) (lines_bytes (line ∷ lines)) ≡ drop n (lines_bytes lines)
 unfolding lines_bytes
@@ -316,16 +311,6 @@ pushed_at bytes new more from sent h are is e each =
     let left : drop from new ≡ lines_bytes (lines ++ sent) = ap (drop from) is ∙ drop-append-le from bytes more h ∙ (λ i. are.ended i ++ e i) ∙ sym (lines_joined lines sent) in
     let all = each_joined lines sent are.each each in
     record { each = are_lines (drop from new) (lines ++ sent) left all; lines = read_back (drop from new) (lines ++ sent) left all }
-
-pub same_window : (bytes new more : List ℕ) (at begun : ℕ) → at + begun ≤ length bytes → new ≡ bytes ++ more → take begun (drop at new) ≡ take begun (drop at bytes)
-same_window bytes new more at begun h is =
-    ap (λ l. take begun (drop at l)) is ∙ ap (take begun) (drop-append-le at bytes more (omega (arith, h))) ∙ take-append-le begun (drop at bytes) more (omega (arith, length-drop at bytes, h))
-
--- the first bytes go of what was begun
-pub window_dropped : (at begun n : ℕ) (bytes : List ℕ) → n ≤ begun → take (begun - n) (drop (at + n) bytes) ≡ drop n (take begun (drop at bytes))
-window_dropped at begun n bytes h =
-    let all : n + (begun - n) ≡ begun = omega (arith, h) in
-    ap (take (begun - n)) (sym (drop-drop n at bytes)) ∙ sym (drop-take n (begun - n) (drop at bytes)) ∙ ap (λ k. drop n (take k (drop at bytes))) all
 
 pub no_bytes : (lines : List (List ℕ)) → length (lines_bytes lines) ≡ 0 → lines ≡ []
 no_bytes [] h = refl

@@ -1,10 +1,11 @@
 -- Lemmas on the connection of a number.
-use Rattle.std.proofs.Common.{◌≡◌, ℕ, ◌+◌, ◌<◌, ◌≤◌, Bool, true, false, List, [], ◌∷◌, length, get_or, set, refl, sym, ◌∙◌, ap, arith, cond, Option, Some, None, not, suc, subst, drop, find, map}
+use Rattle.std.proofs.Common.{◌≡◌, ℕ, ◌+◌, ◌<◌, ◌≤◌, true, false, List, [], ◌∷◌, length, get_or, set, refl, sym, ◌∙◌, ap, arith, cond, Option, Some, None, not, suc, subst, drop, find, map}
 use Rattle.std.specs.Prelude.{nat_lt}
 use Rattle.std.specs.List.{position, position_or_len, remove, insert}
 use Rattle.std.specs.Option.{option_map_or}
-use Rattle.std.proofs.lemmas.Bool.{cond_both, ltb-true, ltb-false}
+use Rattle.std.proofs.lemmas.Bool.{cond_both}
 use Rattle.std.proofs.lemmas.List.{drop_all}
+use Rattle.laws.proofs.Tests.{first_at, position_none}
 use Rattle.muck_model.specs.declared.dbref.Dbref.{Dbref}
 use Rattle.spec_live.specs.Output.{bytes_of, taken}
 use Rattle.spec_live.specs.Connections.{Connection, has_number, changed_in, without, placed}
@@ -14,18 +15,6 @@ use Rattle.muck_board.specs.inner.Silent.{quiet, silent}
 use Rattle.muck_board.proofs.Outputs.{taken_left}
 
 -- What `position` answers.
-
-first_at : {X : Type 0} (p : X → Bool) (xs : List X) (at : ℕ) → position p xs ≡ Some at → (position_or_len p xs ≡ at) × (at < length xs)
-first_at p xs at =
-    let n : ℕ = position_or_len p xs in
-    cond_both (nat_lt n (length xs)) (Some n) None (λ o. o ≡ Some at → (n ≡ at) × (at < length xs))
-    (λ e h. let same : n ≡ at = cc in (same, omega (arith, ltb-true n (length xs) e)))
-    (λ e h. absurd (cc))
-
-nowhere : {X : Type 0} (p : X → Bool) (xs : List X) → position p xs ≡ None → length xs ≤ position_or_len p xs
-nowhere p xs =
-    let n : ℕ = position_or_len p xs in
-    cond_both (nat_lt n (length xs)) (Some n) None (λ o. o ≡ None → length xs ≤ n) (λ e h. absurd (cc)) (λ e h. omega (arith, ltb-false n (length xs) e))
 
 pub within : (d : ℕ) (cs : List Connection) (at : ℕ) → position (has_number d) cs ≡ Some at → at < length cs
 within d cs at e = (first_at (has_number d) cs at e).1
@@ -62,7 +51,7 @@ found_beyond d (c ∷ cs) =
     ]
 
 pub found_nowhere : (d : ℕ) (cs : List Connection) → position (has_number d) cs ≡ None → find (has_number d) cs ≡ None
-found_nowhere d cs e = found_beyond d cs (nowhere (has_number d) cs e)
+found_nowhere d cs e = found_beyond d cs (position_none (has_number d) cs e)
 
 -- A write at that place.
 

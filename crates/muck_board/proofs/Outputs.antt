@@ -3,8 +3,9 @@ use Rattle.std.proofs.Common.{◌≡◌, ℕ, ◌+◌, ◌-◌, ◌<◌, ◌≤�
 use Rattle.std.proofs.lemmas.Bool.{cond_both, cond-true, cond-false, eqb-true, eqb-false, leb-true, leb-false, ltb-true, ltb-false, le-leb, lt-ltb, lt-leb, le-ltb, ne_eqb}
 use Rattle.std.proofs.lemmas.List.{drop-append-le, take-append-le, drop-drop, drop_all}
 use Rattle.std.proofs.lemmas.Grind.{flat_map-append}
-use Rattle.std.proofs.Math.Seq.{drop-append-add, take-add}
+use Rattle.std.proofs.Math.Seq.{take-add}
 use Rattle.std.specs.List.{flat_map}
+use Rattle.laws.proofs.Parts.{drop_behind}
 use Rattle.spec_live.specs.Output.{Output, sent_form, notice, notice_of, lines_bytes, bytes_of, newest, lines_taken, notice_taken, taken}
 
 -- Counts.
@@ -52,12 +53,6 @@ unfolding newest
 newest_next room line lines h = cond-false _ _ _ (lt-leb _ _ h)
 
 -- Taking.
-
--- behind the first of two lists
-pub drop_behind : (n : ℕ) (xs ys : List ℕ) → length xs ≤ n → drop n (xs ++ ys) ≡ drop (n - length xs) ys
-drop_behind n xs ys h =
-    let e : n ≡ length xs + (n - length xs) = omega arith in
-    ap (λ k. drop k (xs ++ ys)) e ∙ drop-append-add xs ys (n - length xs)
 
 lines_left : (n : ℕ) (lines : List (List ℕ)) → bytes_of (lines_taken n lines) ≡ drop n (lines_bytes lines)
 unfolding bytes_of lines_bytes lines_taken

@@ -1,6 +1,7 @@
 -- A text is sent line by line, and what has to go for it goes at once.
 use Rattle.std.proofs.Common.{◌≡◌, ℕ, ◌+◌, ◌-◌, ◌<◌, ◌≤◌, Bool, true, false, cond, leb, List, [], ◌∷◌, ◌++◌, length, drop, refl, sym, subst, ◌∙◌, ap, arith, length-drop}
 use Rattle.std.proofs.lemmas.Bool.{cond_both, cond-true, le-leb, leb-true, leb-false}
+use Rattle.std.proofs.lemmas.List.{append_assoc}
 use Rattle.spec_live.specs.Connections.{Connection, told}
 use Rattle.spec_live.specs.Output.{Output, notice, sent, sent_lines, sent_form, lines_bytes, newest, line_sent, lines_sent, queue_most, room_for}
 use Rattle.muck_board.specs.declared.output.Begun.{Begun}
@@ -44,10 +45,6 @@ newest_pushed room (first ∷ lines) line h =
           let over : less < length (lines_bytes (first ∷ lines)) = leb-false (length (lines_bytes (first ∷ lines))) less e in
           newest_next room first (lines ++ line ∷ []) (omega (arith, as_many, over, h)) ∙ newest_pushed room lines line h ∙ sym (ap (λ ls. ls ++ line ∷ []) (newest_next less first lines over))
     ] refl
-
-joined : (xs ys zs : List (List ℕ)) → (xs ++ ys) ++ zs ≡ xs ++ (ys ++ zs)
-joined [] ys zs = refl
-joined (x ∷ xs) ys zs = ap (λ l. x ∷ l) (joined xs ys zs)
 
 -- with room for so many bytes, and then with lines at the end
 pub kept : ℕ → List (List ℕ) → Output → Output
@@ -104,7 +101,7 @@ kept_twice room more line lines o h =
     let stays : newest (room + length (sent_form line)) (newest more o.lines ++ line ∷ []) ≡ newest room o.lines ++ line ∷ [] =
     newest_pushed (room + length (sent_form line)) (newest more o.lines) line (omega arith) ∙ ap (λ n. newest n (newest more o.lines) ++ line ∷ []) less ∙ ap (λ ls. ls ++ line ∷ []) (newest_again room more o.lines h) in
     (λ i. record o { flushed = flushed_twice room more line o.lines o.flushed h i; lines = stays i ++ lines })
-    ∙ ap (λ ls. record o { flushed = cond (leb (length (lines_bytes o.lines)) room) o.flushed true; lines = ls }) (joined (newest room o.lines) (line ∷ []) lines)
+    ∙ ap (λ ls. record o { flushed = cond (leb (length (lines_bytes o.lines)) room) o.flushed true; lines = ls }) (append_assoc (newest room o.lines) (line ∷ []) lines)
 
 rest_stays : (more : ℕ) (line : List ℕ) (lines : List (List ℕ)) (o : Output) → length o.rest + length (lines_bytes lines) ≤ queue_most → length (kept more (line ∷ []) o).rest + length (lines_bytes lines) ≤ queue_most
 unfolding kept

@@ -1,11 +1,13 @@
 -- The head of a file, by its first 34 bytes.
-use Rattle.std.proofs.Common.{◌≡◌, ◌≢◌, ℕ, zero, suc, ◌+◌, ◌-◌, ◌<◌, ◌≤◌, Bool, true, false, leb, eqb, List, [], ◌∷◌, ◌++◌, length, take, drop, get_or, Some, None, refl, sym, ◌∙◌, ap, subst, arith, length-take, length-drop}
+use Rattle.std.proofs.Common.{◌≡◌, ◌≢◌, ℕ, zero, suc, ◌+◌, ◌-◌, ◌<◌, ◌≤◌, Bool, true, false, leb, eqb, List, [], ◌∷◌, length, take, drop, get_or, Some, None, refl, sym, ◌∙◌, ap, subst, arith, length-take, length-drop}
 use Rattle.std.specs.Prelude.{min, find, if◌then◌else◌, ◌&&◌, bytes_eq}
-use Rattle.std.proofs.lemmas.List.{drop-drop, drop-take, take-take, take_all}
-use Rattle.std.proofs.Math.Seq.{take-add}
-use Rattle.std.proofs.lemmas.Bool.{le-leb, lt-leb, leb-true, leb-false}
+use Rattle.std.proofs.lemmas.List.{drop-drop, take-take}
+use Rattle.std.proofs.lemmas.Bool.{le-leb, lt-leb}
 use Rattle.std.specs.Int.{w64, from_be_bytes}
 use Rattle.std.specs.Option.{option_map_or}
+use Rattle.laws.proofs.Parts.{body_front, nine}
+use Rattle.laws.proofs.Places.{first_byte}
+use Rattle.laws.proofs.Texts.{same_word, size_word}
 use Rattle.muck_log.specs.Body.{Body, body_of, magic}
 use Rattle.muck_bodies.specs.Bodies.{bodies, bodies_of, body_numbered, number_of, generation_of}
 use Rattle.muck_bodies.proofs.Firsts.{first_short, first_shut, first_cut, first_whole}
@@ -25,18 +27,8 @@ none_too file none (suc n) = none n
 pub short_head : (front file : List ℕ) (left : ℕ) → length front ≡ min left 34 → length file ≡ left → front ≡ take 34 file → length front < 9 → IsHead None file
 short_head front file left long size same short = none_too file (first_short file (omega (arith, long, size, short)))
 
-first_byte : (file : List ℕ) (d : ℕ) → get_or (take 34 file) 0 d ≡ get_or file 0 d
-first_byte [] d = refl
-first_byte (x ∷ file) d = refl
-
 pub shut_head : (front file : List ℕ) (left d : ℕ) → length file ≡ left → front ≡ take 34 file → get_or front 0 d ≢ 1 → IsHead None file
 shut_head front file left d size same shut = none_too file (first_shut file d (λ e. shut (ap (λ l. get_or l 0 d) same ∙ first_byte file d ∙ e)))
-
-pub size_word : (front file rest : List ℕ) → front ≡ take 34 file → rest ≡ drop 1 front → from_be_bytes w64 (take 8 rest) ≡ from_be_bytes w64 (take 8 (drop 1 file))
-size_word front file rest same at = ap (λ l. from_be_bytes w64 (take 8 l)) (at ∙ ap (drop 1) same ∙ drop-take 1 33 file) ∙ ap (from_be_bytes w64) (take-take 8 33 (drop 1 file) (omega arith))
-
-nine : (file : List ℕ) → drop 8 (drop 1 file) ≡ drop 9 file
-nine file = drop-drop 8 1 file
 
 pub cut_head : (front file rest : List ℕ) (left size : ℕ) → length file ≡ left → front ≡ take 34 file → rest ≡ drop 1 front → size ≡ from_be_bytes w64 (take 8 rest) → left - 9 < size → IsHead None file
 cut_head front file rest left size long same at is cut =
@@ -78,14 +70,6 @@ same_front f size l big fits e =
     ap (λ t. option_map_or f (if t then Some (parsed (take 25 l)) else None) 0) (same_test size l big fits)
     ∙ by_test f (leb 25 (length (take size l)) && bytes_eq (take 5 (take size l)) magic) (parsed (take 25 l)) (parsed (take size l)) e
 
-word_in : (n size : ℕ) (l : List ℕ) → n + 8 ≤ size → take 8 (drop n (take size l)) ≡ take 8 (drop n l)
-word_in n size l le =
-    let k : size ≡ n + (size - n) = omega (arith, le) in
-    ap (λ m. take 8 (drop n (take m l))) k ∙ ap (take 8) (drop-take n (size - n) l) ∙ take-take 8 (size - n) (drop n l) (omega (arith, le))
-
-same_word : (n size : ℕ) (l : List ℕ) → n + 8 ≤ 25 → 25 ≤ size → from_be_bytes w64 (take 8 (drop n (take 25 l))) ≡ from_be_bytes w64 (take 8 (drop n (take size l)))
-same_word n size l le big = ap (from_be_bytes w64) (word_in n 25 l le ∙ sym (word_in n size l (omega (arith, le, big))))
-
 pub same_generation : (size : ℕ) (l : List ℕ) → 25 ≤ size → size ≤ length l → generation_of (take 25 l) ≡ generation_of (take size l)
 unfolding parsed
 same_generation size l big fits = same_front (λ (b : Body). b.generation) size l big fits (same_word 5 size l (omega arith) big)
@@ -99,10 +83,6 @@ unfolding body_of parsed
 small_mark f file size small =
     let bytes = take size (drop 9 file) in
     sym (ap (λ t. option_map_or f (if t && bytes_eq (take 5 bytes) magic then Some (parsed bytes) else None) 0) (lt-leb 25 (length bytes) (omega (arith, small, length-take size (drop 9 file)))))
-
--- of a file of which these are the first 34 bytes
-body_front : (front file body : List ℕ) → front ≡ take 34 file → body ≡ drop 9 front → body ≡ take 25 (drop 9 file)
-body_front front file body same at = at ∙ ap (drop 9) same ∙ drop-take 9 25 file
 
 pub small_whole : (h : Head) (file : List ℕ) → h.generation ≡ 0 → h.number ≡ 0 → h.size < 25 → 9 + h.size ≤ length file
     → ((n : ℕ) → bodies (suc n) file ≡ take h.size (drop 9 file) ∷ bodies n (drop (9 + h.size) file)) → IsWhole h file
@@ -123,19 +103,6 @@ large_whole h front file body same at generation number large fits first =
       generation = generation ∙ ap (λ l. generation_of l) here ∙ same_generation h.size (drop 9 file) large inside;
       first = first;
     }
-
--- more bytes of a part, and no more
-pub part_more : (whole got buf front : List ℕ) (i n m : ℕ) → got ≡ take i whole → m ≤ n → take n buf ≡ take n (drop i whole) → front ≡ take m buf → got ++ front ≡ take (i + m) whole
-part_more whole got buf front i n m so le read at =
-    ap (λ l. l ++ front) so ∙ ap (λ l. take i whole ++ l) (at ∙ sym (take-take m n buf le) ∙ ap (take m) read ∙ take-take m n (drop i whole) le) ∙ sym (take-add i m whole)
-
--- the first 34 bytes, or all
-pub front_of : (whole buf front : List ℕ) (n left : ℕ) → length whole ≡ left → n ≡ min 34 left → take n buf ≡ take n whole → front ≡ take n buf → front ≡ take 34 whole
-front_of whole buf front n left size is read at = at ∙ read ∙ by (leb 34 left) refl
-  where
-    by : (b : Bool) → leb 34 left ≡ b → take n whole ≡ take 34 whole
-    by true e = let more : 34 ≤ left = leb-true 34 left e in let k : n ≡ 34 = omega (arith, is, more) in ap (λ m. take m whole) k
-    by false e = let less : left < 34 = leb-false 34 left e in take_all n whole (omega (arith, is, size, less)) ∙ sym (take_all 34 whole (omega (arith, size, less)))
 
 same_fuel : (n m : ℕ) (file : List ℕ) → length file ≤ n → length file ≤ m → bodies n file ≡ bodies m file
 unfolding bodies

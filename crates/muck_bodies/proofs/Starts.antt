@@ -4,11 +4,12 @@ use Rattle.std.specs.Prelude.{if◌then◌else◌, option_map, ◌&&◌}
 use Rattle.std.specs.Option.{option_map_or}
 use Rattle.std.specs.Int.{w64, from_be_bytes}
 use Rattle.std.proofs.lemmas.Bool.{cond-true, cond-false, and_parts, eqb-true, leb-true}
+use Rattle.laws.proofs.Lists.{firsts_same, no_first}
+use Rattle.laws.proofs.Options.{and_then_some, cond_some, map_some}
 use Rattle.muck_log.specs.Body.{Body, body_of}
 use Rattle.muck_log.specs.World.{laid}
 use Rattle.muck_log.specs.File.{Held, End, Opened, join, follows, begin, file_of, header, is_open}
 use Rattle.muck_log.specs.Store.{Chosen, Damage, stored, picked, loaded, newer, pick}
-use Rattle.muck_log.proofs.Fronts.{cond_some, map_some, and_then_some}
 use Rattle.muck_log.proofs.Files.{opened, file_facts, none_shut}
 use Rattle.muck_bodies.specs.declared.head.Head.{Head}
 use Rattle.muck_bodies.specs.declared.beginning.Start.{Start}
@@ -24,9 +25,6 @@ shut_bodies file shut zero = refl
 shut_bodies [] shut (suc n) = refl
 shut_bodies (g ∷ []) shut (suc n) = refl
 shut_bodies (g ∷ x ∷ rest) shut (suc n) = cond-false (eqb g 1) _ _ shut
-
-no_first : {A : Type 0} (x : A) (xs : List A) → [] ≡ x ∷ xs → ⊥
-no_first x xs e = cc
 
 pub shut_head_none : (h : Option Head) (file : List ℕ) → is_open file ≡ false → IsHead h file → h ≡ None
 shut_head_none None file shut is = refl
@@ -86,9 +84,6 @@ open_parts o file is =
   where
     inner : {A : Type 0} {a b : A} → Some a ≡ Some b → a ≡ b
     inner h = cc
-
-firsts_same : {A : Type 0} (x y : A) (xs ys : List A) → x ∷ xs ≡ y ∷ ys → x ≡ y
-firsts_same x y xs ys e = cc
 
 -- its first body, where it has one
 body_there : (file : List ℕ) (x : List ℕ) (xs : List (List ℕ)) → bodies 1 file ≡ x ∷ xs → (from_be_bytes w64 (take 8 (drop 1 file)) ≤ length (drop 9 file)) × (x ≡ take (from_be_bytes w64 (take 8 (drop 1 file))) (drop 9 file))

@@ -6,6 +6,7 @@ use Rattle.std.specs.Int.{w32, to_be_bytes}
 use Rattle.std.proofs.lemmas.Bool.{cond-true}
 use Rattle.std.proofs.lemmas.List.{append-nil}
 use Rattle.std.proofs.lemmas.List.Elements.{All-nil, All-cons}
+use Rattle.laws.proofs.Results.{test_ok}
 use Rattle.muck_model.specs.declared.dbref.Dbref.{Dbref}
 use Rattle.muck_model.specs.declared.tune.Tune.{Tune}
 use Rattle.muck_model.specs.declared.tune.Parameter.{Parameter}
@@ -18,7 +19,7 @@ use Rattle.muck_codec.specs.Records.{record_at}
 use Rattle.muck_codec.specs.Batches.{is_above, next_at, records_at, parameters_at, tune_at, batch_of, batch_at, whole_batch, tune_bytes, batch_bytes}
 use Rattle.muck_codec.specs.Spelling.{spelling}
 use Rattle.muck_codec.specs.inner.Stored.{IsStored, Run, IsWord, AreWords, IsTune}
-use Rattle.muck_codec.proofs.Codes.{IsBytes, bind_ok, test_ok, ok_is, Takes, Codes, both_codes, mapped_codes, several_take, several_again, counted_codes}
+use Rattle.muck_codec.proofs.Codes.{IsBytes, bind_ok, ok_is, Takes, Codes, both_codes, mapped_codes, several_take, several_again, counted_codes}
 use Rattle.muck_codec.proofs.Fields.{codes32}
 use Rattle.muck_codec.proofs.Records.{record_codes}
 

@@ -6,6 +6,8 @@ use Rattle.std.proofs.lemmas.List.{take_at, drop_at}
 use Rattle.std.proofs.lemmas.Nat.{be_bytes_2, be_bytes_4, be_bytes_8, from_be_bytes-to_be_bytes_2, from_be_bytes-to_be_bytes_4, from_be_bytes-to_be_bytes_8}
 use Rattle.std.proofs.lemmas.Int.{to_z-of_z, of_z-to_z}
 use Rattle.std.proofs.Math.Facts.{sfits_to_z, Fits-of_z, Fits-of_lt}
+use Rattle.laws.proofs.Options.{some_is}
+use Rattle.laws.proofs.Results.{guard_ok, skip_ok}
 use Rattle.muck_model.specs.Bytes.{text_fault}
 use Rattle.muck_model.specs.declared.dbref.Dbref.{Dbref}
 use Rattle.muck_model.specs.declared.dbref.Flags.{Flags}
@@ -15,7 +17,7 @@ use Rattle.muck_codec.specs.Reading.{◌>>=◌, byte_at, number_at, dbref_at, sh
 use Rattle.muck_codec.specs.Records.{kind_of, kind_if, kind_at, flags_at}
 use Rattle.muck_codec.specs.Spelling.{dbref_bytes, kind_byte, text_bytes}
 use Rattle.muck_codec.specs.inner.Stored.{IsDbref, IsText}
-use Rattle.muck_codec.proofs.Codes.{IsBytes, bytes_drop, bytes_take, bytes_rest, bind_ok, guard_ok, skip_ok, ok_is, Takes, takes_then, Codes, mapped_codes}
+use Rattle.muck_codec.proofs.Codes.{IsBytes, bytes_drop, bytes_take, bytes_rest, bind_ok, ok_is, Takes, takes_then, Codes, mapped_codes}
 
 pub byte_codes : Codes byte_at (λ b. b ∷ []) (λ b. b < 2 ^ 8)
 byte_codes = record { takes = takes; again = λ x rest rule. refl }
@@ -83,9 +85,6 @@ flags_with n = record { 0 = n }
 pub flags_codes : Codes flags_at (λ flags. to_be_bytes w16 flags.0) (λ flags. flags.0 < 2 ^ 16)
 flags_codes = mapped_codes flags_with (number_at w16) (to_be_bytes w16) (λ flags. to_be_bytes w16 flags.0) (λ n. n < 2 ^ 16) (λ flags. flags.0 < 2 ^ 16)
     (λ n lt. refl) (λ n lt. lt) (λ flags lt. (flags.0, refl, lt)) codes16
-
-some_is : {A : Type 0} (x y : A) → Some x ≡ Some y → x ≡ y
-some_is x y e = cc
 
 kind_none : (b : ℕ) → 6 ≤ b → kind_of b ≡ None
 kind_none b le = rw (ne_eqb b 0 (omega arith), ne_eqb b 1 (omega arith), ne_eqb b 2 (omega arith), ne_eqb b 3 (omega arith), ne_eqb b 4 (omega arith), ne_eqb b 5 (omega arith)) refl

@@ -4,6 +4,7 @@ use Rattle.std.proofs.lemmas.List.{append-nil, drop_all}
 use Rattle.std.specs.Int.{w32}
 use Rattle.std.specs.Option.{option_map}
 use Rattle.std.specs.Prelude.{slice_get}
+use Rattle.laws.proofs.Places.{got_last}
 use Rattle.muck_codec.specs.declared.fault.Unread.{Unread}
 use Rattle.muck_codec.specs.declared.fault.Unread.TheVariants as unread
 use Rattle.muck_model.specs.declared.tune.Tune.{Tune}
@@ -20,14 +21,10 @@ regroup : {A : Type 0} (front : List A) (x : A) (read : Result (List A × List �
 regroup front x (Ok y) = ap (λ xs. Ok (xs, y.1)) (sym (append_assoc front (x ∷ []) y.0))
 regroup front x (Err left) = refl
 
-last-push : {A : Type 0} (xs : List A) (x : A) → slice_get (xs ++ x ∷ []) (length xs) ≡ Some x
-last-push [] x = refl
-last-push (y ∷ xs) x = last-push xs x
-
 pub last_is : {A K : Type 0} (key : A → K) (xs : List A) (x : A) → last_key key (xs ++ x ∷ []) ≡ Some (key x)
 last_is key xs x =
     let at : length (xs ++ x ∷ []) - 1 ≡ length xs = omega (arith, length-append xs (x ∷ [])) in
-    ap (λ (k : ℕ). option_map key (slice_get (xs ++ x ∷ []) k)) at ∙ ap (option_map key) (last-push xs x)
+    ap (λ (k : ℕ). option_map key (slice_get (xs ++ x ∷ []) k)) at ∙ ap (option_map key) (got_last xs x)
 
 pub goes_on : {A K : Type 0} (key : A → K) (part : Option K → List ℕ → Result (A × List ℕ) ℕ) (front : List A) (count i : ℕ) (bytes : List ℕ) (x : A) (after : List ℕ) (total : Result (List A × List ℕ) ℕ)
     → i < count → part (last_key key front) bytes ≡ Ok (x, after) → with_front front (several key part (last_key key front) (count - i) bytes) ≡ total

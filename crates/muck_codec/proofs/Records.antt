@@ -4,7 +4,8 @@ use Rattle.std.specs.Prelude.{FitsSigned, bytes_eq, IfOk}
 use Rattle.std.specs.Int.{w16, w32, w64, to_be_bytes, cast_unsigned}
 use Rattle.std.specs.Ordering.{int_eq}
 use Rattle.std.proofs.lemmas.Bool.{and_parts, and_from, cond-true, cond-false}
-use Rattle.std.proofs.lemmas.Slice.Eq.{bytes_eq-Decides}
+use Rattle.laws.proofs.Results.{guard_ok, test_ok}
+use Rattle.laws.proofs.Texts.{bytes_equal, same_bytes}
 use Rattle.muck_model.specs.Bytes.{lines_most, text_most}
 use Rattle.muck_model.specs.declared.dbref.Dbref.{Dbref}
 use Rattle.muck_prop.specs.Paths.{IsPath, path_text, path_fault, segments_of, is_filled}
@@ -26,7 +27,7 @@ use Rattle.muck_codec.specs.declared.fault.CodecFault.{CodecFault}
 use Rattle.muck_codec.specs.declared.fault.CodecFault.TheVariants.{BadRecord, NoMemory}
 use Rattle.muck_codec.specs.inner.Stored.{IsSpelled, Takes as IsIt}
 use Rattle.muck_codec.specs.inner.Stored.{IsDbref, IsText, IsValue, IsProperty, AreProperties, IsLine, AreLines, IsStored}
-use Rattle.muck_codec.proofs.Codes.{IsBytes, bytes_rest, bind_ok, guard_ok, test_ok, ok_is, Takes, Codes, both_codes, mapped_codes, counted_codes}
+use Rattle.muck_codec.proofs.Codes.{IsBytes, bytes_rest, bind_ok, ok_is, Takes, Codes, both_codes, mapped_codes, counted_codes}
 use Rattle.muck_codec.proofs.Fields.{dbref_with, byte_codes, codes64, dbref_codes, flags_codes, kind_codes, short_codes, text_codes}
 
 -- Paths.
@@ -43,12 +44,6 @@ path_long : (p : List (List ℕ)) → IsPath p → 1 ≤ length (path_text p)
 path_long [] is = absurd (omega (arith, is.some))
 path_long (s ∷ []) is = filled_long s is.each.0.filled
 path_long (s ∷ t ∷ p) is = omega (arith, filled_long s is.each.0.filled, length-append s (47 ∷ path_text (t ∷ p)))
-
-same_bytes : (a b : List ℕ) → bytes_eq a b ≡ true → a ≡ b
-same_bytes a b e = (bytes_eq-Decides a b).0 e
-
-equal_bytes : (a b : List ℕ) → a ≡ b → bytes_eq a b ≡ true
-equal_bytes a b e = (bytes_eq-Decides a b).1 e
 
 module _ (before : Option (List (List ℕ))) where
   abbrev pub IsNext : List (List ℕ) → Type 0
@@ -78,7 +73,7 @@ module _ (before : Option (List (List ℕ))) where
       let reads = text_reads p rule.0 in
       let text : text_at 1 128 (text_bytes (path_text p) ++ rest) ≡ Ok (path_text p, rest) = (text_codes 1 128 (omega arith)).again (path_text p) rest ((path_long p rule.0, rule.0.short), text_is_text p rule.0) in
       let spelled : spells before (path_text p) ≡ true = and_from _ _ (ap is_none reads.fine)
-      (and_from _ _ (equal_bytes _ _ (ap path_text reads.holds)) (ap (rises before) reads.holds ∙ rule.1)) in
+      (and_from _ _ (bytes_equal _ _ (ap path_text reads.holds)) (ap (rises before) reads.holds ∙ rule.1)) in
       ap (λ r. r >>= λ t. cond (spells before t.0) (Ok (segments_of t.0, t.1)) (Err (suc (length t.1)))) text
       ∙ cond-true (spells before (path_text p)) _ _ spelled ∙ ap (λ q. Ok (q, rest)) reads.holds
 

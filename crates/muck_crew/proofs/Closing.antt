@@ -5,6 +5,7 @@ use Rattle.std.proofs.lemmas.Option.{same_Some, none-some, slice_get_within}
 use Rattle.std.proofs.lemmas.Bool.{both_ways}
 use mathlib.Core.Option.{some, some-ne-none, some-injective}
 use lib.ListN.{get_elem?}
+use Rattle.laws.proofs.Places.{got_index}
 use Rattle.atomic_table.specs.Seated.{TableId}
 use Rattle.turn_lock.specs.Histories.{StartsWith, kept, own_of, Has}
 use Rattle.turn_lock.specs.declared.view.Taken.{Taken}
@@ -93,11 +94,6 @@ died_at w (x ∷ xs) e (zero, at) is l = dead_stays (effect w x) xs (died_dead w
 died_at w (x ∷ xs) e (suc i, at) is l = died_at (effect w x) xs e (i, at) is l.1
 
 -- Parts by their places.
-
-got_index : {X : Type 0} (xs : List X) (i : ℕ) (d : X) → i < length xs → slice_get xs i ≡ Some (slice_index_or xs i d)
-got_index [] i d lt = absurd (omega (arith, lt))
-got_index (x ∷ xs) zero d lt = refl
-got_index (x ∷ xs) (suc i) d lt = got_index xs i d (omega (arith, lt))
 
 -- the part of a party as it was given out and as it returned
 pub record WasDone (table : TableId) (v : Sight) (i : ℕ) (p' : Part) : Type 0 where

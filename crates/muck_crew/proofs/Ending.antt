@@ -4,6 +4,8 @@ use Rattle.std.specs.Prelude.{slice_get}
 use Rattle.std.proofs.lemmas.List.{append-nil}
 use mathlib.Core.Option.{some, some-ne-none, some-injective}
 use lib.ListN.{get_elem?}
+use Rattle.laws.proofs.Numbers.{too_many}
+use Rattle.laws.proofs.Places.{some_at}
 use Rattle.atomic_table.specs.Seated.{TableId}
 use Rattle.turn_lock.specs.Histories.{StartsWith, own_of, Has, AllOf, IsKnown}
 use Rattle.turn_lock.specs.declared.view.Taken.{Taken}
@@ -55,7 +57,6 @@ use Rattle.muck_crew.specs.inner.Parts.{given_to, AreDealt, AreOver, all_in, Are
 use Rattle.muck_crew.specs.inner.Runs.{IsFresh, SomeWorker, AllFine, IsEndOf, HasStopped, HasRun}
 use Rattle.muck_crew.proofs.Seating.{given_low, given_count}
 use Rattle.muck_crew.proofs.Closing.{done_own, own_has, has_end, has_entry, entry_at, longer_than, died_at, done_at, SameButJoined, in_same, in_count, in_has, in_kept, Begins, given_same, fresh_begun, fresh_history}
-use Rattle.spec_live.proofs.Lists.{some_at}
 
 -- What the lock says of a world that is closed, and of the first seat.
 pub record Shut (v : Sight) (h : History) : Type 0 where
@@ -104,9 +105,6 @@ over_behind : (p : ℕ) (own front : List Logged) (l : Logged) (event : Event) �
 over_behind p own front l event is last formed over =
     let same : events_of own ≡ events_of front ++ event ∷ [] = ap events_of is ∙ events_append front (l ∷ []) ∙ ap (λ (x : Event). events_of front ++ x ∷ []) last in
     subst (IsOver p) (sym same) (over (subst (IsWellFormed p) same formed))
-
-too_many : {n : ℕ} → n < 2 ^ 62 → 2 ^ 62 ≤ n → ⊥
-too_many few many = omega (arith, few, many)
 
 module _ {D : Type 0} (tells : Bool) (seen : D → List ℕ) (moment : D → ℕ) (images : D → ℕ → List ℕ → Type 0) (faults : D → ℕ) (shows : Bool) (b k : Account) (workers : ℕ) (way : Way) (pw : PorterWhy) (dw : DumperWhy)
     (store store' : Store) (f s f' s' : D) (world h : History) (m : Note) (fresh : IsFresh m world) (few : workers < 9)

@@ -3,6 +3,7 @@ use Rattle.std.proofs.Common.{◌≡◌, ℕ, ◌<◌, ◌≤◌, zero, suc, Lis
 use Rattle.std.proofs.lemmas.Bool.{cases_eq, ne_eqb, eq-eqb}
 use Rattle.std.specs.List.{slice_get}
 use Rattle.std.specs.Option.{option_map, option_map_or, option_and_then}
+use Rattle.laws.proofs.Mapped.{length_map}
 use Rattle.muck_model.specs.declared.dbref.Dbref.{Dbref}
 use Rattle.spec_live.specs.declared.object.Object.{Object}
 use Rattle.spec_live.specs.declared.saving.Saving.{Saving}
@@ -14,7 +15,7 @@ use Rattle.spec_live.specs.Saving.{front, next_in, links_in, saving_in}
 use Rattle.spec_live.specs.Consistent.{MayMove, IsOrdered, IsConsistent, StandsIn}
 use Rattle.spec_live.specs.Seen.{listed_in}
 use Rattle.spec_live.proofs.Chains.{ends_from, walk_is, walk_next, walk_none, member_none, without_same}
-use Rattle.spec_live.proofs.Lists.{length_changed, length_map, put_other}
+use Rattle.spec_live.proofs.Lists.{length_changed, put_other}
 use Rattle.spec_live.proofs.Dues.{saving_down}
 use Rattle.spec_live.proofs.KindLaws.{standing_alive}
 use Rattle.spec_live.proofs.Orders.{ordered_moved, list_short}

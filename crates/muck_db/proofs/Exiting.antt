@@ -4,6 +4,8 @@ use Rattle.std.proofs.lemmas.Bool.{cases_eq, false≢true}
 use Rattle.std.proofs.lemmas.Option.{slice_get-map}
 use Rattle.std.specs.List.{slice_get}
 use Rattle.std.specs.Option.{option_map, option_and_then, option_map_or}
+use Rattle.laws.proofs.Places.{get_ext}
+use Rattle.laws.proofs.Truths.{whether}
 use Rattle.muck_model.specs.declared.dbref.Kind.TheVariants.{Garbage}
 use Rattle.spec_live.specs.declared.object.Object.{Object}
 use Rattle.spec_live.specs.Chain.{walk, IsChain, Ends, Member, IsApart, without}
@@ -18,8 +20,7 @@ use Rattle.muck_db.specs.inner.Exits.{exit_at, ListsExits}
 use Rattle.muck_db.proofs.Readers.{list_in-entries_of}
 use Rattle.muck_db.proofs.Linked.{chain_over}
 use Rattle.muck_db.proofs.Bridge.{list_is}
-use Rattle.muck_db.proofs.Writes.{get_ext}
-use Rattle.muck_db.proofs.Leaving.{unwiped_is, exit_same, exit_bridge, exit_stands_in, place_stays, whether}
+use Rattle.muck_db.proofs.Leaving.{unwiped_is, exit_same, exit_bridge, exit_stands_in, place_stays}
 
 -- what has left its list is still in that of its exits
 pub lists_exits : (d : ℕ) (old mid : List Slot) → HasOrder old → IsUnlinked d old mid → ListsExits d mid

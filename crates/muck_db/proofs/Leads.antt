@@ -2,13 +2,14 @@
 use Rattle.std.proofs.Common.{◌≡◌, ◌⊎◌, ℕ, List, [], ◌∷◌, Option, Some, None, inl, inr, refl, sym, ◌∙◌, ap, subst, Bool, true, false, not, cond}
 use Rattle.std.proofs.lemmas.Bool.{cases_eq, ne_eqb, eq-eqb}
 use Rattle.std.specs.Option.{option_and_then}
+use Rattle.laws.proofs.Numbers.{same_place}
 use Rattle.spec_live.specs.declared.saving.Saving.{Saving}
 use Rattle.spec_live.specs.declared.saving.Saving.TheVariants.{Due}
 use Rattle.spec_live.specs.Chain.{Member, IsApart, follower, without, put_at}
 use Rattle.spec_live.specs.Objects.{Entry, is_exit, kind_in, place_in, list_in}
 use Rattle.spec_live.specs.Saving.{Links, front, next_in, links_in, saving_in, same_links, relinked}
 use Rattle.spec_live.proofs.Chains.{without_gone}
-use Rattle.spec_live.proofs.Lists.{same_place, put_same, put_other}
+use Rattle.spec_live.proofs.Lists.{put_same, put_other}
 use Rattle.spec_live.proofs.Savings.{saving_relinked}
 use Rattle.spec_live.proofs.Dues.{same_equal, saving_linked}
 use Rattle.muck_db.specs.inner.Slots.{LeadsTo}

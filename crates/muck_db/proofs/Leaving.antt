@@ -1,5 +1,9 @@
 -- The steps of recycling, from the table to its entries.
 use Rattle.std.proofs.Common.{◌≡◌, ℕ, ◌<◌, List, [], ◌∷◌, Option, Some, None, Result, Ok, inl, inr, refl, sym, ◌∙◌, ap, subst, length, arith, Bool, true, false, cond, map}
+use Rattle.laws.proofs.Mapped.{length_map}
+use Rattle.laws.proofs.Options.{kept_then}
+use Rattle.laws.proofs.Places.{some_at}
+use Rattle.laws.proofs.Truths.{whether}
 use Rattle.muck_model.proofs.Dbrefs.{eq_same}
 use Rattle.std.proofs.lemmas.Bool.{cases_eq, ne_eqb, eq-eqb, false≢true, and_parts}
 use Rattle.std.proofs.lemmas.Option.{slice_get-map}
@@ -20,7 +24,7 @@ use Rattle.spec_live.specs.Moving.{left_out, moved, Does}
 use Rattle.spec_live.specs.Recycling.{untie, untied, way_home, sent_home, gone_entry, is_exit_of, exit_gone, without_exits, exits_gone, vanished, taken_away, recycled, recycle_check}
 use Rattle.spec_live.specs.Consistent.{StandsIn, IsOrdered, IsConsistent, MayMove}
 use Rattle.spec_live.proofs.Chains.{ends_from, walk_none, walk_next, without_gone, without_member}
-use Rattle.spec_live.proofs.Lists.{length_map, length_changed, get_changed_same, get_changed_other, some_at, kept_then, read_kept}
+use Rattle.spec_live.proofs.Lists.{length_changed, get_changed_same, get_changed_other, read_kept}
 use Rattle.spec_live.proofs.Readers.{entries_ext, kind_alike, place_alike}
 use Rattle.spec_live.proofs.KindLaws.{place_alive, only_exit, none_in_exit}
 use Rattle.spec_live.proofs.Checks.{alive_known}
@@ -210,10 +214,6 @@ exit_place d k slots h = by_cases (object_at slots k) refl h
 pub exit_same : (d k : ℕ) (old mid : List Slot) → IsUnlinked d old mid → exit_at d mid k ≡ exit_at d old k
 unfolding exit_at
 exit_same d k old mid u = ap (λ (o : Option Object). option_map_or (is_exit_of d) o false) (u.same_objects k)
-
-pub whether : (b : Bool) (P : Type 0) → (b ≡ true → P) → (b ≡ false → P) → P
-whether true P so other = so refl
-whether false P so other = other refl
 
 -- a list that isn't of d holds no exit of d
 others_stay : (v : Bool) (d p y : ℕ) (old mid : List Slot) → HasOrder old → IsUnlinked d old mid → (p ≡ d → ⊥) → Member y (without d (list_at v old p)) → exit_at d mid y ≡ false

@@ -1,5 +1,6 @@
 -- Every change keeps a world within its limits.
 use Rattle.std.proofs.Common.{Bor, ◌≡◌, ℕ, ◌<◌, ◌≤◌, ◌^◌, zero, suc, List, [], ◌∷◌, ◌++◌, Option, Some, None, Ok, inl, inr, refl, sym, ◌∙◌, ap, subst, length, arith, Bool, true, false, ◌&&◌, ◌||◌, cond, map}
+use Rattle.laws.proofs.Texts.{length-bytes_high}
 use Rattle.muck_model.specs.Bytes.{lines_most}
 use Rattle.std.specs.Prelude.{nat_lt}
 use Rattle.std.proofs.lemmas.Bool.{and_parts, cases_eq}
@@ -30,7 +31,7 @@ use Rattle.spec_live.proofs.Savings.{object_relinked, object_resaved}
 use Rattle.spec_live.proofs.Checks.{checked_ok}
 use Rattle.spec_live.proofs.CreationLaws.{object_more, object_last, grown_same, grown_more}
 use Rattle.muck_db.specs.inner.Limits.{IsDigest, FitsLimits, IsWithinLimits}
-use Rattle.muck_db.proofs.Digests.{bytes_high, length-bytes_high, is_digest}
+use Rattle.muck_db.proofs.Digests.{bytes_high, is_digest}
 
 -- Objects.
 

@@ -2,12 +2,13 @@
 use Rattle.std.proofs.Common.{◌≡◌, ◌⊎◌, ℕ, ◌<◌, List, [], ◌∷◌, Option, Some, None, inl, inr, refl, sym, ◌∙◌, ap, subst, length, arith, Bool, true, false}
 use Rattle.std.proofs.lemmas.Bool.{cases_eq, ne_eqb, eq-eqb}
 use Rattle.std.specs.Option.{option_and_then}
+use Rattle.laws.proofs.Numbers.{same_place}
 use Rattle.spec_live.specs.declared.saving.Saving.TheVariants.{Due}
 use Rattle.spec_live.specs.Chain.{IsChain, Ends, Member, IsApart, follower, without, put_at}
 use Rattle.spec_live.specs.Objects.{Entry, changed_at, is_exit, kind_in, place_in, list_in}
 use Rattle.spec_live.specs.Saving.{front, next_in, links_in}
 use Rattle.spec_live.proofs.Chains.{chain_frame, chain_below, chain_apart, chain_without_first, chain_without, without_same}
-use Rattle.spec_live.proofs.Lists.{same_place, put_same, put_other, length_changed}
+use Rattle.spec_live.proofs.Lists.{put_same, put_other, length_changed}
 use Rattle.muck_db.specs.declared.slot.Slot.{Slot}
 use Rattle.muck_db.specs.inner.Slots.{next_at, first_at, place_at, list_at, saving_at, with_next, with_first, entries_of, LeadsTo, Stands, HasChains, IsUnlinked, IsLinked}
 use Rattle.muck_db.proofs.Tables.{object-with_next, object-with_first, mark-with_next, mark-with_first, stood-with_next, stood-with_first, first-with_next, next-with_first, next-with_next_same, next-with_next_other, first-with_first_same, first-with_first_other, saving_due, saving_other, with_first_due}

@@ -7,6 +7,7 @@ use Rattle.std.proofs.lemmas.Bool.{and_parts, ne_eqb}
 use Rattle.std.proofs.lemmas.Bool.Decides.{nat_tests}
 use Rattle.std.proofs.lemmas.List.Sums.{AllPass-from_list_all}
 use Rattle.std.proofs.lemmas.Option.{slice_get-map}
+use Rattle.laws.proofs.Mapped.{length_map}
 use Rattle.muck_model.specs.Bytes.{lines_most}
 use Rattle.muck_codec.specs.declared.stored.Stored.{Stored}
 use Rattle.muck_store.specs.Forms.{next_at as record_next, entry_of as record_entry, object_of, loaded}
@@ -21,7 +22,6 @@ use Rattle.spec_live.specs.Stood.{stood_in}
 use Rattle.spec_live.specs.Consistent.{IsConsistent}
 use Rattle.spec_live.specs.Objects.{Entry, index_of, is_garbage, garbage, object_in, list_of, list_in, mark_in}
 use Rattle.spec_live.proofs.Chains.{walk_none}
-use Rattle.spec_live.proofs.Lists.{length_map}
 use Rattle.spec_live.proofs.Readers.{entries_ext}
 use Rattle.muck_db.specs.declared.slot.Slot.{Slot}
 use Rattle.muck_db.specs.inner.Limits.{IsDigest, FitsLimits, IsWithinLimits}

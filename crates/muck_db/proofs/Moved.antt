@@ -1,11 +1,12 @@
 -- Who stands elsewhere than when the event began.
 use Rattle.std.proofs.Common.{◌≡◌, ◌⊎◌, ℕ, ◌+◌, ◌<◌, ◌≤◌, zero, suc, List, [], ◌∷◌, ◌++◌, Option, Some, None, inl, inr, refl, sym, ◌∙◌, ap, subst, length, drop, map, arith, Bool, true, false, not, cond}
-use Rattle.std.proofs.lemmas.Bool.{cases_eq, cases_lt, false≢true}
+use Rattle.std.proofs.lemmas.Bool.{cases_eq, cases_lt, false≢true, not-false}
 use Rattle.std.proofs.lemmas.List.{append-nil}
 use Rattle.std.proofs.lemmas.Option.{slice_get-map, slice_get_past, same_Some}
 use Rattle.std.proofs.Common.{append_assoc}
 use Rattle.std.specs.List.{slice_get, slice_set}
 use Rattle.std.specs.Option.{option_map}
+use Rattle.laws.proofs.Places.{get_elsewhere, get_more}
 use Rattle.muck_model.specs.declared.dbref.Dbref.{Dbref}
 use Rattle.muck_model.proofs.Dbrefs.{same_eq, eq_same}
 use Rattle.spec_live.specs.declared.moved.Move.{Move}
@@ -20,7 +21,6 @@ use Rattle.muck_db.specs.inner.Limits.{IsWithinLimits}
 use Rattle.muck_db.specs.inner.Slots.{shown, first_of, entry_of, entries_of, IsKept}
 use Rattle.muck_db.specs.inner.Moves.{is_where, has_moved, rested, none_moved, NoneMoved, AreWithin, AreBefore, AreNoted}
 use Rattle.muck_db.specs.inner.Ties.{IsHeld}
-use Rattle.muck_db.proofs.Blocked.{get_elsewhere, get_before}
 use Rattle.muck_db.proofs.LimitLaws.{limits_stilled}
 use Rattle.muck_db.proofs.Readers.{kind_in-entries_of, mark_in-entries_of}
 use Rattle.muck_db.proofs.Tying.{ties_rested}
@@ -58,7 +58,7 @@ noted_as m r slots n w is within = subst (λ (x : Moves). AreNoted x (slice_set 
 pub noted_pushed : (m : Moves) (slots : List Slot) (w : Slot) → m.last ≡ Some (length slots) → AreWithin m.low m.high slots → AreNoted m (slots ++ w ∷ [])
 noted_pushed m slots w is within k s at moved = elim (cases_eq k (length slots)) [
   | inl e ↦ inl (is ∙ ap Some (sym e))
-  | inr ne ↦ inr (within k s (sym (get_before slots w k ne) ∙ at) moved)
+  | inr ne ↦ inr (within k s (sym (get_more slots w k ne) ∙ at) moved)
 ]
 
 pub pushed_as : (m r : Moves) (slots : List Slot) (n : ℕ) (w : Slot) → r ≡ record m { last = Some n } → n ≡ length slots → AreWithin m.low m.high slots → AreNoted r (slots ++ w ∷ [])
@@ -92,12 +92,8 @@ where_same (Some a) (Some b) h = ap Some (eq_same a b h)
 where_same None (Some b) h = absurd (false≢true h)
 where_same (Some a) None h = absurd (false≢true h)
 
-unmoved : (b : Bool) → not b ≡ false → b ≡ true
-unmoved true h = refl
-unmoved false h = absurd (false≢true (sym h))
-
 rests_same : (s : Slot) → has_moved s ≡ false → rested s ≡ s
-rests_same s h = ap (λ (x : Option Dbref). record s { stood = x }) (sym (where_same s.stood (standing (shown s)) (unmoved _ h)))
+rests_same s h = ap (λ (x : Option Dbref). record s { stood = x }) (sym (where_same s.stood (standing (shown s)) (not-false _ h)))
 
 where_itself : (a : Option Dbref) → not (is_where a a) ≡ false
 where_itself None = refl
@@ -182,7 +178,7 @@ rests_all old new es e is = entries_rested old new is ∙ ap (λ (z : List Entry
 -- Who moved.
 
 no_move : (n : ℕ) (s : Slot) → has_moved s ≡ false → move_of n s.stood (standing (shown s)) ≡ []
-no_move n s h = ap (λ (x : Option Dbref). move_of n x (standing (shown s))) (where_same s.stood (standing (shown s)) (unmoved _ h)) ∙ none (standing (shown s))
+no_move n s h = ap (λ (x : Option Dbref). move_of n x (standing (shown s))) (where_same s.stood (standing (shown s)) (not-false _ h)) ∙ none (standing (shown s))
   where
     none : (o : Option Dbref) → move_of n o o ≡ []
     none None = refl

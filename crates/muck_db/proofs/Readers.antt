@@ -3,6 +3,7 @@ use Rattle.std.proofs.Common.{◌≡◌, ℕ, List, [], Option, Some, None, refl
 use Rattle.std.proofs.lemmas.Option.{slice_get-map}
 use Rattle.std.specs.List.{slice_get}
 use Rattle.std.specs.Option.{option_map, option_and_then, option_map_or}
+use Rattle.laws.proofs.Mapped.{length_map}
 use Rattle.muck_model.specs.declared.dbref.Kind.TheVariants.{Garbage}
 use Rattle.spec_live.specs.declared.object.Object.{Object}
 use Rattle.spec_live.specs.declared.saving.Saving.TheVariants.{Due}
@@ -12,7 +13,6 @@ use Rattle.spec_live.specs.Objects.{Entry, index_of, is_exit, object_in, list_of
 use Rattle.spec_live.specs.Saving.{saving_in}
 use Rattle.spec_live.specs.Stood.{stood_in}
 use Rattle.spec_live.proofs.Chains.{walk_none}
-use Rattle.spec_live.proofs.Lists.{length_map}
 use Rattle.muck_db.specs.declared.slot.Slot.{Slot}
 use Rattle.muck_db.specs.inner.Slots.{shown, object_at, next_at, first_at, first_of, place_at, kind_at, flags_at, home_at, owner_at, mark_at, saving_at, stood_at, is_exit_at, list_at, entry_of, entries_of}
 

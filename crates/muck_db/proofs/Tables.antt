@@ -3,10 +3,12 @@ use Rattle.std.proofs.Common.{◌≡◌, ℕ, ◌<◌, List, Option, Some, None,
 use Rattle.std.proofs.lemmas.Bool.{cases_eq, false≢true}
 use Rattle.std.specs.List.{slice_get}
 use Rattle.std.specs.Option.{option_map, option_and_then, option_map_or}
+use Rattle.laws.proofs.Options.{kept_map}
+use Rattle.laws.proofs.Places.{some_at}
 use Rattle.spec_live.specs.declared.object.Object.{Object}
 use Rattle.spec_live.specs.declared.saving.Saving.TheVariants.{Due}
 use Rattle.spec_live.specs.Objects.{changed_at, is_garbage, garbage}
-use Rattle.spec_live.proofs.Lists.{get_changed_same, get_changed_other, kept_map, read_kept, some_at}
+use Rattle.spec_live.proofs.Lists.{get_changed_same, get_changed_other, read_kept}
 use Rattle.muck_db.specs.declared.slot.Slot.{Slot}
 use Rattle.muck_db.specs.inner.Slots.{shown, object_at, kind_at, next_at, first_of, first_at, mark_at, saving_at, stood_at, with_next, with_first, on_slot}
 

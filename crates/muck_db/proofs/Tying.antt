@@ -1,14 +1,15 @@
 -- Who is tied to a number is noted there.
-use Rattle.std.proofs.Common.{◌≡◌, ◌⊎◌, ℕ, zero, suc, get_or, ◌+◌, ◌<◌, ◌≤◌, List, [], ◌∷◌, ◌++◌, Option, Some, None, inl, inr, refl, sym, ◌∙◌, ap, subst, length, length-append, arith, Bool, true, false, cond, ◌||◌, map, Ok}
-use Rattle.std.proofs.lemmas.Bool.{cases_eq, cases_lt, false≢true}
+use Rattle.std.proofs.Common.{◌≡◌, ◌⊎◌, ℕ, zero, suc, get_or, ◌+◌, ◌<◌, ◌≤◌, List, [], ◌∷◌, ◌++◌, Option, Some, None, inl, inr, refl, sym, ◌∙◌, ap, subst, length, length-append, arith, Bool, true, false, cond, map, Ok}
+use Rattle.std.proofs.lemmas.Bool.{cases_eq, cases_lt, false≢true, or_left, or_parts, or_right}
 use Rattle.std.proofs.lemmas.Option.{slice_get-map, slice_get_past, slice_get_read, get_or_from_slice_get}
-use Rattle.std.proofs.lemmas.Map.Lookups.{exact_unsigned}
-use Rattle.std.specs.declared.cmp.Ordering.{Ordering}
-use Rattle.std.specs.declared.cmp.Ordering.TheVariants.{Less, Equal, Greater}
-use Rattle.std.specs.Ordering.{is_eq, nat_cmp}
+use Rattle.std.specs.Ordering.{nat_cmp}
 use Rattle.std.specs.BTreeMap.{is_at}
 use Rattle.std.specs.List.{slice_get, slice_set, list_any}
 use Rattle.std.specs.Option.{option_map, option_and_then, option_map_or}
+use Rattle.laws.proofs.Found.{later}
+use Rattle.laws.proofs.Mapped.{length_map}
+use Rattle.laws.proofs.Places.{get_ext, get_more}
+use Rattle.laws.proofs.Truths.{either_so, whether}
 use Rattle.muck_model.specs.declared.dbref.Dbref.{Dbref}
 use Rattle.muck_model.specs.declared.dbref.Kind.{Kind}
 use Rattle.muck_model.specs.declared.dbref.Kind.TheVariants.{Thing, Player}
@@ -26,7 +27,7 @@ use Rattle.spec_live.proofs.Checks.{index_only, alive_known}
 use Rattle.spec_live.proofs.KindLaws.{linked_alive, home_alive}
 use Rattle.spec_live.proofs.HomeLaws.{not_nothing}
 use Rattle.spec_live.proofs.CreationLaws.{may_create, Begins, begins, grown_more, grown_same, object_more}
-use Rattle.spec_live.proofs.Lists.{length_map, length_changed, get_changed_same, get_changed_other, get_more}
+use Rattle.spec_live.proofs.Lists.{length_changed, get_changed_same, get_changed_other}
 use Rattle.spec_live.proofs.Readers.{length_moved, object_moved, object_unmoved, object_named, object_unnamed}
 use Rattle.muck_db.specs.declared.slot.Slot.{Slot}
 use Rattle.muck_db.specs.declared.ties.Tied.{Tied}
@@ -35,23 +36,9 @@ use Rattle.muck_db.specs.inner.Moves.{rested}
 use Rattle.muck_db.specs.inner.Slots.{shown, object_at, home_at, on_slot, with_saving, with_mark, with_source, with_slot_lines, entries_of, untied_slot, IsUnlinked}
 use Rattle.muck_db.specs.inner.Ties.{is_tied_at, link_at, Tethers, Notes, IsNoted, HasTies}
 use Rattle.muck_db.proofs.Readers.{length-entries_of, object_in-entries_of}
-use Rattle.muck_db.proofs.Writes.{get_ext}
 use Rattle.muck_db.proofs.Creating.{Put}
-use Rattle.muck_db.proofs.Leaving.{whether}
 
 -- What a tie is.
-
-either : (a b : Bool) (P : Type 0) → (a ≡ true → P) → (b ≡ true → P) → (a || b) ≡ true → P
-either true b P f g h = f refl
-either false b P f g h = g h
-
-first_so : (a b : Bool) → a ≡ true → (a || b) ≡ true
-first_so true b e = refl
-first_so false b e = absurd (false≢true e)
-
-second_so : (a b : Bool) → b ≡ true → (a || b) ≡ true
-second_so true b e = refl
-second_so false b e = e
 
 tied_leads : (d k : ℕ) (slots : List Slot) → is_tied_at d slots k ≡ true → (home_at slots k ≡ Some d) ⊎ (link_at slots k ≡ Some d)
 unfolding is_tied_at home_at link_at
@@ -60,7 +47,7 @@ tied_leads d k slots h = by_cases (object_at slots k) h
     by_cases : (q : Option Object) → option_map_or (is_tied d) q false ≡ true → (option_and_then (λ (o : Object). index_of o.home) q ≡ Some d) ⊎ (option_and_then (λ (o : Object). index_of o.link) q ≡ Some d)
     by_cases None e = absurd (false≢true e)
     by_cases (Some o) e =
-        either (same o.home (dbref_of d)) (same o.link (dbref_of d)) ((index_of o.home ≡ Some d) ⊎ (index_of o.link ≡ Some d))
+        either_so (same o.home (dbref_of d)) (same o.link (dbref_of d)) ((index_of o.home ≡ Some d) ⊎ (index_of o.link ≡ Some d))
         (λ q. inl (ap (λ z. index_of z) (eq_same o.home (dbref_of d) q))) (λ q. inr (ap (λ z. index_of z) (eq_same o.link (dbref_of d) q))) e
 
 home_tied : (d k : ℕ) (slots : List Slot) → home_at slots k ≡ Some d → is_tied_at d slots k ≡ true
@@ -69,7 +56,7 @@ home_tied d k slots h = by_cases (object_at slots k) h
   where
     by_cases : (q : Option Object) → option_and_then (λ (o : Object). index_of o.home) q ≡ Some d → option_map_or (is_tied d) q false ≡ true
     by_cases None e = absurd (cc e)
-    by_cases (Some o) e = first_so (same o.home (dbref_of d)) (same o.link (dbref_of d)) (same_eq o.home (dbref_of d) (index_only o.home d e))
+    by_cases (Some o) e = or_left (same o.home (dbref_of d)) (same o.link (dbref_of d)) (same_eq o.home (dbref_of d) (index_only o.home d e))
 
 link_tied : (d k : ℕ) (slots : List Slot) → link_at slots k ≡ Some d → is_tied_at d slots k ≡ true
 unfolding is_tied_at link_at
@@ -77,7 +64,7 @@ link_tied d k slots h = by_cases (object_at slots k) h
   where
     by_cases : (q : Option Object) → option_and_then (λ (o : Object). index_of o.link) q ≡ Some d → option_map_or (is_tied d) q false ≡ true
     by_cases None e = absurd (cc e)
-    by_cases (Some o) e = second_so (same o.home (dbref_of d)) (same o.link (dbref_of d)) (same_eq o.link (dbref_of d) (index_only o.link d e))
+    by_cases (Some o) e = or_right (same o.home (dbref_of d)) (same o.link (dbref_of d)) (same_eq o.link (dbref_of d) (index_only o.link d e))
 
 tied_past : (d k : ℕ) (slots : List Slot) → length slots ≤ k → is_tied_at d slots k ≡ false
 unfolding is_tied_at object_at
@@ -266,9 +253,9 @@ end_untied d e a z false q never h = ((λ is. false≢true (sym q ∙ subst (λ 
 -- whoever is tied behind it was tied before, and to another number
 object_untied_so : (d e : ℕ) (o : Object) → (e ≡ 0 → ⊥) → is_tied e (without_ties d o) ≡ true → (e ≡ d → ⊥) × (is_tied e o ≡ true)
 object_untied_so d e o low h =
-    either (same (cond (same o.home (dbref_of d)) (dbref_of 0) o.home) (dbref_of e)) (same (cond (same o.link (dbref_of d)) nothing o.link) (dbref_of e)) ((e ≡ d → ⊥) × (is_tied e o ≡ true))
-    (λ q. let s : (e ≡ d → ⊥) × (same o.home (dbref_of e) ≡ true) = end_untied d e o.home (dbref_of 0) (same o.home (dbref_of d)) refl (λ z. low (sym (same_number 0 e z))) q in (s.0, first_so (same o.home (dbref_of e)) (same o.link (dbref_of e)) s.1))
-    (λ q. let s : (e ≡ d → ⊥) × (same o.link (dbref_of e) ≡ true) = end_untied d e o.link nothing (same o.link (dbref_of d)) refl (λ z. not_nothing e (eq_same nothing (dbref_of e) z)) q in (s.0, second_so (same o.home (dbref_of e)) (same o.link (dbref_of e)) s.1))
+    either_so (same (cond (same o.home (dbref_of d)) (dbref_of 0) o.home) (dbref_of e)) (same (cond (same o.link (dbref_of d)) nothing o.link) (dbref_of e)) ((e ≡ d → ⊥) × (is_tied e o ≡ true))
+    (λ q. let s : (e ≡ d → ⊥) × (same o.home (dbref_of e) ≡ true) = end_untied d e o.home (dbref_of 0) (same o.home (dbref_of d)) refl (λ z. low (sym (same_number 0 e z))) q in (s.0, or_left (same o.home (dbref_of e)) (same o.link (dbref_of e)) s.1))
+    (λ q. let s : (e ≡ d → ⊥) × (same o.link (dbref_of e) ≡ true) = end_untied d e o.link nothing (same o.link (dbref_of d)) refl (λ z. not_nothing e (eq_same nothing (dbref_of e) z)) q in (s.0, or_right (same o.home (dbref_of e)) (same o.link (dbref_of e)) s.1))
     h
 
 garbage_untied : (d : ℕ) → without_ties d garbage ≡ garbage
@@ -307,13 +294,9 @@ ties_untied d old new ties after is long others h = record {
 pub ties_emptied : (d : ℕ) (old new : List Slot) (ties : List Tied) (s : Tied) → new ≡ map (untied_slot d) old → HasTies old ties → HasTies new (slice_set ties d s)
 ties_emptied d old new ties s is h = ties_untied d old new ties (slice_set ties d s) is (set_long ties d s) (λ e ne. set_other ties d e s ne) h
 
-both_false : (a b : Bool) → (a || b) ≡ false → (a ≡ false) × (b ≡ false)
-both_false true b h = absurd (false≢true (sym h))
-both_false false b h = (refl, h)
-
 object_stays : (d : ℕ) (o : Object) → is_tied d o ≡ false → without_ties d o ≡ o
 object_stays d o h =
-    let both : (same o.home (dbref_of d) ≡ false) × (same o.link (dbref_of d) ≡ false) = both_false (same o.home (dbref_of d)) (same o.link (dbref_of d)) h in
+    let both : (same o.home (dbref_of d) ≡ false) × (same o.link (dbref_of d) ≡ false) = or_parts (same o.home (dbref_of d)) (same o.link (dbref_of d)) h in
     rw (both.0, both.1) refl
 
 slot_stays : (d : ℕ) (s : Slot) → is_tied d (shown s) ≡ false → untied_slot d s ≡ s
@@ -349,18 +332,6 @@ unties_none d old left noted = record {
   same_length = refl;
   each = λ k. whether (is_tied_at d old k) ((slice_get old k ≡ option_map (untied_slot d) (slice_get old k)) ⊎ ((slice_get old k ≡ slice_get old k) × (list_any (is_at (nat_cmp k)) left ≡ true))) (λ h. inr (refl, noted k h)) (λ h. inl (stays_at d k old h));
 }
-
-at_same : (k x : ℕ) → is_at (nat_cmp k) x ≡ true → k ≡ x
-at_same k x h = exact_unsigned k x (equal_from (nat_cmp k x) h)
-  where
-    equal_from : (r : Ordering) → is_eq r ≡ true → r ≡ Equal
-    equal_from Less e = cc
-    equal_from Equal e = refl
-    equal_from Greater e = cc
-
--- the first of the numbers, or one of the others
-later : (k x : ℕ) (xs : List ℕ) → (k ≡ x → ⊥) → list_any (is_at (nat_cmp k)) (x ∷ xs) ≡ true → list_any (is_at (nat_cmp k)) xs ≡ true
-later k x xs ne h = either (is_at (nat_cmp k) x) (list_any (is_at (nat_cmp k)) xs) (list_any (is_at (nat_cmp k)) xs ≡ true) (λ q. absurd (ne (at_same k x q))) (λ q. q) h
 
 pub unties_more : (d x : ℕ) (old cur new : List Slot) (left rest : List ℕ) → (d ≡ 0 → ⊥) → left ≡ x ∷ rest → new ≡ changed_at x (untied_slot d) cur → UntiesOn d old cur left → UntiesOn d old new rest
 unties_more d x old cur new left rest low list is u = record {
@@ -434,7 +405,7 @@ tied_known d k slots c h = by_cases (object_in (entries_of slots) k) refl (tied_
     by_cases None e t = absurd (false≢true t)
     by_cases (Some o) e t =
         let ties : IsTied (entries_of slots) o = c.tied k o e in
-        either (same o.home (dbref_of d)) (same o.link (dbref_of d)) (d < length slots)
+        either_so (same o.home (dbref_of d)) (same o.link (dbref_of d)) (d < length slots)
         (λ q. within (home_known (entries_of slots) d o o.kind (eq_same o.home (dbref_of d) q) ties.home)) (λ q. within (link_known (entries_of slots) d o (eq_same o.link (dbref_of d) q) ties.link)) t
 
 pub ties_roomy : (slots : List Slot) (ties more : List Tied) → IsConsistent (entries_of slots) → length ties ≤ length more → ((d j : ℕ) → d < length ties → IsNoted ties d j → IsNoted more d j) → HasTies slots ties → HasTies slots more
@@ -448,7 +419,7 @@ ties_roomy slots ties more c long others h = record {
 new_tied : (d n : ℕ) (kind : Kind) (name : List ℕ) (owner : Dbref) → (d ≡ 0 → ⊥) → is_tied d (new_object n kind name owner) ≡ true → ⊥
 unfolding new_object
 new_tied d n kind name owner low h =
-    either (same (cond (has_home kind) (dbref_of 0) nothing) (dbref_of d)) (same nothing (dbref_of d)) ⊥ (λ q. by_cases (has_home kind) q) (λ q. not_nothing d (eq_same nothing (dbref_of d) q)) h
+    either_so (same (cond (has_home kind) (dbref_of 0) nothing) (dbref_of d)) (same nothing (dbref_of d)) ⊥ (λ q. by_cases (has_home kind) q) (λ q. not_nothing d (eq_same nothing (dbref_of d) q)) h
   where
     by_cases : (b : Bool) → same (cond b (dbref_of 0) nothing) (dbref_of d) ≡ true → ⊥
     by_cases true q = low (sym (same_number 0 d q))

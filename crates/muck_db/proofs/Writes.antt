@@ -1,9 +1,12 @@
 -- Writes of whole slots, seen as changes of entries.
-use Rattle.std.proofs.Common.{◌≡◌, ℕ, ◌+◌, ◌<◌, ◌≤◌, zero, suc, List, [], ◌∷◌, ◌++◌, Option, Some, None, inl, inr, refl, sym, ◌∙◌, ap, subst, length, arith, length-append, Bool, true, false, map}
+use Rattle.std.proofs.Common.{◌≡◌, ℕ, ◌+◌, ◌<◌, ◌≤◌, List, [], ◌∷◌, ◌++◌, Option, Some, None, inl, inr, refl, sym, ◌∙◌, ap, subst, length, arith, length-append, Bool, true, false, map}
 use Rattle.std.proofs.lemmas.Bool.{cases_eq, cases_lt, ne_eqb, eq-eqb, false≢true}
 use Rattle.std.proofs.lemmas.Option.{slice_get-map, slice_get_past}
-use Rattle.std.specs.List.{slice_get, slice_set}
+use Rattle.std.specs.List.{slice_get}
 use Rattle.std.specs.Option.{option_map, option_map_or, option_and_then}
+use Rattle.laws.proofs.Mapped.{length_map}
+use Rattle.laws.proofs.Options.{kept_then}
+use Rattle.laws.proofs.Places.{get_ext, get_more, got_last, read_more}
 use Rattle.spec_live.specs.declared.object.Object.{Object}
 use Rattle.spec_live.specs.declared.mark.Mark.{Mark}
 use Rattle.spec_live.specs.declared.saving.Saving.TheVariants.{Due}
@@ -12,7 +15,7 @@ use Rattle.spec_live.specs.Objects.{Entry, changed_at, is_garbage, garbage, on_o
 use Rattle.spec_live.specs.Making.{blank_entry, grown}
 use Rattle.spec_live.specs.Saving.{saving_in}
 use Rattle.spec_live.proofs.Chains.{ends_from}
-use Rattle.spec_live.proofs.Lists.{length_changed, length_map, get_changed_same, get_changed_other, get_more, get_last, read_more, read_kept, kept_then}
+use Rattle.spec_live.proofs.Lists.{length_changed, get_changed_same, get_changed_other, read_kept}
 use Rattle.spec_live.proofs.Dues.{saving_past, saving_here, saving_elsewhere, saving_more as entry_more}
 use Rattle.spec_live.proofs.Readers.{entries_ext, object_named, object_unnamed, list_named, mark_named}
 use Rattle.spec_live.proofs.Tracing.{stood_named, stood_more as stood_blank}
@@ -23,21 +26,6 @@ use Rattle.muck_db.specs.inner.Slots.{shown, object_at, kept_at, next_at, first_
 use Rattle.muck_db.proofs.Readers.{length-entries_of, object_in-entries_of, list_in-entries_of, mark_in-entries_of, saving_in-entries_of, stood_in-entries_of}
 use Rattle.muck_db.proofs.Linked.{chain_over}
 use Rattle.muck_db.proofs.Bridge.{list_is, walk_same}
-
-pub get_ext : {X : Type 0} (xs ys : List X) → ((k : ℕ) → slice_get xs k ≡ slice_get ys k) → xs ≡ ys
-get_ext [] [] h = refl
-get_ext [] (y ∷ ys) h = absurd (cc (h 0))
-get_ext (x ∷ xs) [] h = absurd (cc (h 0))
-get_ext (x ∷ xs) (y ∷ ys) h =
-    let head : x ≡ y = cc (h 0) in
-    let rest : xs ≡ ys = get_ext xs ys (λ k. h (suc k)) in
-    cc
-
--- an item that is written where it stands
-pub set_back : {X : Type 0} (xs : List X) (n : ℕ) (x : X) → slice_get xs n ≡ Some x → slice_set xs n x ≡ xs
-set_back [] n x h = refl
-set_back (y ∷ ys) zero x h = let e : y ≡ x = cc (h) in ap (λ z. z ∷ ys) (sym e)
-set_back (y ∷ ys) (suc n) x h = let e : slice_set ys n x ≡ ys = set_back ys n x h in cc
 
 -- the same slot in another table with the same links
 entry_over : (old new : List Slot) (s : Slot) → length new ≡ length old → ((x : ℕ) → next_at new x ≡ next_at old x) → entry_of new s ≡ entry_of old s
@@ -180,7 +168,7 @@ object_put_other o slots k ne = ap (λ (z : Option Slot). option_map shown z) (g
 
 object_put_last : (o : Object) (slots : List Slot) → object_at (slots ++ new_slot (Some o) None ∷ []) (length slots) ≡ Some o
 unfolding object_at
-object_put_last o slots = ap (λ (z : Option Slot). option_map shown z) (get_last slots (new_slot (Some o) None))
+object_put_last o slots = ap (λ (z : Option Slot). option_map shown z) (got_last slots (new_slot (Some o) None))
 
 length_put : (es : List Entry) (o : Object) → length (changed_at (length es) (with_object o) (es ++ blank_entry ∷ [])) ≡ length es + 1
 length_put es o = length_changed (es ++ blank_entry ∷ []) (length es) (with_object o) ∙ length-append es (blank_entry ∷ [])

@@ -3,11 +3,13 @@ use Rattle.std.proofs.Common.{◌≡◌, ℕ, zero, suc, ◌+◌, ◌-◌, ◌/�
 use Rattle.std.specs.Prelude.{◌==◌, ◌&&◌, nat_lt, is_none, codes}
 use Rattle.std.specs.Fmt.{decimal, digits, digits_onto, digit_glyph}
 use Rattle.std.specs.List.{flat_map, filter, list_all, position, position_or_len, onto_first}
-use Rattle.std.proofs.lemmas.Bool.{cond-true, cond-false, lt-ltb, ltb-false, and_parts}
+use Rattle.std.proofs.lemmas.Bool.{cond-false, lt-ltb, ltb-false, and_parts, not-true}
 use Rattle.std.proofs.lemmas.Bool.Decides.{nat_tests}
 use Rattle.std.proofs.lemmas.Grind.{flat_map-append}
 use Rattle.std.proofs.lemmas.List.Folds.{list_all-append}
-use Rattle.std.proofs.lemmas.List.Elements.{filter-append}
+use Rattle.laws.proofs.Tests.{filter_first, filter_none, filter_whole}
+use Rattle.laws.proofs.Texts.{shown_ended}
+use Rattle.laws.proofs.Truths.{double}
 use Rattle.muck_model.specs.Bytes.{is_outside, text_fault, fault_of}
 use Rattle.muck_model.specs.declared.event.Entry.{Entry}
 use Rattle.muck_model.specs.declared.event.Event.{Event}
@@ -34,15 +36,11 @@ no_end b = not (b == 10)
 abbrev is_line : List ℕ → Bool
 is_line line = list_all no_end line
 
-not_true : (b : Bool) → not b ≡ true → b ≡ false
-not_true true e = cc
-not_true false e = refl
-
 line_front : (line rest : List ℕ) → is_line line ≡ true → lines_of (line ++ 10 ∷ rest) ≡ line ∷ lines_of rest
 line_front [] rest e = refl
 line_front (b ∷ line) rest e =
     let parts = and_parts (no_end b) (is_line line) e in
-    cond-false (is_line_feed b) _ _ (not_true (b == 10) parts.0) ∙ ap (onto_first b) (line_front line rest parts.1)
+    cond-false (is_line_feed b) _ _ (not-true (b == 10) parts.0) ∙ ap (onto_first b) (line_front line rest parts.1)
 
 pub lines_front : (lines : List (List ℕ)) (rest : List ℕ) → list_all is_line lines ≡ true → lines_of (flat_map ended lines ++ rest) ≡ lines ++ lines_of rest
 lines_front [] rest e = refl
@@ -202,9 +200,6 @@ lines_are (b ∷ bytes) = by (is_line_feed b) refl (lines_are bytes) where
 run_as : (a b : List ℕ) → a ≡ b → IsRun a → IsRun b
 run_as a b e p = record { lines = p.lines; is = sym e ∙ p.is; whole = p.whole; plain = p.plain }
 
-shown_ended : (d : ℕ) (text : List ℕ) → decimal d ++ ((codes "< " ++ text) ++ 10 ∷ []) ≡ decimal d ++ codes "< " ++ text ++ 10 ∷ []
-shown_ended d text = sym (ap (λ (x : List ℕ). x ++ 10 ∷ []) (append_assoc (decimal d) (codes "< ") text) ∙ append_assoc (decimal d) (codes "< " ++ text) (10 ∷ []))
-
 farewell_ended : (d : ℕ) → decimal d ++ (codes " closed" ++ 10 ∷ []) ≡ farewell d
 farewell_ended d = sym (append_assoc (decimal d) (codes " closed") (10 ∷ []))
 
@@ -274,22 +269,6 @@ fine_debug (Trace on ∷ acts) os w t = fine_debug acts os w (record t { on = on
 run_of_all : List Piece → List ℕ
 run_of_all ps = flat_map (λ (p : Piece). p.run) ps
 
-filter_whole : (f : List ℕ → Bool) (xs : List (List ℕ)) → list_all f xs ≡ true → filter f xs ≡ xs
-filter_whole f [] e = refl
-filter_whole f (x ∷ xs) e =
-    let parts = and_parts (f x) (list_all f xs) e in
-    cond-true _ _ _ parts.0 ∙ ap (λ (ys : List (List ℕ)). x ∷ ys) (filter_whole f xs parts.1)
-
-filter_none : (f : List ℕ → Bool) (xs : List (List ℕ)) → list_all (λ x. not (f x)) xs ≡ true → filter f xs ≡ []
-filter_none f [] e = refl
-filter_none f (x ∷ xs) e =
-    let parts = and_parts (not (f x)) (list_all (λ x. not (f x)) xs) e in
-    cond-false _ _ _ (not_true (f x) parts.0) ∙ filter_none f xs parts.1
-
-double : (b : Bool) → b ≡ true → not (not b) ≡ true
-double true e = refl
-double false e = cc
-
 all_double : (xs : List (List ℕ)) → list_all is_marked xs ≡ true → list_all (λ x. not (is_plain x)) xs ≡ true
 all_double [] e = refl
 all_double (x ∷ xs) e =
@@ -303,9 +282,6 @@ first_lines p rest is e =
     ∙ lines_front p.units (p.run ++ rest) e
     ∙ ap (λ (t : List ℕ). p.units ++ lines_of (t ++ rest)) is.is
     ∙ ap (λ (ls : List (List ℕ)). p.units ++ ls) (lines_front is.lines rest is.whole)
-
-filter_first : (f : List ℕ → Bool) (xs ys zs : List (List ℕ)) → filter f (xs ++ (ys ++ zs)) ≡ filter f xs ++ (filter f ys ++ filter f zs)
-filter_first f xs ys zs = filter-append f xs (ys ++ zs) ∙ ap (λ (ls : List (List ℕ)). filter f xs ++ ls) (filter-append f ys zs)
 
 texts_parts : (xs ys : List (List ℕ)) → are_texts (xs ++ ys) ≡ true → (are_texts xs ≡ true) × (are_texts ys ≡ true)
 texts_parts xs ys e = and_parts (are_texts xs) (are_texts ys) (sym (list_all-append (λ line. is_none (text_fault line)) xs ys) ∙ e)

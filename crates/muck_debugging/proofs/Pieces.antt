@@ -1,7 +1,8 @@
 -- What a tracer shows of views, and what is written of a history.
-use Rattle.std.proofs.Common.{◌≡◌, ℕ, Bool, true, false, cond, List, [], ◌∷◌, ◌++◌, length, refl, sym, ◌∙◌, ap, suc, append_assoc, append-nil}
+use Rattle.std.proofs.Common.{◌≡◌, ℕ, cond, List, [], ◌∷◌, ◌++◌, length, refl, sym, ◌∙◌, ap, suc, append_assoc, append-nil}
 use Rattle.std.proofs.lemmas.Grind.{flat_map-append}
 use Rattle.std.specs.List.{flat_map}
+use Rattle.laws.proofs.Lists.{kept_more, no_parts}
 use Rattle.muck_model.specs.declared.event.Entry.{Entry}
 use Rattle.spec_events.specs.World.{World}
 use Rattle.spec_events.specs.Steps.{effect}
@@ -32,10 +33,6 @@ all_keeping (v ∷ vs) t lines others =
 shown_as : (v : View) (t : Tracer) → is_shown v.pid (spot_of v) (handed_out t) ≡ is_shown v.pid (spot_of v) t
 unfolding is_shown
 shown_as v t = refl
-
-kept_more : (b : Bool) (kept : List (List ℕ)) (line : List ℕ) → cond b (kept ++ line ∷ []) kept ≡ kept ++ cond b ([] ++ line ∷ []) []
-kept_more true kept line = refl
-kept_more false kept line = sym (append-nil kept)
 
 kept_told : (v : View) (t : Tracer) → (told v t).kept ≡ t.kept ++ (told v (handed_out t)).kept
 unfolding told
@@ -121,10 +118,6 @@ units-seen [] w t = sym (shown_nothing t)
 units-seen (e ∷ es) w t =
     ap (λ (lines : List (List ℕ)). shown_of (seen_of w e.event) t ++ lines) (units-seen es (effect w e) (passed (seen_of w e.event) t))
     ∙ sym (shown-append (seen_of w e.event) (views_in (effect w e) es) t)
-
-no_parts : {A : Type 0} (xs ys : List A) → xs ++ ys ≡ [] → (xs ≡ []) × (ys ≡ [])
-no_parts [] ys e = (refl, e)
-no_parts (x ∷ xs) ys e = cc
 
 -- where a run writes nothing, only those lines are written
 pub text_units : (es : List Entry) (w : World) (t : Tracer) → text_of w es ≡ [] → text_of_all (pieces_of t w es) ≡ flat_map ended (units_of_all (pieces_of t w es))

@@ -1,16 +1,11 @@
 -- The text of lines, one behind the other.
-use Rattle.std.proofs.Common.{◌≡◌, ℕ, ◌+◌, ◌<◌, ◌≤◌, true, List, [], ◌∷◌, ◌++◌, length, drop, get_or, suc, add-one, refl, sym, ◌∙◌, ap, append_assoc, append-nil, None}
+use Rattle.std.proofs.Common.{◌≡◌, ℕ, ◌+◌, ◌≤◌, true, List, [], ◌∷◌, ◌++◌, length, drop, sym, ◌∙◌, ap, append_assoc, append-nil, None}
 use Rattle.std.specs.Prelude.{◌&&◌, is_none}
 use Rattle.std.specs.List.{flat_map}
-use Rattle.std.proofs.Math.Seq.{drop-cons}
 use Rattle.std.proofs.lemmas.List.{drop_all}
 use Rattle.muck_model.specs.Bytes.{text_fault}
 use Rattle.muck_debugging.specs.Seen.{ended}
 use Rattle.muck_debugging.specs.Laws.{are_texts}
-
--- the lines that are left begin with this one
-pub drop_next : (lines : List (List ℕ)) (at : ℕ) (line : List ℕ) → at < length lines → line ≡ get_or lines at line → drop at lines ≡ line ∷ drop (at + 1) lines
-drop_next lines at line less is = drop-cons lines at line less ∙ ap (λ (x : List ℕ). x ∷ drop (suc at) lines) (sym is) ∙ rw (add-one at) refl
 
 pub text_next : (lines : List (List ℕ)) (at : ℕ) (line text all : List ℕ) → drop at lines ≡ line ∷ drop (at + 1) lines → text ++ flat_map ended (drop at lines) ≡ all → ((text ++ line) ++ 10 ∷ []) ++ flat_map ended (drop (at + 1) lines) ≡ all
 text_next lines at line text all next e =

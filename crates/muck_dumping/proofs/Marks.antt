@@ -2,6 +2,7 @@
 use Rattle.std.proofs.Common.{◌≡◌, ℕ, ◌≤◌, Bool, true, false, List, [], ◌∷◌, ◌++◌, length, take, refl, sym, ap, ◌∙◌, subst, arith, Option, Some, None}
 use Rattle.std.specs.Prelude.{if◌then◌else◌}
 use Rattle.std.proofs.lemmas.List.{take-append-le}
+use Rattle.std.proofs.lemmas.Bool.{both_ways}
 use Rattle.muck_model.specs.declared.event.Entry.{Entry}
 use Rattle.muck_model.specs.declared.event.Event.TheVariants.{Cut}
 use Rattle.muck_model.specs.declared.note.Note.{Note}
@@ -40,9 +41,6 @@ use Rattle.muck_dumping.proofs.Steps.{cut_live}
 
 none_some : (o : Option LogState) (x : LogState) → o ≡ None → o ≡ Some x → ⊥
 none_some o x e g = cc
-
-pub both_ways : (b : Bool) → b ≡ false → b ≡ true → ⊥
-both_ways b e g = cc
 
 pub unmounted_holds : (marks : Bool) (o : Option LogState) (es : List Object) → o ≡ None → HoldsThese marks o es
 unmounted_holds marks o es none = λ on x is. absurd (none_some o x none is)

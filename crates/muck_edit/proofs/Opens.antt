@@ -1,5 +1,6 @@
 -- An editor stays open, and what a line of it does is open to its actor.
-use Rattle.std.proofs.Common.{◌≡◌, ℕ, zero, suc, ◌+◌, ◌-◌, ◌<◌, ◌≤◌, ◌==◌, Bool, true, false, ◌&&◌, cond, nat_lt, nat_le, List, ◌∷◌, ◌++◌, length, take, drop, codes, bytes_eq, Option, Some, None, Result, Ok, Err, IfSome, OnOk, refl, sym, ◌∙◌, ap, subst, slice_get, arith, length-append, length-take-le, length-drop}
+use Rattle.std.proofs.Common.{◌≡◌, ℕ, zero, suc, ◌+◌, ◌-◌, ◌<◌, ◌≤◌, ◌==◌, Bool, true, false, ◌&&◌, cond, nat_lt, nat_le, List, ◌++◌, length, take, drop, codes, bytes_eq, Option, Some, None, Result, Ok, Err, IfSome, OnOk, refl, sym, ◌∙◌, ap, subst, slice_get, arith}
+use Rattle.laws.proofs.Parts.{inserted_few, removed_few}
 use Rattle.spec_live.proofs.Keeping.{keeps_followed}
 use Rattle.std.proofs.lemmas.Bool.{ltb-true, leb-true, ltb-false}
 use Rattle.std.specs.Option.{option_map, option_and_then, option_map_or}
@@ -176,9 +177,6 @@ kept_open s lines w h = by_case (same_lines (source_of s.program w) lines)
     by_case true = h
     by_case false = record { program = kept_there s.program lines w h.program; few = h.few; within = h.within }
 
-inserted_few : (at : ℕ) (line : List ℕ) (lines : List (List ℕ)) → at ≤ length lines → length (take at lines ++ line ∷ drop at lines) ≡ length lines + 1
-inserted_few at line lines h = rw (length-append (take at lines) (line ∷ drop at lines), length-take-le at lines h, length-drop at lines) (omega arith)
-
 inserted_after : (d : ℕ) (s : EditState) (at : ℕ) (line : List ℕ) (w : Live) → at ≤ length s.lines → IsOpen s w → IsOpenAfter (line_inserted d s at line w)
 unfolding line_inserted stepped unchanged
 inserted_after d s at line w p h = by_cases (bytes_eq line (codes ".")) (nat_lt (length s.lines) lines_most) refl
@@ -190,11 +188,6 @@ inserted_after d s at line w p h = by_cases (bytes_eq line (codes ".")) (nat_lt 
         let room : length s.lines + 1 ≤ lines_most = omega arith in
         record { program = h.program; few = rw (inserted_few at line s.lines p) room; within = rw (inserted_few at line s.lines p) (omega arith) }
     by_cases false false e = still_open s (tell d illegal) (quiet_tell d illegal) w h
-
-removed_few : (from to : ℕ) (lines : List (List ℕ)) → from ≤ to → to ≤ length lines → length (take from lines ++ drop to lines) ≤ length lines
-removed_few from to lines p q =
-    let front : from ≤ length lines = omega arith in
-    rw (length-append (take from lines) (drop to lines), length-take-le from lines front, length-drop to lines) (omega arith)
 
 done_after : (d : ℕ) (a : Actor) (s : EditState) (command : EditCommand) (w : Live) → s.inserting ≡ None → IsWithin (length s.lines) command → IsOpen s w → IsOpenAfter (edit_done d a s command w)
 unfolding edit_done stepped asked followed

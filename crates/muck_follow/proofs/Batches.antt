@@ -1,5 +1,5 @@
 -- The bodies of a store are the batches that a mirror takes.
-use Rattle.std.proofs.Common.{◌≡◌, inl, inr, ℕ, zero, suc, ◌+◌, ◌-◌, ◌<◌, ◌≤◌, ◌^◌, Bool, true, false, eqb, leb, ltb, List, [], ◌∷◌, ◌++◌, length, take, drop, get_or, Option, Some, None, Result, Ok, Err, refl, sym, ◌∙◌, ap, subst, arith, length-take, length-drop, take-append-drop, append_assoc}
+use Rattle.std.proofs.Common.{◌≡◌, inl, inr, ℕ, zero, suc, ◌+◌, ◌-◌, ◌<◌, ◌≤◌, ◌^◌, Bool, true, false, eqb, leb, ltb, List, [], ◌∷◌, ◌++◌, length, take, drop, Option, Some, None, Result, Ok, Err, refl, sym, ◌∙◌, ap, subst, arith, length-take, length-drop, take-append-drop, append_assoc}
 use Rattle.std.specs.Prelude.{if◌then◌else◌, codes, bytes_eq, ◌&&◌, ◌||◌, option_and_then}
 use Rattle.std.specs.Option.{option_map_or}
 use Rattle.std.specs.Int.{w64, to_be_bytes, from_be_bytes}
@@ -8,13 +8,15 @@ use Rattle.std.proofs.lemmas.Bool.{cond-true, cond-false, eq-eqb, and_parts, eqb
 use Rattle.std.proofs.lemmas.Nat.{be_bytes_8}
 use Rattle.std.proofs.lemmas.Slice.Eq.{bytes_eq-Decides}
 use Rattle.std.proofs.lemmas.Option.{same_Some, none-some}
+use Rattle.laws.proofs.Options.{and_then_some, cond_some, map_some}
+use Rattle.laws.proofs.Places.{past}
+use Rattle.laws.proofs.Truths.{either_true}
 use Rattle.muck_codec.specs.declared.stored.Batch.{Batch}
 use Rattle.muck_codec.specs.Batches.{whole_batch}
 use Rattle.muck_codec.specs.Reading.{number_at, ◌>>=◌}
 use Rattle.muck_log.specs.Body.{Body, body_of, magic}
 use Rattle.muck_log.specs.World.{World, start, laid, laid_over, batch_if}
 use Rattle.muck_log.specs.File.{Held, join, follows, after_number, begin}
-use Rattle.muck_log.proofs.Fronts.{cond_some, map_some, and_then_some}
 use Rattle.muck_mirror.specs.Bodies.{literal_at, version_at, head_at, Body as Read, placed, body_in}
 use Rattle.muck_mirror.specs.Laying.{laid_in}
 use Rattle.muck_mirror.specs.Fronts.{AreBatches, laid_body, or_else_world, front_world}
@@ -22,11 +24,6 @@ use Rattle.muck_bodies.specs.Bodies.{bodies, number_of, first_number, Lead}
 use Rattle.muck_follow.specs.Fronts.{AreBytes}
 
 -- Parts of bytes are bytes.
-
-past : (l : List ℕ) (i d : ℕ) → length l ≤ i → get_or l i d ≡ d
-past [] i d le = refl
-past (x ∷ l) zero d le = absurd (omega (arith, le))
-past (x ∷ l) (suc i) d le = past l i d (omega (arith, le))
 
 pub drop_bytes : (n : ℕ) (l : List ℕ) → AreBytes l → AreBytes (drop n l)
 drop_bytes n l are i = subst (λ k. k < 256) (sym (get_or-drop n l i 0)) (are (n + i))
@@ -111,10 +108,6 @@ pub record Joined (g : ℕ) (held next : Held) (bytes : List ℕ) : Type 0 where
   pub generation : next.generation ≡ g
   pub numbered : next.number ≡ body.number
   pub count : 0 < next.count
-
-either_true : (a b : Bool) → (a || b) ≡ true → a ≡ false → b ≡ true
-either_true true b e f = cc
-either_true false b e f = e
 
 whole_of : (payload : List ℕ) (w v : World) → laid payload w ≡ Some v → (batch : Batch) × (whole_batch 1 payload ≡ Ok batch)
 unfolding laid

@@ -1,5 +1,5 @@
 -- What was written of a script so far.
-use Rattle.std.specs.Prelude.{OnErr, Result, Ok, Err}
+use Rattle.std.specs.Prelude.{OnErr, Result}
 use Rattle.std.proofs.Common.{◌≡◌, true, false, ℕ, ◌+◌, ◌<◌, ◌≤◌, List, [], ◌∷◌, ◌++◌, length, take, drop, get_or, take-append-drop, Option, refl, sym, ◌∙◌, ap, subst, append_assoc, append-nil}
 use Rattle.std.proofs.Math.ListN.{drop_of_length-le}
 use Rattle.std.proofs.lemmas.List.{drop_more}
@@ -90,11 +90,6 @@ line_cut_short acts i act d file now m n a b c text lt is same so reads front =
 
 pub lines_done : (acts : List Act) (i : ℕ) (bodies : List (List ℕ)) (m n : Mirror) (a b : Option (List ℕ)) → length acts ≤ i → SoFar acts (drop i acts) bodies m n a b → Appends a b (replies acts bodies m)
 lines_done acts i bodies m n a b le so = all_written acts bodies m n a b (subst (λ rest. SoFar acts rest bodies m n a b) (none_left acts i le) so)
-
--- what is said of an error, of any answer
-pub on_error : (A E : Type 0) (r : Result A E) (P : Type 0) → P → OnErr r P
-on_error A E (Ok v) P p = tt
-on_error A E (Err e) P p = p
 
 -- The replies of the mirror that was made are those of the mirror of the store.
 

@@ -1,8 +1,10 @@
 -- What the properties below a directory fire, and what those fire that aren't players.
-use Rattle.std.proofs.Common.{◌≡◌, ℕ, ◌+◌, zero, suc, List, [], ◌∷◌, ◌++◌, map, drop, length, refl, sym, ◌∙◌, ap, arith, append_assoc, append-nil, Bool, true, false, cond, eqb, not, ◌&&◌, Option, Some, None}
+use Rattle.std.proofs.Common.{◌≡◌, ℕ, ◌+◌, List, [], ◌∷◌, ◌++◌, map, drop, length, refl, sym, ◌∙◌, ap, append_assoc, append-nil, Bool, true, false, cond, eqb, not, ◌&&◌, Option, Some, None}
 use Rattle.std.specs.Prelude.{MatchOption}
 use Rattle.std.specs.List.{filter, filter_map, flat_map, cons_option}
 use Rattle.std.specs.FinMap.{entries}
+use Rattle.laws.proofs.Lists.{joined}
+use Rattle.laws.proofs.Parts.{one_longer}
 use Rattle.muck_model.specs.declared.dbref.Dbref.{Dbref}
 use Rattle.muck_prop.specs.declared.value.PropValue.{PropValue}
 use Rattle.muck_prop.specs.Order.{is_below}
@@ -14,19 +16,6 @@ use Rattle.spec_hooks.specs.declared.cause.Cause.{Cause}
 use Rattle.spec_hooks.specs.declared.cause.Fire.{Fire}
 use Rattle.spec_hooks.specs.Firing.{values_in, fired, fired_by}
 use Rattle.muck_hook.specs.Firing.{fired_listed, upward_from, fired_unplayed}
-
--- as much behind a directory as it is longer
-one_longer : (n : ℕ) (xs : List (List ℕ)) → eqb (length (drop n xs)) 1 ≡ eqb (length xs) (n + 1)
-one_longer zero xs = refl
-one_longer (suc n) [] = grind arith
-one_longer (suc n) (x ∷ xs) = one_longer n xs ∙ both (length xs) n
-  where
-    both : (l m : ℕ) → eqb l (m + 1) ≡ eqb (suc l) (suc m + 1)
-    both l m = grind arith
-
-joined : {X : Type 0} (o : Option X) (xs : List X) → cons_option o [] ++ xs ≡ cons_option o xs
-joined None xs = refl
-joined (Some x) xs = refl
 
 -- the value of what stands directly in a directory
 abbrev direct : List (List ℕ) → List (List ℕ) × PropValue → Option PropValue

@@ -1,7 +1,8 @@
 -- The lines of bytes, cut from one buffer to the next.
-use Rattle.std.proofs.Common.{◌≡◌, ℕ, zero, suc, Bool, true, false, List, [], ◌∷◌, ◌++◌, length, map, take, refl, sym, ap, ◌∙◌, subst, append_assoc, arith, lt-ltb, le-ltb, ltb-true, ltb-false, eqb-true}
+use Rattle.std.proofs.Common.{◌≡◌, ℕ, zero, suc, Bool, true, false, List, [], ◌∷◌, ◌++◌, length, map, take, refl, sym, ap, ◌∙◌, subst, append_assoc, eqb-true}
 use Rattle.std.specs.Prelude.{◌==◌, ◌&&◌, nat_lt, if◌then◌else◌}
 use Rattle.std.proofs.lemmas.List.{append-nil}
+use Rattle.laws.proofs.Parts.{take_snoc}
 use Rattle.muck_links.specs.declared.cutter.Mode.{Mode}
 use Rattle.muck_links.specs.declared.cutter.Mode.TheVariants.{Plain, Command, Choice, Inside, Ending}
 use Rattle.muck_links.specs.Lines.{next, bare, onto_first, pieces, is_shown, only_shown, line_most, text, lines}
@@ -42,23 +43,6 @@ shown_snoc (x ∷ xs) b = from (shown_snoc xs b) (is_shown x)
     from : only_shown (xs ++ b ∷ []) ≡ only_shown xs ++ only_shown (b ∷ []) → (t : Bool) → (if t then x ∷ only_shown (xs ++ b ∷ []) else only_shown (xs ++ b ∷ [])) ≡ (if t then x ∷ only_shown xs else only_shown xs) ++ only_shown (b ∷ [])
     from e true = ap (λ (l : List ℕ). x ∷ l) e
     from e false = e
-
-take_snoc : (n : ℕ) (ys : List ℕ) (b : ℕ) → take n (ys ++ b ∷ []) ≡ (if nat_lt (length (take n ys)) n then take n ys ++ b ∷ [] else take n ys)
-take_snoc zero ys b = refl
-take_snoc (suc n) [] b = take_nil n ∙ ap (λ (t : Bool). if t then b ∷ [] else []) (sym (lt-ltb 0 (suc n) (omega arith)))
-  where
-    take_nil : (m : ℕ) → b ∷ take m [] ≡ b ∷ []
-    take_nil zero = refl
-    take_nil (suc m) = refl
-take_snoc (suc n) (y ∷ ys) b = from (take_snoc n ys b) (nat_lt (length (take n ys)) n) refl
-  where
-    from : take n (ys ++ b ∷ []) ≡ (if nat_lt (length (take n ys)) n then take n ys ++ b ∷ [] else take n ys)
-        → (t : Bool) → nat_lt (length (take n ys)) n ≡ t
-        → take (suc n) ((y ∷ ys) ++ b ∷ []) ≡ (if nat_lt (length (take (suc n) (y ∷ ys))) (suc n) then take (suc n) (y ∷ ys) ++ b ∷ [] else take (suc n) (y ∷ ys))
-    from e true is = ap (λ (l : List ℕ). y ∷ l) (e ∙ ap (λ (t : Bool). if t then take n ys ++ b ∷ [] else take n ys) is)
-        ∙ ap (λ (t : Bool). if t then y ∷ take n ys ++ b ∷ [] else y ∷ take n ys) (sym (lt-ltb (suc (length (take n ys))) (suc n) (let l = ltb-true (length (take n ys)) n is in omega arith)))
-    from e false is = ap (λ (l : List ℕ). y ∷ l) (e ∙ ap (λ (t : Bool). if t then take n ys ++ b ∷ [] else take n ys) is)
-        ∙ ap (λ (t : Bool). if t then y ∷ take n ys ++ b ∷ [] else y ∷ take n ys) (sym (le-ltb (suc (length (take n ys))) (suc n) (let l = ltb-false (length (take n ys)) n is in omega arith)))
 
 -- one byte more
 text_snoc : (xs : List ℕ) (b : ℕ) → (if is_shown b && nat_lt (length (text xs)) line_most then text xs ++ b ∷ [] else text xs) ≡ text (xs ++ b ∷ [])

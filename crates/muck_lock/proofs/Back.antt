@@ -3,8 +3,9 @@ use Rattle.std.proofs.Common.{◌≡◌, ℕ, ◌+◌, ◌<◌, ◌≤◌, ◌^�
 use Rattle.std.specs.Prelude.{◌-◌, ℤ, pos, negsuc, not, ◌&&◌, ◌==◌, nat_le, nat_lt, if◌then◌else◌}
 use Rattle.std.specs.List.{position, position_or_len}
 use Rattle.std.specs.Fmt.{decimal, signed_decimal}
-use Rattle.std.proofs.lemmas.Bool.{lt-ltb, ltb-true, leb-true, eqb-true, ne_eqb, false≢true}
+use Rattle.std.proofs.lemmas.Bool.{lt-ltb, ltb-true, leb-true, eqb-true, ne_eqb, false≢true, not-true}
 use Rattle.std.proofs.lemmas.List.{length-append, append-nil, take_at, drop_at}
+use Rattle.laws.proofs.Truths.{and_first, and_rest}
 use Rattle.muck_model.specs.Decimal.{is_digit}
 use Rattle.muck_model.specs.Numbers.{dbref_of}
 use Rattle.muck_model.specs.declared.dbref.Dbref.{Dbref}
@@ -19,7 +20,7 @@ use Rattle.muck_lock.specs.inner.Law.{has_no_program, has_no_program_step, Reads
 use Rattle.muck_lock.specs.declared.part.Part.{Part}
 use Rattle.muck_lock.specs.declared.part.Part.TheVariants.{OneOf, AllOf, Term}
 use Rattle.muck_lock.proofs.Locks.{each_lock, at_free, at_object, at_prop, at_not, at_both, at_either}
-use Rattle.muck_lock.proofs.Passes.{Passes, passes-more, passes-append, passes-all, prefix-stops, and_first, and_rest}
+use Rattle.muck_lock.proofs.Passes.{Passes, passes-more, passes-append, passes-all, prefix-stops}
 use Rattle.muck_lock.proofs.Digits.{digits_of, dbref_of-written}
 use Rattle.muck_lock.proofs.Depth.{reading_is}
 use Rattle.muck_lock.proofs.Kept.{lacks, begins_path, is_kept_property, is_kept, is_kept_step, IsKeptReading, kept-part_of}
@@ -124,15 +125,11 @@ unfolding not_end
 not_end-number (pos n) h = not_end-decimal n (let short : n < 2147483648 = ltb-true n 2147483648 h in omega (arith, short))
 not_end-number (negsuc n) h = passes-more not_end 45 (decimal (suc n)) refl (not_end-decimal (suc n) (let short : n < 2147483648 = ltb-true n 2147483648 h in omega (arith, short)))
 
-not_from : (b : Bool) → not b ≡ true → b ≡ false
-not_from true h = absurd (false≢true h)
-not_from false h = refl
-
 object_back : (names : Naming) (d : Dbref) → is_short d.0 ≡ true → not (names.is_program d) ≡ true → (rest : List ℕ) → EndsAt Term rest → reading names Term ((35 ∷ signed_decimal d.0) ++ rest) ≡ Ok (Object d, rest)
 unfolding not_end
 object_back names d short known rest ends =
     key_term names 35 (signed_decimal d.0) rest (Object d) refl refl (passes-more not_end 35 (signed_decimal d.0) refl (not_end-number d.0 short)) ends
-    (ap (object_key names) (dbref_of-written d.0 short) ∙ ap (λ t. if t then None else Some (Object d)) (not_from (names.is_program d) known))
+    (ap (object_key names) (dbref_of-written d.0 short) ∙ ap (λ t. if t then None else Some (Object d)) (not-true (names.is_program d) known))
 
 -- a property
 lacks_is : (p : ℕ → Bool) (xs : List ℕ) → lacks p xs ≡ true → Passes (λ x. not (p x)) xs
@@ -158,10 +155,10 @@ property_back names (b ∷ more) value kept rest ends =
     let k3 : is_path (b ∷ more) && lacks ends_key value ≡ true = and_rest (lacks is_colon (b ∷ more)) (is_path (b ∷ more) && lacks ends_key value) k2 in
     let b2 : not (b == 33) && not (b == 40) && not (b == 35) ≡ true = and_first (not (b == 33) && not (b == 40) && not (b == 35)) (not (b == 42)) begins in
     let b3 : not (b == 33) && not (b == 40) ≡ true = and_first (not (b == 33) && not (b == 40)) (not (b == 35)) b2 in
-    let n : (b == 33) ≡ false = not_from (b == 33) (and_first (not (b == 33)) (not (b == 40)) b3) in
-    let g : (b == 40) ≡ false = not_from (b == 40) (and_rest (not (b == 33)) (not (b == 40)) b3) in
-    let s : (b == 35) ≡ false = not_from (b == 35) (and_rest (not (b == 33) && not (b == 40)) (not (b == 35)) b2) in
-    let p : (b == 42) ≡ false = not_from (b == 42) (and_rest (not (b == 33) && not (b == 40) && not (b == 35)) (not (b == 42)) begins) in
+    let n : (b == 33) ≡ false = not-true (b == 33) (and_first (not (b == 33)) (not (b == 40)) b3) in
+    let g : (b == 40) ≡ false = not-true (b == 40) (and_rest (not (b == 33)) (not (b == 40)) b3) in
+    let s : (b == 35) ≡ false = not-true (b == 35) (and_rest (not (b == 33) && not (b == 40)) (not (b == 35)) b2) in
+    let p : (b == 42) ≡ false = not-true (b == 42) (and_rest (not (b == 33) && not (b == 40) && not (b == 35)) (not (b == 42)) begins) in
     let passes : Passes not_end ((b ∷ more) ++ 58 ∷ value) = passes-append not_end (b ∷ more) (58 ∷ value)
     (lacks_is ends_key (b ∷ more) (and_first (lacks ends_key (b ∷ more)) (lacks is_colon (b ∷ more) && (is_path (b ∷ more) && lacks ends_key value)) k1))
     (passes-more not_end 58 value refl (lacks_is ends_key value (and_rest (is_path (b ∷ more)) (lacks ends_key value) k3))) in

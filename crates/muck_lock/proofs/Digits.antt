@@ -6,12 +6,12 @@ use Rattle.std.specs.List.{list_all}
 use Rattle.std.specs.Fmt.{decimal, signed_decimal}
 use Rattle.std.proofs.lemmas.Bool.{cases_lt, le-leb, ltb-true, leb-true, ne_eqb}
 use Rattle.std.proofs.lemmas.Fmt.{decimal_digit, decimal_nonempty, first_decimal}
+use Rattle.laws.proofs.Truths.{and_first, and_rest}
 use Rattle.muck_model.specs.Decimal.{is_digit, is_decimal, decimal_of}
 use Rattle.muck_model.specs.Numbers.{below, numbered, signed_of, dbref_of}
 use Rattle.muck_model.proofs.Decimals.{decimal_within, value_of}
 pub use Rattle.muck_model.proofs.Decimals.{digits_of}
 use Rattle.muck_lock.specs.inner.Made.{is_short}
-use Rattle.muck_lock.proofs.Passes.{and_first, and_rest}
 
 -- bytes that are digits, of which the first is no 0
 decimal_from : (ds : List ℕ) → list_all is_digit ds ≡ true → 0 < length ds → 48 < get_or ds 0 0 → is_decimal ds ≡ true

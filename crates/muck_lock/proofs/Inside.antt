@@ -1,9 +1,10 @@
 -- The bytes of a written lock are those of texts.
-use Rattle.std.proofs.Common.{◌≡◌, ℕ, ◌<◌, ◌≤◌, ◌^◌, suc, Bool, true, false, List, [], ◌∷◌, ◌++◌, None, Some, Option, refl, sym, ◌∙◌, ap, subst, arith}
+use Rattle.std.proofs.Common.{◌≡◌, ℕ, ◌<◌, ◌≤◌, ◌^◌, suc, Bool, true, false, List, [], ◌∷◌, ◌++◌, refl, sym, ◌∙◌, ap, subst, arith}
 use Rattle.std.specs.Prelude.{ℤ, pos, negsuc, ◌&&◌, nat_le, nat_lt}
-use Rattle.std.specs.Option.{is_none}
 use Rattle.std.specs.Fmt.{decimal, signed_decimal}
-use Rattle.std.proofs.lemmas.Bool.{false≢true, ltb-true, leb-true, le-ltb}
+use Rattle.std.proofs.lemmas.Bool.{ltb-true, leb-true, le-ltb}
+use Rattle.laws.proofs.Options.{none_of}
+use Rattle.laws.proofs.Truths.{and_first, and_rest}
 use Rattle.muck_model.specs.Bytes.{text_fault}
 use Rattle.muck_model.specs.Decimal.{is_digit}
 use Rattle.muck_model.specs.declared.lock.Lock.{Lock}
@@ -13,7 +14,7 @@ use Rattle.muck_lock.specs.Printed.{groups_both, groups_either, grouped, written
 use Rattle.muck_lock.specs.declared.part.Part.{Part}
 use Rattle.muck_lock.specs.declared.part.Part.TheVariants.{OneOf, AllOf, Term}
 use Rattle.muck_lock.proofs.Locks.{each_lock, at_free, at_object, at_prop, at_not, at_both, at_either}
-use Rattle.muck_lock.proofs.Passes.{Passes, passes-more, passes-append, passes-all, and_first, and_rest}
+use Rattle.muck_lock.proofs.Passes.{Passes, passes-more, passes-append, passes-all}
 use Rattle.muck_lock.proofs.Places.{is_inside, inside_from}
 use Rattle.muck_lock.proofs.Digits.{digits_of}
 
@@ -36,12 +37,8 @@ inside-grouped : (b : Bool) (text : List ℕ) → Passes is_inside text → Pass
 inside-grouped true text h = passes-append is_inside ((40 ∷ []) ++ text) (41 ∷ []) (passes-append is_inside (40 ∷ []) text refl h) refl
 inside-grouped false text h = passes-append is_inside text [] h refl
 
-none_from : (o : Option ℕ) → is_none o ≡ true → o ≡ None
-none_from None h = refl
-none_from (Some x) h = absurd (false≢true h)
-
 inside-text : (bytes : List ℕ) → is_text bytes ≡ true → Passes is_inside bytes
-inside-text bytes h = inside_from bytes (none_from (text_fault bytes) h)
+inside-text bytes h = inside_from bytes (none_of (text_fault bytes) h)
 
 IsInside : Lock → Type 0
 IsInside lock = is_made lock ≡ true → (p : Part) → Passes is_inside (written lock p)

@@ -1,6 +1,8 @@
 -- One step of reading in one pass leaves the outcome.
-use Rattle.std.proofs.Common.{◌≡◌, ℕ, ◌+◌, ◌-◌, ◌<◌, ◌≤◌, zero, suc, true, false, List, [], ◌∷◌, ◌++◌, length, take, drop, reverse, Some, None, Option, Result, Ok, Err, add-one, refl, sym, ◌∙◌, ap, subst, arith}
-use Rattle.muck_lock.proofs.Passes.{and_first, and_rest}
+use Rattle.std.proofs.Common.{◌≡◌, ℕ, ◌+◌, ◌-◌, ◌<◌, ◌≤◌, true, false, List, [], ◌∷◌, ◌++◌, length, take, drop, reverse, Some, None, Option, Result, Ok, Err, refl, sym, ◌∙◌, ap, subst, arith}
+use Rattle.laws.proofs.Parts.{length-from}
+use Rattle.laws.proofs.Places.{drop-here, drop-past}
+use Rattle.laws.proofs.Truths.{and_first, and_rest}
 use Rattle.std.specs.Prelude.{not, ◌&&◌, ◌==◌, if◌then◌else◌, slice_get}
 use Rattle.std.specs.List.{before_first, position_or_len}
 use Rattle.std.proofs.lemmas.List.{length-drop, reverse-append, length-reverse, drop-drop, drop_all}
@@ -177,21 +179,6 @@ is_open names size Group k lock stays = ap (whole size) (resumed_fault names k T
 is_open names size (Both f) k lock stays = absurd (false≢true (sym stays))
 is_open names size (Either f) k lock stays = absurd (false≢true (sym stays))
 
--- what stands at a place of a text
-pub drop-past : (text : List ℕ) (at : ℕ) → slice_get text at ≡ None → drop at text ≡ []
-drop-past [] zero h = refl
-drop-past [] (suc at) h = refl
-drop-past (x ∷ xs) zero h = absurd (let e : Some x ≡ None = h in cc)
-drop-past (x ∷ xs) (suc at) h = drop-past xs at h
-
-drop-at : (text : List ℕ) (at b : ℕ) → slice_get text at ≡ Some b → drop at text ≡ b ∷ drop (suc at) text
-drop-at [] at b h = absurd (let e : None ≡ Some b = h in cc)
-drop-at (x ∷ xs) zero b h = let e : Some x ≡ Some b = h in let f : x ≡ b = cc in ap (λ z. z ∷ xs) f
-drop-at (x ∷ xs) (suc at) b h = drop-at xs at b h
-
-pub drop-here : (text : List ℕ) (at b : ℕ) → slice_get text at ≡ Some b → drop at text ≡ b ∷ drop (at + 1) text
-drop-here text at b h = drop-at text at b h ∙ ap (λ n. b ∷ drop n text) (sym (add-one at))
-
 ahead_cases : (text : List ℕ) (at : ℕ) (o : Option ℕ) → slice_get text at ≡ o → ahead_of (drop at text) ≡ o
 ahead_cases text at None h = ap ahead_of (drop-past text at h)
 ahead_cases text at (Some b) h = ap ahead_of (drop-here text at b h)
@@ -230,9 +217,6 @@ step_or names text old new lock at stays here pushed =
     sym (ap (λ r. whole (length text) (resumed names (reverse old) Term (Ok (lock, r)))) (drop-here text at 124 here)
     ∙ ap (whole (length text)) (begins_or names (reverse old) lock (drop (at + 1) text) (subst P here stays))
     ∙ ap (λ k. whole (length text) (resumed names k Term (reading names Term (drop (at + 1) text)))) (sym (ap reverse pushed ∙ reverse-append old (Either lock ∷ []))))
-
-length-from : (text : List ℕ) (at : ℕ) → at ≤ length text → length text - length (drop at text) ≡ at
-length-from text at le = let e : length (drop at text) ≡ length text - at = length-drop at text in omega (arith, e)
 
 pub step_fault : (names : Naming) (text : List ℕ) (old : List Waiting) (lock : Lock) (at b : ℕ) → LastStays (slice_get text at) (reverse old) → slice_get text at ≡ Some b → (b == 38) ≡ false → (b == 124) ≡ false
     → at ≤ length text → outcome_behind names text old lock at ≡ Err at

@@ -1,8 +1,8 @@
 -- The first place that passes a test, and texts inside texts.
-use Rattle.std.proofs.Common.{◌≡◌, ℕ, ◌<◌, ◌≤◌, Bool, true, false, cond, List, length, take, drop, Some, None, refl, sym, ◌∙◌, ap, inl, inr, arith}
-use Rattle.std.specs.Prelude.{not, ◌==◌}
+use Rattle.std.proofs.Common.{◌≡◌, ℕ, ◌<◌, ◌≤◌, Bool, true, cond, List, length, take, drop, Some, None, refl, sym, ◌∙◌, inl, inr, arith}
+use Rattle.std.specs.Prelude.{not}
 use Rattle.std.specs.List.{position_or_len}
-use Rattle.std.proofs.lemmas.Bool.{cases_lt, lt-ltb, le-ltb, cases_eq, false≢true}
+use Rattle.std.proofs.lemmas.Bool.{cases_lt, lt-ltb, le-ltb}
 use Rattle.std.proofs.lemmas.List.{length-take, length-drop}
 use Rattle.std.proofs.lemmas.List.Sums.{prefix_len-le-length}
 use Rattle.muck_model.specs.inner.Text.{IsTextOrFault}
@@ -57,9 +57,6 @@ text_fault-drop n xs h =
     text_from (drop n xs) (passes-drop is_inside n xs c.0, omega (arith, c.1, length-drop n xs))
 
 pub ruleset parts_of_texts = (text_fault-take, text_fault-drop)
-
-pub some_bytes : (n : ℕ) → false ≡ (n == 0) → 0 < n
-some_bytes n h = elim (cases_eq n 0) [ inl e ↦ absurd (false≢true (h ∙ ap (λ m. m == 0) e)) | inr ne ↦ omega (arith, ne) ]
 
 -- a text has its bytes alone
 pub inside_from : (xs : List ℕ) → text_fault xs ≡ None → Passes is_inside xs

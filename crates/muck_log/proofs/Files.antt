@@ -1,15 +1,17 @@
 -- What a file is for the store.
 use Rattle.std.proofs.Common.{◌≡◌, ◌≢◌, ◌⊎◌, inl, inr, ⊎_elim, ℕ, ◌+◌, ◌<◌, ◌≤◌, ◌^◌, Bool, true, false, cond, eqb, leb, ◌&&◌, List, [], ◌∷◌, ◌++◌, length, take, drop, get_or, Option, Some, None, Ok, option_map, refl, sym, ◌∙◌, ap, arith, length-append, take-append-drop, length-drop, length-take}
-use Rattle.std.proofs.lemmas.List.{take-append-le, drop-take, drop_more}
+use Rattle.std.proofs.lemmas.List.{take-append-le, drop_more}
 use Rattle.std.proofs.lemmas.Bool.{cases_eq, cond-true, cond-false, ne_eqb, eqb-true, le-leb, and_from, cases_Bool}
 use Rattle.std.proofs.lemmas.Nat.{from_be_bytes-to_be_bytes_8}
 use Rattle.std.specs.Int.{w64, to_be_bytes, from_be_bytes}
+use Rattle.laws.proofs.Options.{cond_some, map_some}
+use Rattle.laws.proofs.Parts.{part}
+use Rattle.laws.proofs.Places.{get_or_front}
 use Rattle.muck_log.specs.Body.{Body, body_of, body_bytes, magic}
 use Rattle.muck_log.specs.File.{Held, End, Opened, gate_at, begin, step, run, join, ending, is_open, header, file_of}
 use Rattle.muck_log.specs.Store.{framed, IsKept, IsDone}
 use Rattle.muck_log.proofs.Runs.{run-append, run_closed, batch_run, shut_at}
-use Rattle.muck_log.proofs.Fronts.{opening, IsEnded, IsShut, ended, cond_some, map_some}
-use Rattle.muck_log.proofs.Writing.{front_less, get_front}
+use Rattle.muck_log.proofs.Fronts.{opening, IsEnded, IsShut, ended}
 
 abbrev pub opened : ℕ → End → Option (Option Opened)
 opened g e = Some (Some (record { generation = g; ending = Ok e }))
@@ -28,11 +30,8 @@ pub header_is : (c : List ℕ) → 34 ≤ length c → header c ≡ head_by (tak
 unfolding header
 header_is c long = ap (λ (t : Bool). cond (t && leb 25 (from_be_bytes w64 (take 8 (drop 1 c)))) (option_map (λ (b : Body). b.generation) (body_of (take 25 (drop 9 c)))) None) (le-leb 34 (length c) long)
 
-pub part : (p n m : ℕ) (x c : List ℕ) → n + m ≤ p → take p c ≡ take p x → take m (drop n c) ≡ take m (drop n x)
-part p n m x c le e = sym (drop-take n m c) ∙ ap (drop n) (front_less (n + m) p c x le e) ∙ drop-take n m x
-
 front_open : (p : ℕ) (x c : List ℕ) → 34 ≤ p → p ≤ length x → length x ≤ length c → take p c ≡ take p x → is_open c ≡ is_open x
-front_open p x c big le longer e = open_is c (omega arith) ∙ ap (λ k. eqb k 1) (get_front p c x 0 e (omega arith)) ∙ sym (open_is x (omega arith))
+front_open p x c big le longer e = open_is c (omega arith) ∙ ap (λ k. eqb k 1) (get_or_front p c x 0 e (omega arith)) ∙ sym (open_is x (omega arith))
 
 front_header : (p : ℕ) (x c : List ℕ) → 34 ≤ p → p ≤ length x → length x ≤ length c → take p c ≡ take p x → header c ≡ header x
 front_header p x c big le longer e =

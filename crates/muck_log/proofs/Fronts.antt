@@ -1,8 +1,9 @@
 -- What a reading says of the front of a file.
-use Rattle.std.proofs.Common.{◌≡◌, ◌≢◌, ◌⊎◌, inl, inr, ⊎_elim, ℕ, ◌+◌, ◌<◌, ◌≤◌, Bool, true, false, cond, eqb, leb, not, List, [], ◌∷◌, ◌++◌, length, take, get_or, Option, Some, None, Ok, Err, option_map, option_and_then, refl, sym, ◌∙◌, ap, subst, arith, length-append, append_assoc}
+use Rattle.std.proofs.Common.{◌≡◌, ◌≢◌, ◌⊎◌, inl, inr, ⊎_elim, ℕ, ◌+◌, ◌<◌, ◌≤◌, Bool, true, false, cond, eqb, leb, not, List, [], ◌∷◌, ◌++◌, length, take, get_or, Option, Some, None, Ok, Err, refl, sym, ◌∙◌, ap, subst, arith, length-append, append_assoc}
 use Rattle.std.proofs.lemmas.List.{append-nil, take-append-le, take_all, get_or_push, get_or_append_left}
 use Rattle.std.proofs.lemmas.Bool.{eq-eqb, ne_eqb, cond_both, eqb-true, eqb-false, leb-true, and_parts, or_left, or_right, or_from, le-leb, lt-leb}
 use Rattle.std.specs.Int.{w64, from_be_bytes}
+use Rattle.laws.proofs.Options.{and_then_some, cond_some, map_some}
 use Rattle.muck_log.specs.Body.{Body, body_of}
 use Rattle.muck_log.specs.World.{laid}
 use Rattle.muck_log.specs.File.{Held, Reading, End, gate_at, begin, step, run, judged, forgotten, join, follows, ending, ends}
@@ -11,18 +12,6 @@ use Rattle.muck_log.specs.declared.reader.Mode.TheVariants.{Gate, Size, Body as 
 use Rattle.muck_log.specs.Store.{must_close}
 use Rattle.muck_log.specs.inner.Head.{is_shut}
 use Rattle.muck_log.proofs.Runs.{run-append}
-
-pub cond_some : {A : Type 0} (t : Bool) (o : Option A) (v : A) → cond t o None ≡ Some v → (t ≡ true) × (o ≡ Some v)
-cond_some true o v e = (refl, e)
-cond_some false o v e = cc
-
-pub map_some : {A B : Type 0} (f : A → B) (o : Option A) (v : B) → option_map f o ≡ Some v → (a : A) × (o ≡ Some a) × (f a ≡ v)
-map_some f None v e = cc
-map_some f (Some a) v e = (a, refl, cc)
-
-pub and_then_some : {A B : Type 0} (f : A → Option B) (o : Option A) (v : B) → option_and_then f o ≡ Some v → (a : A) × (o ≡ Some a) × (f a ≡ Some v)
-and_then_some f None v e = cc
-and_then_some f (Some a) v e = (a, refl, e)
 
 pub body_long : (bytes : List ℕ) (b : Body) → body_of bytes ≡ Some b → 25 ≤ length bytes
 unfolding body_of

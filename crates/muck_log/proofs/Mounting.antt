@@ -1,7 +1,9 @@
 -- What mounting finds.
-use Rattle.std.proofs.Common.{◌≡◌, inl, inr, ℕ, ◌+◌, ◌≤◌, Bool, true, false, not, eqb, ltb, ◌||◌, List, [], ◌∷◌, ◌++◌, length, take, drop, Option, Some, None, Ok, Err, option_map, refl, sym, ◌∙◌, ap, subst, arith, length-take, take-append-drop}
-use Rattle.std.proofs.lemmas.List.{take_all, take-take, drop-take}
+use Rattle.std.proofs.Common.{◌≡◌, inl, inr, ℕ, ◌+◌, ◌≤◌, Bool, true, false, not, eqb, ltb, ◌||◌, List, [], ◌∷◌, length, take, drop, Option, Some, None, Ok, Err, option_map, refl, sym, ◌∙◌, ap, subst, arith, length-take, take-append-drop}
+use Rattle.std.proofs.lemmas.List.{take_all, take-take}
 use Rattle.std.proofs.lemmas.Bool.{cases_lt, cond-true, cond-false, lt-leb, cond_both}
+use Rattle.laws.proofs.Lists.{at_files}
+use Rattle.laws.proofs.Parts.{part, take_add}
 use Rattle.muck_log.specs.File.{Opened, Reading, begin, gate_at, run, ending, is_open, header, file_of, reached}
 use Rattle.muck_log.specs.Store.{stored, picked, loaded, must_close, pick, LeavesOnly, LogState}
 use Rattle.muck_log.specs.inner.Mount.{IsFirst, IsLook, IsChoice, IsLoaded, IsLoadFault, IsMountFault, IsMountedAs, choice}
@@ -12,7 +14,7 @@ use Rattle.muck_log.specs.declared.mount.First.{First}
 use Rattle.muck_log.specs.declared.mount.First.TheVariants.{Shut, Bad, Open}
 use Rattle.muck_log.specs.declared.mount.Look.{Look}
 use Rattle.muck_log.specs.declared.mount.Choice.{Choice}
-use Rattle.muck_log.proofs.Files.{header_is, part, head_by}
+use Rattle.muck_log.proofs.Files.{header_is, head_by}
 use Rattle.muck_log.proofs.Fronts.{closes}
 use Rattle.muck_log.proofs.Moments.{started, goes_on, joined}
 use Rattle.muck_log.proofs.Runs.{run-append, run_over}
@@ -93,9 +95,6 @@ pub reached_start : (g : ℕ) (r : Reading) → r ≡ gate_at 0 (begin g) → re
 unfolding gate_at
 reached_start g r is = subst (λ (s : Reading). reached s ≤ 0) (sym is) (omega arith)
 
-take_add : (m n : ℕ) (xs : List ℕ) → take (m + n) xs ≡ take m xs ++ take n (drop m xs)
-take_add m n xs = sym (take-append-drop m (take (m + n) xs)) ∙ ap (λ l. l ++ drop m (take (m + n) xs)) (take-take m (m + n) xs (omega arith)) ∙ ap (λ l. take m xs ++ l) (drop-take m n xs)
-
 module _ {D : Type 0} (see : D → List ℕ) (moment : D → ℕ) (images : D → ℕ → List ℕ → Type 0) where
   -- a call that changes nothing
   pub quiet : (old new : D) → Elapses (moment old) (moment new) (images old) (images new) Same → LeavesOnly moment images old new (images old (moment old))
@@ -144,9 +143,6 @@ pub load_close : (x : List ℕ) (at other : Bool) (g most : ℕ) (log : LogState
 load_close x at other g most log reading reads l =
     l.close ∙ ap (λ (r : Reading). not (is_shut r.mode)) reads
     ∙ sym (closes g x (record { place = log.chosen.place; held = log.chosen.held }) (ap ending (sym reads) ∙ l.ends))
-
-at_files : (P : List ℕ → List ℕ → Type 0) (a b c d : List ℕ) → c ≡ a → d ≡ b → P a b → P c d
-at_files P a b c d e f p = subst (λ x. P x d) (sym e) (subst (λ y. P a y) (sym f) p)
 
 pub load_fault : (a b : List ℕ) (at : Bool) (g : ℕ) (reading : Reading) (fault : LogFault) → stored a b ≡ loaded at (ending (run (gate_at 0 (begin g)) (pick at a b))) → reading ≡ run (gate_at 0 (begin g)) (pick at a b)
     → IsLoadFault reading at fault → IsMountFault a b fault

@@ -6,6 +6,7 @@ use Rattle.std.specs.Int.{w32, to_be_bytes}
 use Rattle.std.proofs.lemmas.List.Concat.{flat_map-cons}
 use Rattle.std.proofs.lemmas.List.Elements.{All-head, All-tail}
 use Rattle.std.proofs.lemmas.Option.{same_Some, none-some}
+use Rattle.laws.proofs.Results.{test_ok}
 use Rattle.muck_model.specs.declared.dbref.Dbref.{Dbref}
 use Rattle.muck_model.specs.declared.tune.Tune.{Tune}
 use Rattle.muck_codec.specs.declared.stored.Stored.{Stored}
@@ -15,7 +16,7 @@ use Rattle.muck_codec.specs.Batches.{is_above, next_at, records_at, tune_at, bat
 use Rattle.muck_codec.specs.Spelling.{spelling}
 use Rattle.muck_codec.specs.inner.Stored.{IsStored, IsTune, Run}
 use Rattle.muck_codec.proofs.Batches.{IsNextRecord, dbref_key, whole_reads}
-use Rattle.muck_codec.proofs.Codes.{bind_ok, test_ok, ok_is}
+use Rattle.muck_codec.proofs.Codes.{bind_ok, ok_is}
 use Rattle.muck_codec.proofs.Fields.{codes32}
 use Rattle.muck_codec.proofs.Records.{record_codes}
 use Rattle.muck_log.specs.World.{World, IsFine, is_fine, judged_world, laid_over, batch_if, laid}

@@ -1,10 +1,7 @@
 -- Two records are the same exactly where their fields are.
-use Rattle.std.proofs.Common.{◌≡◌, ℕ, Bool, ◌&&◌, List, ap}
-use Rattle.std.specs.Prelude.{bytes_eq}
+use Rattle.std.proofs.Common.{◌≡◌, Bool, ◌&&◌, ap}
 use Rattle.std.specs.Bool.{Decides}
-use Rattle.std.specs.Cmp.Lexicographic.{pointwise}
 use Rattle.std.proofs.lemmas.Bool.Decides.{Decides-and, Decides-like}
-use Rattle.std.proofs.lemmas.Slice.Eq.{bytes_eq-Decides, slice_eq-Decides}
 use Rattle.muck_codec.specs.declared.record.Head.{Head}
 use Rattle.muck_codec.specs.declared.record.Ties.{Ties}
 use Rattle.muck_codec.specs.declared.record.Lists.{Lists}
@@ -45,7 +42,3 @@ same_by a b head ties lists texts h t l x =
 
     has_texts : a ≡ b → HasSameTexts a b
     has_texts e = (cc, (cc, (cc, cc)))
-
--- lists of texts
-pub texts_same : (xs ys : List (List ℕ)) (r : Bool) → r ≡ pointwise bytes_eq xs ys → Decides r (xs ≡ ys)
-texts_same = slice_eq-Decides bytes_eq-Decides

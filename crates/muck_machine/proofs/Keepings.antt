@@ -3,6 +3,7 @@ use Rattle.std.proofs.Common.{◌≡◌, ◌≢◌, ℕ, zero, suc, Bool, true, 
 use Rattle.std.proofs.lemmas.Bool.{cond-true, cond-false}
 use Rattle.std.specs.Prelude.{ℤ}
 use Rattle.std.specs.Option.{option_map}
+use Rattle.laws.proofs.Truths.{alive_where}
 use Rattle.muck_model.specs.Told.{Told}
 use Rattle.muck_model.specs.declared.event.Entry.{Entry}
 use Rattle.muck_model.specs.declared.event.Event.{Event}
@@ -80,13 +81,6 @@ keeps_lost p party state next k = record {
   still = k.still;
   numbered = k.numbered;
 }
-
--- where something other than Died is lawful, the world isn't dead
-alive_where : (dead allowed died : Bool) → cond dead died allowed ≡ true → died ≡ false → dead ≡ false
-alive_where true allowed died e other = absurd (differ died e other) where
-  differ : (b : Bool) → b ≡ true → b ≡ false → ⊥
-  differ b p q = cc
-alive_where false allowed died e other = refl
 
 -- whether the world as it is now is dead
 pub dead_seen : (p : Past) (state : World) (h : History) → Keeps p state → history p ≡ h → (now h).dead ≡ p.dead

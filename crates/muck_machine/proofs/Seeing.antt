@@ -1,5 +1,5 @@
 -- What is seen of the slice of a world.
-use Rattle.std.proofs.Common.{◌≡◌, false, List, Option, Some, None, Result, Ok, Err, IfOk, map, refl, sym, ◌∙◌, ap, subst}
+use Rattle.std.proofs.Common.{◌≡◌, false, List, Option, Some, None, map, refl, sym, ◌∙◌, ap, subst}
 use Rattle.std.specs.Prelude.{ℤ, is_some}
 use Rattle.std.specs.Option.{option_map, option_and_then}
 use Rattle.muck_queue.specs.declared.process.Process.{Process}
@@ -32,10 +32,6 @@ nothing_seen tells pid w a e =
     let empty : seat pid (awake pid w) ≡ None =
     ap (option_and_then seat_of) (process_changed pid (woken w.moment) (woken_number w.moment) w.queue ∙ ap (option_map (woken w.moment)) (nobody (process pid w.queue) e)) in
     subst (λ (ts : List Taken). SeesAll tells (map (view_of pid) ts) a a) (sym (none_there w.live.board.tune pid (slice_most w.live.board.tune) (awake pid w) empty)) refl
-
-pub whatever : {X E P : Type 0} (r : Result X E) → P → IfOk r (λ x. P)
-whatever (Ok x) p = p
-whatever (Err e) p = tt
 
 -- what the state's slice showed is what the world's shows
 pub seen_now : {S : Type 0} (tells : S → View → S → Type 0) (pid number : ℤ) (p : Past) (state : World) (h : History) (a b : S) → Keeps p state → history p ≡ h → (now h).dead ≡ false → number ≡ pid → SeesAll tells (views_of number state) a b → SeesAll tells (views_of pid (now h)) a b

@@ -1,9 +1,9 @@
 -- The aliases of a name, taken off its front one after another.
-use Rattle.std.proofs.Common.{◌≡◌, ℕ, ◌<◌, ◌≤◌, ◌+◌, Bool, true, false, List, [], ◌∷◌, Option, Some, None, refl, sym, ◌∙◌, ap, subst, length, take, drop, map, arith, eqb, cond}
-use Rattle.muck_model.proofs.Positions.{position_none}
+use Rattle.std.proofs.Common.{◌≡◌, ℕ, ◌<◌, ◌+◌, Bool, true, false, List, [], ◌∷◌, Option, Some, None, refl, sym, ◌∙◌, ap, subst, length, take, drop, map, arith, eqb}
+use Rattle.laws.proofs.Options.{cond_is}
+use Rattle.laws.proofs.Texts.{split_none}
 use Rattle.std.proofs.lemmas.List.{length-take-le}
-use Rattle.std.proofs.lemmas.List.Splits.{slice_split_first, slice_split_none}
-use Rattle.std.proofs.lemmas.List.Sums.{fails_before_first}
+use Rattle.std.proofs.lemmas.List.Splits.{slice_split_first}
 use Rattle.std.proofs.lemmas.List.Quantifiers.{position-Some}
 use Rattle.std.specs.List.{filter, slice_split, position, position_or_len}
 use Rattle.muck_model.specs.declared.dbref.Dbref.{Dbref}
@@ -29,19 +29,9 @@ split_here p xs k e lt =
     let P : ℕ → Type 0 = λ n. slice_split p xs ≡ take n xs ∷ slice_split p (drop (n + 1) xs) in
     record { within = lt; first_part = subst P e (slice_split_first p xs 0 lower) }
 
-cond_some : (b : Bool) (n k : ℕ) → cond b (Some n) None ≡ Some k → n ≡ k
-cond_some true n k h = cc
-cond_some false n k h = absurd (cc)
-
 -- the part before the first separator
 pub split_some : (p : ℕ → Bool) (xs : List ℕ) (k : ℕ) → position p xs ≡ Some k → Split p xs k
-split_some p xs k h = split_here p xs k (cond_some _ _ k h) (position-Some p xs k 0 h).0
-
--- no separator
-pub split_none : (p : ℕ → Bool) (xs : List ℕ) → position p xs ≡ None → slice_split p xs ≡ xs ∷ []
-split_none p xs h =
-    let le : length xs ≤ position_or_len p xs = position_none p xs h in
-    slice_split_none p xs (λ k d lt. fails_before_first p xs k d (omega (arith, lt, le)))
+split_some p xs k h = split_here p xs k (cond_is _ _ k h) (position-Some p xs k 0 h).0
 
 -- what the first part gives, and what the others give
 pub record Parts (exit : Dbref) (argument : Bool) (line : List ℕ) (from : ℕ) (more : List ℕ) (k : ℕ) : Type 0 where

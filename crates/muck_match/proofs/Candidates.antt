@@ -1,12 +1,12 @@
 -- One candidate, none or several, and numbers that are gone over.
 use Rattle.std.proofs.Common.{◌≡◌, ℕ, ◌<◌, ◌+◌, ◌-◌, suc, pos, Bool, false, List, [], ◌∷◌, ◌++◌, Option, refl, sym, ◌∙◌, ap, map, arith}
 use Rattle.std.specs.List.{filter, find, range_with_len}
+use Rattle.laws.proofs.Tests.{filter_append}
 use Rattle.muck_model.specs.declared.dbref.Dbref.{Dbref}
 use Rattle.muck_model.specs.Numbers.{numbered}
 use Rattle.muck_match.specs.Scenery.{Scenery, place_in, numbers}
 use Rattle.muck_match.specs.Naming.{chosen, joined, answers, objects_near, near, is_player_named, player_named}
 use Rattle.muck_match.specs.declared.naming.Fit.{Fit}
-use Rattle.muck_match.proofs.Lists.{filter_append}
 
 pub chosen_append : (ds es : List Dbref) → chosen (ds ++ es) ≡ joined (chosen ds) (chosen es)
 chosen_append [] es = refl

@@ -1,8 +1,8 @@
 -- The first of what stands in lists, and lists that are walked from object to object.
-use Rattle.std.proofs.Common.{◌≡◌, ◌<◌, Bool, true, false, List, [], ◌∷◌, ◌++◌, Option, Some, None, inl, inr, refl, sym, ◌∙◌, ap, length, arith, append_assoc}
-use Rattle.std.proofs.lemmas.Bool.{cases_Bool}
+use Rattle.std.proofs.Common.{◌≡◌, ◌<◌, Bool, true, false, List, [], ◌∷◌, ◌++◌, Option, Some, None, refl, sym, ◌∙◌, ap, length, arith, append_assoc}
 use Rattle.std.specs.List.{filter, flat_map}
 use Rattle.std.specs.Option.{option_or}
+use Rattle.laws.proofs.Tests.{filter_no, filter_yes}
 use Rattle.muck_model.specs.declared.dbref.Dbref.{Dbref}
 use Rattle.muck_match.specs.Scenery.{is_nothing, chain}
 use Rattle.muck_match.specs.Exits.{first}
@@ -41,19 +41,6 @@ flat_map_append f (d ∷ ds) es = ap (λ t. f d ++ t) (flat_map_append f ds es) 
 pub flat_map_twice : {X : Type 0} (f : Dbref → List X) (g : Dbref → List Dbref) (ds : List Dbref) → flat_map f (flat_map g ds) ≡ flat_map (λ d. flat_map f (g d)) ds
 flat_map_twice f g [] = refl
 flat_map_twice f g (d ∷ ds) = flat_map_append f (g d) (flat_map g ds) ∙ ap (λ t. flat_map f (g d) ++ t) (flat_map_twice f g ds)
-
-pub filter_append : {X : Type 0} (p : X → Bool) (xs ys : List X) → filter p (xs ++ ys) ≡ filter p xs ++ filter p ys
-filter_append p [] ys = refl
-filter_append p (x ∷ xs) ys = elim (cases_Bool (p x)) [
-  | inl e ↦ rw e (ap (λ t. x ∷ t) (filter_append p xs ys))
-  | inr e ↦ rw e (filter_append p xs ys)
-]
-
-pub filter_yes : {X : Type 0} (p : X → Bool) (x : X) (xs : List X) → p x ≡ true → filter p (x ∷ xs) ≡ x ∷ filter p xs
-filter_yes p x xs h = rw h refl
-
-pub filter_no : {X : Type 0} (p : X → Bool) (x : X) (xs : List X) → p x ≡ false → filter p (x ∷ xs) ≡ filter p xs
-filter_no p x xs h = rw h refl
 
 -- where the list that is left gives first what the whole one gives
 pub taken : {X : Type 0} (f : Dbref → List X) (after : Dbref → List Dbref) (d : Dbref) (x : X) (whole : Option X) → is_nothing d ≡ false → first (f d) ≡ Some x

@@ -2,6 +2,7 @@
 use Rattle.std.proofs.Common.{◌≡◌, ℕ, Bool, true, false, List, [], ◌∷◌, ◌++◌, Option, Some, None, refl, sym, ◌∙◌, ap, subst}
 use Rattle.std.specs.Option.{option_or, option_map}
 use Rattle.std.specs.List.{filter, flat_map}
+use Rattle.laws.proofs.Tests.{filter_append, filter_no, filter_yes}
 use Rattle.muck_model.specs.declared.dbref.Dbref.{Dbref}
 use Rattle.muck_match.specs.Scenery.{Scenery, sees, is_thing, is_nothing, chain, place_in, things_in}
 use Rattle.muck_match.specs.Exits.{first, hits, hits_on}
@@ -13,7 +14,7 @@ use Rattle.muck_match.specs.declared.naming.Found.TheVariants.{One, None as Nobo
 use Rattle.muck_match.specs.Naming.{chosen, joined, one_of, or_else, is_nobody, answers, near, named}
 use Rattle.muck_match.specs.inner.Glances.{Sees}
 use Rattle.muck_match.proofs.Candidates.{chosen_append, near_of_both}
-use Rattle.muck_match.proofs.Lists.{first_append, flat_map_append, filter_append, filter_yes, filter_no, chain_step, chain_end}
+use Rattle.muck_match.proofs.Lists.{first_append, flat_map_append, chain_step, chain_end}
 
 joined_nobody : (a : Found) → joined a Nobody ≡ a
 joined_nobody Nobody = refl

@@ -3,6 +3,7 @@ use Rattle.std.proofs.Common.{◌≡◌, inl, inr, ℕ, zero, suc, ◌+◌, ◌-
 use Rattle.std.specs.Prelude.{slice_get, ◌||◌, if◌then◌else◌}
 use Rattle.std.proofs.lemmas.Bool.{cond-true, cond-false, eq-eqb, ne_eqb, eqb-true, eqb-false, lt-ltb, le-ltb, ltb-true, ltb-false}
 use Rattle.std.proofs.lemmas.Option.{same_Some, none-some}
+use Rattle.laws.proofs.Places.{some_at, within}
 use Rattle.muck_log.specs.World.{World, start}
 use Rattle.muck_mirror.specs.Laying.{laid_in}
 use Rattle.muck_mirror.specs.Bodies.{Body, body_in}
@@ -44,16 +45,6 @@ batch_at g first w (x ∷ rest) (suc i) bytes small are at =
     wrapped : (n : ℕ) → (n + 1) % 2 ^ 64 < 2 ^ 64
     wrapped n = omega arith
 
-pub within : (bodies : List (List ℕ)) (i : ℕ) (bytes : List ℕ) → slice_get bodies i ≡ Some bytes → i < length bodies
-within [] i bytes at = absurd (none-some bytes at)
-within (x ∷ rest) zero bytes at = omega arith
-within (x ∷ rest) (suc i) bytes at = omega (arith, within rest i bytes at)
-
-pub is_there : (bodies : List (List ℕ)) (i : ℕ) → i < length bodies → (bytes : List ℕ) × (slice_get bodies i ≡ Some bytes)
-is_there [] i lt = absurd (omega (arith, lt))
-is_there (x ∷ rest) zero lt = (x, refl)
-is_there (x ∷ rest) (suc i) lt = is_there rest i (omega (arith, lt))
-
 abbrev nobody : Body
 nobody = record { version = 0; number = 0; payload = [] }
 
@@ -80,13 +71,13 @@ module _ (g first : ℕ) (bodies : List (List ℕ)) (small : first < 2 ^ 64) (fe
   -- number of the body of a place
   pub number_at : (i : ℕ) → i < length bodies → (body_at g bodies i).number ≡ num first i
   number_at i lt =
-      let t = is_there bodies i lt in
+      let t = some_at bodies i lt in
       let b = batch_at g first start bodies i t.0 small are t.1 in
       ap (λ (x : Body). x.number) (body_is g bodies i t.0 b.body t.1 b.reads) ∙ b.numbered
 
   pub lays_at : (i : ℕ) → i < length bodies → laid_in (body_at g bodies i).version (body_at g bodies i).payload (front_world g i bodies start) ≡ Some (front_world g (suc i) bodies start)
   lays_at i lt =
-      let t = is_there bodies i lt in
+      let t = some_at bodies i lt in
       let b = batch_at g first start bodies i t.0 small are t.1 in
       ap (λ (x : Body). laid_in x.version x.payload (front_world g i bodies start)) (body_is g bodies i t.0 b.body t.1 b.reads) ∙ b.lays
 

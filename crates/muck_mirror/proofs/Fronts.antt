@@ -5,12 +5,14 @@ use Rattle.std.proofs.lemmas.List.Elements.{All-head, All-tail}
 use Rattle.std.proofs.lemmas.Option.{same_Some}
 use Rattle.std.proofs.Common.{eqb, ltb}
 use Rattle.std.proofs.lemmas.Bool.{eqb-true, eqb-false, ltb-true, ltb-false}
+use Rattle.laws.proofs.Places.{within}
+use Rattle.laws.proofs.Truths.{none}
 use Rattle.muck_log.specs.World.{start}
 use Rattle.muck_mirror.specs.Mirrors.{Mirror, made, fed}
 use Rattle.muck_mirror.specs.Fronts.{AreBatches, AllOneOf, Call, HoldsFront, Holds, IsOneOf, IsTaken, WasFed, after_calls, front_world, is_full, left_by}
 use Rattle.muck_mirror.proofs.Numbers.{num_zero}
 use Rattle.muck_mirror.proofs.Indices.{Has, Rising, Comes, put, cont, cont_comes, put_rising, put_only, put_has, has_put, rising_has}
-use Rattle.muck_mirror.proofs.Batches.{same_place, within}
+use Rattle.muck_mirror.proofs.Batches.{same_place}
 use Rattle.muck_mirror.proofs.Steps.{mirror_at, Outcome, knows, is_filled, keeps, applies, fed_at}
 
 -- A mirror that holds the first j batches and keeps those of these places, where so many were taken.
@@ -41,9 +43,6 @@ order k j = by (ltb k j) (eqb k j) refl refl
     by true b e f = inl (ltb-true k j e)
     by false true e f = inr (inl (eqb-true k j f))
     by false false e f = inr (inr (omega (arith, ltb-false k j e, eqb-false k j f)))
-
-none : {A : Type 0} {b : Bool} → b ≡ false → b ≡ true → A
-none a b = cc
 
 module _ (g first : ℕ) (bodies : List (List ℕ)) (small : first < 2 ^ 64) (few : length bodies ≤ 2 ^ 63) (are : AreBatches g first start bodies) where
   abbrev Now : Mirror → ℕ → List ℕ → (ℕ → Type 0) → Type 0

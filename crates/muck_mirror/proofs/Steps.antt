@@ -2,6 +2,7 @@
 use Rattle.std.proofs.Common.{◌≡◌, ◌⊎◌, inl, inr, ℕ, suc, ◌+◌, ◌-◌, ◌<◌, ◌≤◌, ◌%◌, ◌^◌, Bool, true, false, eqb, ltb, leb, List, length, map, Some, refl, sym, ◌∙◌, ap, subst, arith}
 use Rattle.std.specs.Prelude.{slice_get, ◌||◌, if◌then◌else◌}
 use Rattle.std.proofs.lemmas.Bool.{cond-true, eqb-true, eqb-false, ltb-true, ltb-false, le-leb, lt-leb}
+use Rattle.laws.proofs.Places.{within}
 use Rattle.muck_mirror.specs.declared.mirror.Fed.{Fed}
 use Rattle.muck_mirror.specs.declared.mirror.Fed.TheVariants.{Applied, Known, Early, Full}
 use Rattle.muck_log.specs.World.{start}
@@ -12,7 +13,7 @@ use Rattle.muck_mirror.specs.Mirrors.{Mirror, before_number, ahead, is_kept, kep
 use Rattle.muck_mirror.specs.Fronts.{AreBatches, front_world, is_full}
 use Rattle.muck_mirror.proofs.Numbers.{num, num_next, far_ahead, far_behind}
 use Rattle.muck_mirror.proofs.Indices.{Has, Rising, put, cont}
-use Rattle.muck_mirror.proofs.Batches.{body_at, within, number_at, lays_at, reads_at, kept_has, has_kept, put_kept, follows}
+use Rattle.muck_mirror.proofs.Batches.{body_at, number_at, lays_at, reads_at, kept_has, has_kept, put_kept, follows}
 
 -- the mirror that holds the first j batches and keeps those of these places
 abbrev pub mirror_at : ℕ → ℕ → List (List ℕ) → ℕ → List ℕ → Mirror

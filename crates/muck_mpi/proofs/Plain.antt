@@ -1,5 +1,7 @@
 -- A text without brackets and without `\` means itself, and changes nothing.
 use Rattle.std.proofs.Common.{◌≡◌, ℕ, ◌+◌, ◌≤◌, Bool, true, false, cond, List, [], ◌∷◌, ◌++◌, length, refl, sym, ap, ◌∙◌, arith, append_assoc, append-nil, length-append, None}
+use Rattle.laws.proofs.Tests.{all_head, all_tail}
+use Rattle.laws.proofs.Truths.{plain_free}
 use Rattle.mpi.specs.declared.fault.MpiFault.TheVariants.{Unclosed}
 use Rattle.std.specs.Prelude.{Ok, Err, ◌==◌, not, ◌&&◌, nat_lt}
 use Rattle.std.specs.List.{list_all}
@@ -9,7 +11,7 @@ use Rattle.mpi.specs.Brackets.{byte, begun, balances, escaped, call_ahead, first
 use Rattle.mpi.specs.Made.{is_long}
 use Rattle.mpi.specs.Thoughts.{State, Thought}
 use Rattle.mpi.specs.Meaning.{Scene, spelled, entered, evaluated, nesting_most, meaning}
-use Rattle.mpi.proofs.Inside.{all_head, all_tail, text_short}
+use Rattle.mpi.proofs.Inside.{text_short}
 use Rattle.mpi.proofs.Spelling.{spelled_end, spelled_byte}
 use Rattle.muck_model.specs.declared.dbref.Dbref.{Dbref}
 use Rattle.spec_live.specs.Lives.{Live}
@@ -32,12 +34,6 @@ plain_first b more false false z e f h = rw (e, f) refl
 
 first_plain : (b : ℕ) (more : List ℕ) → is_plain_byte b ≡ true → (byte b, more) ≡ first_piece b more
 first_plain b more h = plain_first b more (b == 92) (b == 123) (b == 125) refl refl h
-
-plain_free : (x y z : Bool) → not x && (not y && not z) ≡ true → z ≡ false
-plain_free true y z h = absurd (false≢true h)
-plain_free false true z h = absurd (false≢true h)
-plain_free false false true h = absurd (false≢true h)
-plain_free false false false h = refl
 
 plain_passed : (b : ℕ) (x y z : Bool) → b == 92 ≡ x → b == 123 ≡ y → b == 125 ≡ z → not x && (not y && not z) ≡ true → passed b begun ≡ begun
 plain_passed b true y z e f g h = absurd (false≢true h)

@@ -1,8 +1,6 @@
 -- The steps of one link.
 use Rattle.std.proofs.Common.{◌≡◌, ℕ, ◌≤◌, Bool, true, false, List, [], ◌∷◌, take, drop, length, refl, sym, ap, ◌∙◌, subst, arith}
-use Rattle.std.specs.Prelude.{nat_lt, min, ◌<◌, if◌then◌else◌, not, ◌&&◌, is_some}
-use Rattle.std.proofs.lemmas.Bool.{ltb-true, ltb-false, lt-ltb}
-use Rattle.std.proofs.lemmas.List.{length-drop, length-take, length-take-le}
+use Rattle.std.specs.Prelude.{if◌then◌else◌, not, ◌&&◌, is_some}
 use Rattle.muck_links.specs.inner.Cutting.{Cut, Rest, fed}
 use Rattle.muck_links.specs.Sessions.{Told, on_session, with_read, with_end, with_fault, with_written, with_refusal}
 use Rattle.muck_model.specs.declared.event.Event.TheVariants.{Input, Closed, Take}
@@ -52,29 +50,6 @@ link_lost counted v p k k' bytes view is = subst (λ (q : Peer). LinkLoss counte
 
 -- Bytes that are kept.
 
-pub some_unsent : (at len : ℕ) (b : List ℕ) → nat_lt at len ≡ true → len ≤ length b → drop at (take len b) ≡ [] → ⊥
-some_unsent at len b t le e =
-    let lt = ltb-true at len t in
-    let n = length-drop at (take len b) in
-    let m = length-take-le len b le in
-    let z = ap length e in
-    absurd (omega arith)
-
-pub none_unsent : (at len : ℕ) (b : List ℕ) → (drop at (take len b) ≡ [] → ⊥) → nat_lt at len ≡ true
-none_unsent at len b some = from (nat_lt at len) refl
-  where
-    from : (t : Bool) → nat_lt at len ≡ t → nat_lt at len ≡ true
-    from true e = e
-    from false e =
-        let le = ltb-false at len e in
-        let n = length-drop at (take len b) in
-        let m = length-take len b in
-        absurd (some (nothing (drop at (take len b)) (omega arith)))
-      where
-        nothing : (xs : List ℕ) → length xs ≤ 0 → xs ≡ []
-        nothing [] h = refl
-        nothing (x ∷ xs) h = absurd (omega arith)
-
 -- Entries.
 
 pub step_taken : (v p p' : Peer) (w : World) (n : ℕ) → v ≡ p → p.unsent ≡ [] → p' ≡ record v { unsent = take n (queue_of v.number w) } → PeerStep p p' w (Take v.number n)
@@ -88,10 +63,6 @@ step_heard v p p' w line c view ready rest same =
 
 -- Tests.
 
-pub stable : {A : Type 0} (xs : List A) → ((xs ≡ [] → ⊥) → ⊥) → xs ≡ []
-stable [] h = refl
-stable (x ∷ xs) h = absurd (h (λ e. cc))
-
 -- What is worked off.
 
 pub off_stopping : (p : Peer) (w : World) → w.stopping ≡ true → length (queue_of p.number w) ≤ 0 → p.unsent ≡ [] → IsWorkedOff p w
@@ -104,14 +75,6 @@ off_stopping p w stopping queue none_kept counted = worked_done counted p w (fro
 pub off_idle : (p : Peer) (w : World) → passes is_ready p.number w ≡ false → length (queue_of p.number w) ≤ 0 → p.unsent ≡ [] → IsWorkedOff p w
 off_idle p w idle queue none_kept counted = worked_done counted p w (ap (λ (b : Bool). b && not w.stopping) idle) queue none_kept
 
--- bytes were taken where some waited and there was room
-pub took_count : (dead : Bool) (n a b : ℕ) → dead ≡ false → n ≡ (if dead then 0 else min a b) → 0 < a → 0 < b → 0 < n
-took_count true n a b alive is some room = absurd cc
-took_count false n a b alive is some room = omega arith
-
-pub took_some : {A : Type 0} (n : ℕ) (old new : A) → 0 < n → (if nat_lt 0 n then new else old) ≡ new
-took_some n old new some = ap (λ (b : Bool). if b then new else old) (lt-ltb 0 n some)
-
 -- where there is a cause to close it
 pub ending_wanted : (there : Bool) (p : Peer) (w : World) → is_lawful w (by_porter (Closed p.number)) ≡ there → HasCause p w → IsWanted (if there then Close else Time) p w
 ending_wanted true p w is cause = (is, cause)
@@ -120,7 +83,3 @@ ending_wanted false p w is cause = tt
 -- what is wanted, by another name
 pub wanted_as : (want other : Want) (p : Peer) (w : World) → want ≡ other → IsWanted want p w → IsWanted other p w
 wanted_as want other p w is i = subst (λ (x : Want). IsWanted x p w) is i
-
--- what was done, as it is answered
-pub did_so : {A : Type 0} (answer : Bool) (old new : A) → answer ≡ true → (if answer then new else old) ≡ new
-did_so answer old new is = ap (λ (b : Bool). if b then new else old) is

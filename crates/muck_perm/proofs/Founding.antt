@@ -1,5 +1,6 @@
 -- What making an object, and then setting a field of it, makes of the world of a guard.
 use Rattle.std.proofs.Common.{◌≡◌, ℕ, Bool, true, false, cond, eqb, not, ◌||◌, ◌&&◌, Option, Some, None, Result, Ok, Err, refl, sym, ◌∙◌, ap, subst, List}
+use Rattle.laws.proofs.Places.{set_back}
 use Rattle.muck_db.proofs.Showing.{alive_number}
 use Rattle.std.proofs.lemmas.Bool.{false≢true, eq-eqb}
 use Rattle.std.specs.Prelude.{nat_lt}
@@ -23,7 +24,6 @@ use Rattle.spec_live.proofs.Savings.{saving_relinked}
 use Rattle.spec_live.proofs.Dues.{saving_down}
 use Rattle.spec_live.proofs.Checks.{IsThere, number_there}
 use Rattle.spec_live.proofs.CreationLaws.{may_create, Begins, begins, grown_kind, named_kind, other_kind}
-use Rattle.muck_db.proofs.Writes.{set_back}
 use Rattle.spec_live.specs.Lives.{Change}
 use Rattle.spec_rights.specs.Changing.{created_so}
 use Rattle.muck_perm.specs.declared.guard.Guard.{Guard}

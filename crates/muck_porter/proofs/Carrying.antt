@@ -1,10 +1,11 @@
 -- How a turn carries the books over.
-use Rattle.std.proofs.Common.{◌≡◌, ℕ, zero, suc, ◌≤◌, Bool, false, List, [], ◌∷◌, ◌++◌, set, take, refl, sym, ap, ◌∙◌, subst, inl, inr, arith, Option, Some, None}
+use Rattle.std.proofs.Common.{◌≡◌, ℕ, ◌≤◌, Bool, false, List, [], ◌∷◌, ◌++◌, set, take, refl, sym, ap, ◌∙◌, subst, inl, inr, arith, Option, Some, None}
 use Rattle.std.specs.Prelude.{is_some, if◌then◌else◌}
 use Rattle.std.specs.List.{remove}
 use Rattle.std.proofs.lemmas.List.{append-nil}
 use mathlib.Core.Option.{some}
 use lib.ListN.{get_elem?}
+use Rattle.laws.proofs.Places.{set_same}
 use Rattle.turn_lock.specs.Histories.{StartsWith, own_of}
 use Rattle.muck_links.specs.Sessions.{Told, on_session, shut}
 use Rattle.muck_model.specs.declared.event.Entry.{Entry}
@@ -41,14 +42,6 @@ use Rattle.muck_porter.specs.inner.Kept.{tally, BooksAt, PromisedIn, KeptBy}
 use Rattle.muck_porter.specs.inner.Turns.{Marked, PorterTurn}
 use Rattle.muck_porter.specs.inner.Moves.{MayHalt, LastEntry}
 use Rattle.muck_porter.proofs.Items.{same_world, note_append, some_is}
-
-pub set_again : {A : Type 0} (xs : List A) (i : ℕ) (a : A) → get_elem? xs i ≡ some a → set xs i a ≡ xs
-set_again [] i a e = refl
-set_again (x ∷ xs) zero a e = ap (λ y. y ∷ xs) (sym (same x a e))
-  where
-    same : {A : Type 0} (x a : A) → some x ≡ some a → x ≡ a
-    same x a e = cc
-set_again (x ∷ xs) (suc i) a e = ap (λ l. x ∷ l) (set_again xs i a e)
 
 -- an event that no link sees
 pub record IsQuiet (event : Event) : Type 0 where
@@ -187,7 +180,7 @@ module _ (noted noted' : Bool) (k : Told) (v v' : Sight) (w : World) (event : Ev
         (sym (same ∙ ap (λ (x : World). let q : Peer = record p { unsent = take m (queue_of p.number x) } in q) pl.world))
         (turn_taken u seen h pl.lawful pl.more pl.own (note_in v'.own) b (tally k n) peers coming i p m at none_kept x))) bk
     carries_peer b n peers coming i p p' at (PeerStep.timed t is same) bk =
-        subst (λ (ps : List Peer). BooksAt b v' (tally k n) ps coming) (sym (ap (set peers i) same ∙ set_again peers i p at))
+        subst (λ (ps : List Peer). BooksAt b v' (tally k n) ps coming) (sym (ap (set peers i) same ∙ set_same peers i p at))
         (carries_quiet b n peers coming (subst IsQuiet (sym is) (quiet_moment t)) bk)
 
     -- a connection is closed, and then its link

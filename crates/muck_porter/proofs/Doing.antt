@@ -1,11 +1,9 @@
 -- What the porter does, against its books.
-use Rattle.std.proofs.Common.{◌≡◌, ℕ, zero, suc, ◌+◌, ◌<◌, ◌≤◌, Bool, true, false, List, [], ◌∷◌, length, set, refl, sym, ap, ◌∙◌, subst, ⊎_elim, arith, Option, Some, None}
+use Rattle.std.proofs.Common.{◌≡◌, ℕ, Bool, true, false, List, [], set, refl, sym, ap, ◌∙◌, subst, Option, Some, None}
 use Rattle.std.specs.Prelude.{is_some}
-use Rattle.std.proofs.lemmas.Bool.{cases_lt}
-use mathlib.Core.Option.{some, some-ne-none, some-injective}
-use mathlib.Core.Logic.{dite}
-use native.Mathlib.Decide.{ℕ_discrete}
+use mathlib.Core.Option.{some, some-injective}
 use lib.ListN.{get_elem?}
+use Rattle.laws.proofs.Places.{set_set, set_there}
 use Rattle.muck_links.specs.Sessions.{Told, on_session, shut}
 use Rattle.muck_model.specs.declared.event.Event.{Event}
 use Rattle.muck_model.specs.declared.event.Event.TheVariants.{Died}
@@ -20,7 +18,7 @@ use Rattle.spec_serve.specs.Marks.{LinksNote}
 use Rattle.spec_serve.specs.Promises.{Tally, PromisedOf}
 use Rattle.spec_serve.specs.inner.Keeping.{Peer}
 use Rattle.spec_serve.specs.inner.Books.{BooksOf}
-use Rattle.spec_serve.proofs.Booking.{books_linked, set_there}
+use Rattle.spec_serve.proofs.Booking.{books_linked}
 use Rattle.spec_serve.proofs.Promising.{books_lost}
 use Rattle.muck_machine.specs.inner.Seats.{Sight, Chair, Rests, Left, Waited}
 use Rattle.muck_machine.proofs.Seating.{left_rests}
@@ -35,16 +33,6 @@ use Rattle.muck_porter.proofs.Stages.{stage_moment, formed_at}
 use Rattle.muck_porter.proofs.Carrying.{IsQuiet, quiet_moment, quiet_died, turn_noted, carries_quiet, last_entry, promised_in, kept_waited}
 
 -- Places in a list.
-
-pub set_set : {A : Type 0} (xs : List A) (i : ℕ) (v w : A) → set (set xs i v) i w ≡ set xs i w
-set_set [] i v w = refl
-set_set (x ∷ xs) zero v w = refl
-set_set (x ∷ xs) (suc i) v w = ap (λ l. x ∷ l) (set_set xs i v w)
-
-pub at_below : {A : Type 0} (xs : List A) (i : ℕ) (a : A) → get_elem? xs i ≡ some a → i < length xs
-at_below [] i a e = absurd (some-ne-none a (sym e))
-at_below (x ∷ xs) zero a e = omega arith
-at_below (x ∷ xs) (suc i) a e = let h = at_below xs i a e in omega arith
 
 -- Calls of the links.
 
@@ -137,15 +125,6 @@ pub timed_ready : (noted : Bool) (me : Chair) → ReadyTimed noted me → Ready 
 timed_ready noted me t = record { resting = t.resting; free = IsFree.timed t.timed }
 
 -- Lists.
-
-pub one_more : {A : Type 0} (P : A → Type 0) (xs : List A) (n : ℕ) (x : A) → get_elem? xs n ≡ some x → P x
-    → ((i : ℕ) (a : A) → i < n → get_elem? xs i ≡ some a → P a) → (i : ℕ) (a : A) → i < n + 1 → get_elem? xs i ≡ some a → P a
-one_more P xs n x there here below i a lt at = dite (ℕ_discrete i n)
-    (λ e. subst P (some-injective x a (sym there ∙ sym (ap (λ m. get_elem? xs m) e) ∙ at)) here)
-    (λ ne. below i a (less i n ne lt) at)
-  where
-    less : (i n : ℕ) → ¬ (i ≡ n) → i < n + 1 → i < n
-    less i n ne lt = ⊎_elim (λ (h : i < n). h) (λ (h : n ≤ i). absurd (ne (omega arith))) (cases_lt i n)
 
 pub peer_closed : (ps : List Peer) (i : ℕ) (p p' : Peer) → p' ≡ p → set ps i p' ≡ set ps i p
 peer_closed ps i p p' same = ap (set ps i) same

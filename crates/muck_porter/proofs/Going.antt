@@ -13,9 +13,6 @@ use Rattle.muck_porter.proofs.InRounds.{rose_since}
 pub rose_on : (a n m : ℕ) → Rose a n → n ≤ m → Rose a m
 rose_on a n m rose le = omega arith
 
-pub at_most : (n m : ℕ) → m ≡ n → n ≤ m
-at_most n m same = omega arith
-
 later_rose : {A : Type 0} (l m n : ℕ) → m ≤ n → A ⊎ Rose l m → A ⊎ Rose l n
 later_rose l m n le (inl a) = inl a
 later_rose l m n le (inr r) = inr (rose_on l m n r le)

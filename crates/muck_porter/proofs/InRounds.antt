@@ -1,6 +1,6 @@
 -- The parts of a round.
-use Rattle.std.proofs.Common.{true≢false, ◌≡◌, ◌⊎◌, ℕ, ℤ, ◌≤◌, Bool, true, false, List, [], ◌∷◌, ◌++◌, length, refl, sym, ap, ◌∙◌, subst, inl, inr, arith, eqb-true, Option, Some, None}
-use Rattle.std.specs.Prelude.{is_some, ◌==◌}
+use Rattle.std.proofs.Common.{true≢false, ◌≡◌, ◌⊎◌, ℕ, ℤ, ◌≤◌, Bool, true, false, List, [], ◌∷◌, ◌++◌, refl, sym, ap, ◌∙◌, subst, inl, inr, arith, Option, Some, None}
+use Rattle.std.specs.Prelude.{is_some}
 use Rattle.muck_io.specs.Faults.{Rose}
 use Rattle.muck_links.specs.Sessions.{Told, accepted, is_used}
 use Rattle.muck_model.specs.declared.event.Event.{Event}
@@ -124,11 +124,6 @@ came_carries v k k' n n' peers d p is came more =
 
 pub rose_since : (a n m : ℕ) → a ≤ n → Rose n m → Rose a m
 rose_since a n m le rose = omega arith
-
--- an empty list, as it is tested
-pub empty_of : {A : Type 0} (xs : List A) (b : Bool) → b ≡ true → b ≡ (length xs == 0) → xs ≡ []
-empty_of [] b is e = refl
-empty_of (x ∷ xs) b is e = let none = eqb-true (length (x ∷ xs)) 0 (sym e ∙ is) in absurd (omega arith)
 
 -- links that are tended
 pub tended : (noted : Bool) (v : Sight) (k k' : Told) (n n' : ℕ) (ps ps' : List Peer) → noted ≡ is_some (note_in v.own) → n' ≡ n → Tends noted k k' ps ps' → CarriesOn v v (tally k n) (tally k' n') ps ps'

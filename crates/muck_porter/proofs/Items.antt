@@ -1,8 +1,6 @@
 -- Items of a history.
-use Rattle.std.proofs.Common.{◌≡◌, ℕ, zero, suc, false, List, [], ◌∷◌, ◌++◌, refl, ap, Some, None}
-use Rattle.std.specs.Prelude.{is_some, slice_set}
-use mathlib.Core.Option.{some}
-use lib.ListN.{get_elem?}
+use Rattle.std.proofs.Common.{◌≡◌, ℕ, suc, false, List, [], ◌∷◌, ◌++◌, refl, ap, Some, None}
+use Rattle.std.specs.Prelude.{is_some}
 use Rattle.muck_model.specs.declared.note.Note.{Note}
 use Rattle.muck_model.specs.declared.note.Count.{Count}
 use Rattle.spec_events.specs.declared.logged.Logged.{Logged}
@@ -57,9 +55,3 @@ note_count n (l ∷ ls) = from l.counted (note_count (suc n) ls)
     from (Some cs) e = refl
 
 -- Items of a list.
-
--- a place that gets what it has
-pub put_same : {A : Type 0} (l : List A) (i : ℕ) (a b : A) → get_elem? l i ≡ some a → b ≡ a → slice_set l i b ≡ l
-put_same [] i a b h e = refl
-put_same (x ∷ xs) zero a b h e = cc (h, e)
-put_same (x ∷ xs) (suc i) a b h e = ap (λ l. x ∷ l) (put_same xs i a b h e)

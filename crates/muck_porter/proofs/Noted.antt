@@ -1,8 +1,10 @@
 -- Where the note of the links stands.
-use Rattle.std.proofs.Common.{true≢false, ◌≡◌, ℕ, zero, suc, ◌+◌, ◌<◌, ◌==◌, arith, Bool, true, false, not, ◌&&◌, ◌||◌, List, [], ◌∷◌, ◌++◌, refl, sym, ap, ◌∙◌, subst, ne_eqb, eqb-true, Option, Some, None}
+use Rattle.std.proofs.Common.{◌≡◌, ℕ, zero, suc, ◌+◌, ◌<◌, ◌==◌, arith, Bool, true, false, not, ◌&&◌, ◌||◌, List, [], ◌∷◌, ◌++◌, refl, sym, ap, ◌∙◌, subst, ne_eqb, eqb-true, Option, Some, None}
 use Rattle.std.specs.Prelude.{is_some, slice_get}
 use Rattle.std.proofs.lemmas.Option.{none-some}
 use Rattle.std.proofs.lemmas.Bool.Decides.{nat_tests}
+use Rattle.laws.proofs.Numbers.{is_zero}
+use Rattle.laws.proofs.Truths.{all_true, is_due, none_due, not_all, or_false}
 use Rattle.atomic_table.proofs.Lists.{at_longer}
 use Rattle.turn_lock.specs.Histories.{StartsWith, own_of, kept}
 use Rattle.muck_links.specs.Sessions.{Told}
@@ -34,10 +36,6 @@ note_own (l ∷ ls) all = from (l.entry.party == 0) refl (note_own ls (λ i x at
 
 pub orderly_front : (a b : List Logged) → AllOrderly (a ++ b) → AllOrderly a
 orderly_front a b all i l at = all i l (at_longer a b i l at)
-
-or_false : (b : Bool) → (b || false) ≡ b
-or_false true = refl
-or_false false = refl
 
 noted_on : (b : Bool) (o later : LinksNote) → (b || is_some (first_note o later)) ≡ ((b || is_some o) || is_some later)
 noted_on true o later = refl
@@ -80,18 +78,6 @@ noted_same w front ls all (rest, is) own n =
 
 -- An item that the porter makes.
 
-none_due : (n s d : Bool) → (n ≡ false → d ≡ false → s ≡ false) → (not n && (s && not d)) ≡ false
-none_due true s d f = refl
-none_due false true true f = refl
-none_due false true false f = f refl refl
-none_due false false d f = refl
-
-is_due : (n s d : Bool) → n ≡ false → s ≡ true → d ≡ false → (not n && (s && not d)) ≡ true
-is_due true s d a b c = absurd (true≢false a)
-is_due false true true a b c = absurd (true≢false c)
-is_due false true false a b c = refl
-is_due false false d a b c = absurd (true≢false (sym b))
-
 marked_so : (noted noted' : Bool) (k : Told) (w : World) (counted : LinksNote) → Marked noted noted' k w counted → is_some counted ≡ (not noted && (w.stopping && not w.dead))
 marked_so noted noted' k w counted (Marked.kept same none free) = ap is_some none ∙ sym (none_due noted w.stopping w.dead free)
 marked_so noted noted' k w counted (Marked.made was now_is stopping alive is) = ap is_some is ∙ sym (is_due noted w.stopping w.dead was stopping alive)
@@ -129,27 +115,11 @@ note_behind n (Some c) w e es free ih = (suc ih.0, (let is = ih.1 in omega arith
     before zero less a = free a
     before (suc place) less a = ih.3 place (omega arith) (acts_back w e es place a)
 
-all_true : (p s d : Bool) → true ≡ (p && (true && (s && not d))) → (p ≡ true) × (s ≡ true) × (d ≡ false)
-all_true true true false e = (refl, refl, refl)
-all_true true true true e = absurd (true≢false e)
-all_true true false d e = absurd (true≢false e)
-all_true false s d e = absurd (true≢false e)
-
-not_all : (p s d : Bool) → false ≡ (p && (true && (s && not d))) → p ≡ true → s ≡ true → d ≡ false → ⊥
-not_all true true false e a b c = true≢false (sym e)
-not_all true true true e a b c = true≢false c
-not_all true false d e a b c = true≢false (sym b)
-not_all false s d e a b c = true≢false (sym a)
-
 first_of : (w : World) (e : Entry) (es : List Entry) (a : ActsStopping w (e ∷ es) 0) → e.party ≡ 0
 first_of w e es a = ap (λ (x : Entry). x.party) (same e a.entry a.here) ∙ a.porter
   where
     same : (x y : Entry) → slice_get (x ∷ es) 0 ≡ Some y → x ≡ y
     same x y h = cc
-
-is_zero : (n : ℕ) → n ≡ 0 → (n == 0) ≡ true
-is_zero zero h = refl
-is_zero (suc n) h = absurd (omega arith)
 
 note_from : (n : ℕ) (w : World) (ls : List Logged) → AllNoted false w ls → LinksNoteFrom n (count_from n ls) w (entries_of ls)
 note_from n w [] all = λ place a. none-some a.entry a.here

@@ -8,13 +8,14 @@ use Rattle.std.specs.declared.ops.Bound.TheVariants.{Excluded, Unbounded}
 use Rattle.std.specs.FinMap.{from_entries, entries}
 use Rattle.std.specs.Ordering.{is_lt}
 use Rattle.std.proofs.lemmas.List.{length-drop}
+use Rattle.laws.proofs.Orders.{is_less}
 use Rattle.muck_prop.specs.declared.props.Listed.{Listed}
 use Rattle.muck_prop.specs.declared.value.PropValue.{PropValue}
 use Rattle.muck_prop.specs.Order.{path_cmp, is_below}
 use Rattle.muck_prop.specs.Paths.{IsPath, IsSegment, path_text}
 use Rattle.muck_prop.specs.Store.{IsKept, behind, listed_below}
 use Rattle.muck_prop.proofs.Maps.{entries_are}
-use Rattle.muck_prop.proofs.Sequence.{none_below, is_less, after_start_reaches}
+use Rattle.muck_prop.proofs.Sequence.{none_below, after_start_reaches}
 
 -- ---- the rest of a path
 

@@ -1,10 +1,10 @@
 -- A process that a change leaves its number.
-use Rattle.std.proofs.Common.{◌≡◌, ℤ, Bool, true, false, cond, List, [], ◌∷◌, refl, sym, ◌∙◌, ap, arith, Some, None}
+use Rattle.std.proofs.Common.{◌≡◌, ℤ, Bool, true, false, cond, List, [], ◌∷◌, refl, sym, ◌∙◌, ap, Some, None}
 use Rattle.std.specs.Prelude.{find}
 use Rattle.std.specs.Option.{option_map}
 use Rattle.std.specs.Ordering.{int_eq}
 use Rattle.std.proofs.lemmas.Bool.{cond-true, cond-false}
-use Rattle.std.proofs.lemmas.Int.{ints}
+use Rattle.laws.proofs.Numbers.{other_number}
 use Rattle.muck_queue.specs.declared.process.Process.{Process}
 use Rattle.muck_queue.specs.Queues.{Queue, has_pid, changed_first, without_first, with_processes, process, on_process, without}
 
@@ -44,9 +44,6 @@ found_first pid f k (p ∷ ps) =
       | true ↦ λ e. cond-true _ _ _ (has_same pid f k p true e)
       | false ↦ λ e. cond-false _ _ _ e ∙ found_first pid f k ps
     ]) refl
-
-other_number : (other pid n : ℤ) → int_eq other pid ≡ false → int_eq n pid ≡ true → int_eq n other ≡ false
-other_number other pid n d e = grind (arith, ints)
 
 other_first : (other pid : ℤ) (f : Process → Process) → KeepsNumber f → int_eq other pid ≡ false → (ps : List Process) →
     find (has_pid other) (changed_first (has_pid pid) f ps) ≡ find (has_pid other) ps

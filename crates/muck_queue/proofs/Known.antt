@@ -1,12 +1,14 @@
 -- Each change of a queue keeps what the queue knows of its processes.
-use Rattle.std.proofs.Common.{◌≡◌, ℕ, ℤ, ◌<◌, ◌≤◌, ◌+◌, Bool, true, false, not, List, [], ◌∷◌, ◌++◌, length, take, get_or, refl, sym, ◌∙◌, ap, subst, arith, Option, Some, None, if◌then◌else◌}
+use Rattle.std.proofs.Common.{◌≡◌, ℕ, ℤ, ◌<◌, ◌≤◌, ◌+◌, Bool, true, false, not, List, [], ◌∷◌, ◌++◌, length, take, get_or, refl, sym, ◌∙◌, ap, subst, arith, Option, None, if◌then◌else◌}
 use Rattle.std.specs.Prelude.{◌&&◌, ◌||◌, ◌==◌, nat_le, is_some, drop, map, find}
 use Rattle.std.specs.List.{list_all, list_any, reduce}
-use Rattle.std.specs.Option.{option_map, option_map_or}
-use Rattle.std.proofs.lemmas.Bool.{cond_both, and_right, le-leb}
-use Rattle.std.proofs.lemmas.Bool.Decides.{nat_tests}
+use Rattle.std.specs.Option.{option_map}
+use Rattle.std.proofs.lemmas.Bool.{cond_both, le-leb}
 use Rattle.std.proofs.lemmas.List.{take_more}
 use Rattle.std.proofs.Math.Bool.{or-true}
+use Rattle.laws.proofs.Numbers.{event_of, lower_of, not_due}
+use Rattle.laws.proofs.Options.{untied_of}
+use Rattle.laws.proofs.Truths.{or_last, taken_of, waiting_of}
 use Rattle.muck_model.specs.declared.dbref.Dbref.{Dbref}
 use Rattle.muf_model.specs.Datum.{Datum}
 use Rattle.muck_queue.specs.declared.claim.Claim.{Claim}
@@ -21,43 +23,17 @@ use Rattle.muck_queue.proofs.Tested.{Gives, Bars, all_changed, all_without, all_
 
 -- Seconds.
 
-lower : (less s d : ℕ) → less ≤ s → nat_le s d ≡ true → nat_le less d ≡ true
-lower less s d l h = grind (arith, nat_tests)
-
-late : (s m d : ℕ) → m < s → nat_le s d ≡ true → nat_le d m ≡ false
-late s m d l h = grind (arith, nat_tests)
-
-or_last : (a b c : Bool) → c ≡ true → (a || (b || c)) ≡ true
-or_last true b c e = refl
-or_last false true c e = refl
-or_last false false c e = e
-
 -- a process that is due in this second or later
 pub second_due : (s : ℕ) (p : Process) → s ≤ p.due → fits_second s p ≡ true
 second_due s p h = or_last (is_reading p) (is_awaiting p) (nat_le s p.due) (le-leb s p.due h)
-
-lower_of : (a b : Bool) (less s d : ℕ) → less ≤ s → (a || (b || nat_le s d)) ≡ true → (a || (b || nat_le less d)) ≡ true
-lower_of true b less s d l h = refl
-lower_of false true less s d l h = refl
-lower_of false false less s d l h = lower less s d l h
 
 -- a lower second fits as well
 second_lower : (less s : ℕ) → less ≤ s → Gives (fits_second s) (fits_second less)
 second_lower less s l p h = lower_of (is_reading p) (is_awaiting p) less s p.due l h
 
-waiting_of : (a b c : Bool) → (not a && not b) ≡ false → (a || (b || c)) ≡ true
-waiting_of true b c h = refl
-waiting_of false true c h = refl
-waiting_of false false c h = cc
-
 -- a process that waits for more than its second
 pub second_waiting : (s : ℕ) (p : Process) → is_timed p ≡ false → fits_second s p ≡ true
 second_waiting s p h = waiting_of (is_reading p) (is_awaiting p) (nat_le s p.due) h
-
-not_due : (a b c : Bool) (s m d : ℕ) → m < s → (a || (b || nat_le s d)) ≡ true → (nat_le d m && (not a && (not b && c))) ≡ false
-not_due true b c s m d l h = and_right (nat_le d m) false refl
-not_due false true c s m d l h = and_right (nat_le d m) false refl
-not_due false false c s m d l h = ap (λ x. x && c) (late s m d l h)
 
 -- before that second none goes on
 none_soon : (cs : List Claim) (tied : Bool) (s m : ℕ) (ps : List Process) → Knows tied s ps → m < s → earliest (is_due m cs) ps ≡ None
@@ -75,10 +51,6 @@ seconds_more s less ps i p h is l e k =
     rw (take_more ps i p h) (rw (← is) (all_added (fits_second s) (fits_second less) (second_lower less s l) p e (take i ps) k))
 
 -- Connections.
-
-untied_of : (test : ℕ → Bool) (o : Option ℕ) → (false || not (is_some o)) ≡ true → option_map_or test o false ≡ false
-untied_of test None h = refl
-untied_of test (Some c) h = cc
 
 untied : (d : ℕ) → Bars (fits_ties false) (is_tied_to d)
 untied d p h = untied_of (λ c. c == d) p.descr h
@@ -164,11 +136,6 @@ module _ (tied : Bool) (s : ℕ) where
 
 -- Changes of one process.
 
-event_of : (a b : Bool) (s due moment : ℕ) (r : Bool) → (a || (b || nat_le s due)) ≡ true → s ≤ moment → (a || (r || nat_le s (if b then moment else due))) ≡ true
-event_of true b s due moment r h l = refl
-event_of false true s due moment r h l = or_last false r (nat_le s moment) (le-leb s moment l)
-event_of false false s due moment r h l = or_last false r (nat_le s due) h
-
 pub second_event : (s moment : ℕ) (event : List ℕ × Datum) → s ≤ moment → (p : Process) → fits_second s p ≡ true → fits_second s (told_event moment event p) ≡ true
 second_event s moment event l p h = event_of (is_reading p) (is_awaiting p) s p.due moment (is_for_event p.wait (p.events ++ event ∷ [])) h l
 
@@ -177,11 +144,6 @@ still Nothing events h = cc
 still ForLine events h = cc
 still ForEvent [] h = refl
 still ForEvent (e ∷ events) h = cc
-
-taken_of : (a b r c : Bool) → (b ≡ true → r ≡ true) → (a || (b || c)) ≡ true → (a || (r || c)) ≡ true
-taken_of true b r c f h = refl
-taken_of false true r c f h = ap (λ x. x || c) (f refl)
-taken_of false false r c f h = or_last false r c h
 
 pub second_taken : (s : ℕ) (p : Process) → fits_second s p ≡ true → fits_second s (without_event p) ≡ true
 second_taken s p h = taken_of (is_reading p) (is_awaiting p) (is_for_event p.wait (drop 1 p.events)) (nat_le s p.due) (still p.wait p.events) h

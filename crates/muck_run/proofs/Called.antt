@@ -69,10 +69,6 @@ dump_may tells why may = dumps_run (end_of why) may
 pub not_write : (tells : Bool) (why : Why) → MayEndDump tells why → why ≡ WriteFault → ⊥
 not_write tells why may e = subst (MayEndDump tells) e may
 
--- an error is that one
-pub err_is : {T E : Type 0} (r : Result T E) (e f : E) → r ≡ Err e → r ≡ Err f → e ≡ f
-err_is r e f one other = let both = sym one ∙ other in cc
-
 -- a count that rose after another call did since before it
 pub rose_since : (a b c : ℕ) → a ≤ b → Rose b c → Rose a c
 rose_since a b c le rose = omega (arith, le, rose)

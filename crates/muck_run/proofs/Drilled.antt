@@ -1,6 +1,6 @@
 -- A drill, from how its script was played.
-use Rattle.std.proofs.Common.{◌≡◌, inl, inr, ℕ, true, false, ◌+◌, ◌≤◌, List, [], ◌∷◌, ◌++◌, length, drop, refl, sym, ◌∙◌, ap, subst, arith, append-nil, append_assoc, add-one, Option, Some, None, Result, Ok, Err}
-use Rattle.std.specs.Prelude.{OnErr, codes}
+use Rattle.std.proofs.Common.{◌≡◌, inl, inr, ℕ, true, false, ◌+◌, ◌≤◌, List, [], ◌∷◌, ◌++◌, length, drop, refl, sym, ◌∙◌, ap, subst, arith, append-nil, append_assoc, add-one, Option, Some, None}
+use Rattle.std.specs.Prelude.{codes}
 use Rattle.std.specs.Fmt.{decimal}
 use Rattle.std.specs.List.{filter}
 use Rattle.muck_model.specs.declared.event.Entry.{Entry}
@@ -152,11 +152,6 @@ drilled_as n size h bytes text p counts is = record {
 }
 
 -- Drills that broke off.
-
--- what is said of an error, of any answer
-pub on_err : {A E P : Type 0} (r : Result A E) → P → OnErr r P
-on_err (Ok x) p = tt
-on_err (Err e) p = p
 
 -- before anything was played
 pub fresh_short : (n : ℕ) (h : History) → h ≡ fresh → IsCutShort n h

@@ -1,6 +1,6 @@
 -- A dump as a part of a run: it begins, and comes out.
 use Rattle.std.proofs.Common.{◌≡◌, inl, inr, ℕ, Bool, true, false, List, [], ◌∷◌, refl, ap, ◌∙◌, Option, Some, None, Ok, Err}
-use Rattle.std.specs.Prelude.{is_none, ◌&&◌}
+use Rattle.laws.proofs.Lists.{no_ending}
 use Rattle.muck_model.specs.declared.event.Event.{Event}
 use Rattle.muck_model.specs.declared.event.Event.TheVariants.{Cut, Stored, DumpFailed, Died}
 use Rattle.muck_model.specs.declared.note.Note.{Note}
@@ -20,7 +20,7 @@ use Rattle.muck_run.specs.inner.Dumps.{ending_event, Dumps, DumpsLast, ComesOut,
 use Rattle.muck_run.specs.inner.Plays.{Plays, Breaks}
 use Rattle.muck_run.proofs.Closing.{came_stored, came_failed}
 use Rattle.muck_run.proofs.Noted.{noted_one, noted_more, noted_then}
-use Rattle.muck_run.proofs.Parts.{appends_nothing, no_ending}
+use Rattle.muck_run.proofs.Parts.{appends_nothing}
 
 lives : (h k : History) (event : Event) → Longer h k (by_porter event ∷ []) → is_died event ≡ false → (now h).dead ≡ false → (now k).dead ≡ false
 lives h k event is other alive = ap (λ (w : World). w.dead) (now-longer h k (by_porter event ∷ []) is) ∙ dead-effect (now h) (by_porter event) other ∙ alive
@@ -150,10 +150,6 @@ noted_dead h m (died_ending n a b is) = noted_then h (cut_behind h a n) m (noted
 pub idle_made : (h m : History) (x : Option LogFault) → HasDumped 0 {E = Wanted} h m (Ok x) → (now m).dumps.running ≡ None
 idle_made h m None d = ended_idle (cut_behind h d.1 d.0) m d.2 0 d.0 true d.3
 idle_made h m (Some fault) d = ended_idle (cut_behind h d.1 d.0) m d.2 0 d.0 false d.3
-
--- the porter may begin one where none runs
-pub porter_cuts : {A : Type 0} (running : Option A) → running ≡ None → (is_none running && true) ≡ true
-porter_cuts running idle = ap (λ o. is_none o && true) idle
 
 -- What is kept is the same, whatever want of memory is called.
 

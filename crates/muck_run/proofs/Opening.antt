@@ -1,11 +1,12 @@
 -- No connection is there above the greatest number that a line has asked for.
 use Rattle.std.proofs.Common.{◌≡◌, ℕ, zero, suc, ◌<◌, ◌≤◌, ◌+◌, Bool, true, false, ◌&&◌, cond, List, [], ◌∷◌, ◌++◌, length, refl, sym, ap, ◌∙◌, arith, Option, Some, None, Result, Ok, Err}
-use Rattle.std.specs.Prelude.{OnOk, is_some, nat_le, nat_lt, min, ◌==◌, ◌||◌}
+use Rattle.std.specs.Prelude.{OnOk, is_some, nat_le, nat_lt, ◌==◌, ◌||◌}
 use Rattle.std.specs.List.{list_all}
 use Rattle.std.specs.Option.{option_map_or}
 use Rattle.std.proofs.lemmas.List.Folds.{list_all-append}
-use Rattle.std.proofs.lemmas.Bool.Decides.{nat_tests}
 use Rattle.std.proofs.lemmas.Bool.{and_parts}
+use Rattle.laws.proofs.Numbers.{apart_above, le_more}
+use Rattle.laws.proofs.Options.{none_where_not_some}
 use Rattle.muck_links.specs.Keyed.{altered, latest}
 use Rattle.muck_model.specs.declared.event.Entry.{Entry}
 use Rattle.muck_model.specs.declared.event.Event.{Event}
@@ -111,9 +112,6 @@ pub opens_if : {T : Type 0} (most : ℕ) (f : Part) (h k : History) (a b : Optio
 opens_if most f h k a b (Ok x) is p o = opens_plays most f h k a b is p o
 opens_if most f h k a b (Err fault) is p o = tt
 
-le_more : (d least most : ℕ) → least ≤ most → nat_le d least ≡ true → nat_le d most ≡ true
-le_more d least most le e = grind (arith, nat_tests)
-
 event_more : (least most : ℕ) (event : Event) → least ≤ most → opens_within least event ≡ true → opens_within most event ≡ true
 event_more least most (Opened d) le e = le_more d least most le e
 event_more least most event le e = refl
@@ -153,14 +151,11 @@ known_on most w ts (x ∷ es) e k =
     let both = and_parts (opens_within most x.event) (all_within most es) e in
     known_on most (effect w x) (talked w x.event ts) es both.1 (known_talked most w x.event ts both.0 k)
 
-apart : (n d most : ℕ) → most < d → nat_le n most ≡ true → (n == d) ≡ false
-apart n d most less e = grind (arith, nat_tests)
-
 not_talking : (most d : ℕ) (ts : List Talk) → most < d → known most ts ≡ true → is_talking d ts ≡ false
 not_talking most d [] less k = refl
 not_talking most d (t ∷ ts) less k =
     let both = and_parts (nat_le t.number most) (known most ts) k in
-    ap (λ (b : Bool). is_open (cond b (Some t) (latest talk_of d ts))) (apart t.number d most less both.0) ∙ not_talking most d ts less both.1
+    ap (λ (b : Bool). is_open (cond b (Some t) (latest talk_of d ts))) (apart_above t.number d most less both.0) ∙ not_talking most d ts less both.1
 
 pub nobody_above : (most d : ℕ) (h : History) → Opens most h → AllLawful h.start h.entries → most < d → is_some (connection d (now h)) ≡ false
 unfolding now talks
@@ -168,10 +163,6 @@ nobody_above most d h o lawful less =
     connected h.start h.entries o.nobody lawful d ∙ not_talking most d (talks h.start h.entries) less (known_on most h.start [] h.entries o.opened refl)
 
 -- Nothing is done for who isn't there.
-
-none_of : {A : Type 0} (o : Option A) → is_some o ≡ false → o ≡ None
-none_of None e = refl
-none_of (Some x) e = absurd cc
 
 nothing_taken : (d : ℕ) (w : World) → connection d w ≡ None → taken d w ≡ []
 nothing_taken d w e =
@@ -188,13 +179,7 @@ pub served_nothing : (n d : ℕ) (os : List Dumped) (w : World) → ((m : ℕ) �
 unfolding served
 served_nothing zero d os w none = refl
 served_nothing (suc n) d os w none =
-    ap (then_on (served n (d + 1)) os w) (one_nothing d os w (none_of (connection d w) (none d (omega arith) (omega arith))))
+    ap (then_on (served n (d + 1)) os w) (one_nothing d os w (none_where_not_some (connection d w) (none d (omega arith) (omega arith))))
     ∙ served_nothing n (d + 1) os w (λ m le less. none m (omega arith) (omega arith))
 
 -- Which connections are asked.
-
-pub end_within : (most last d : ℕ) → last ≡ min most 256 → d < last + 1 → d < 257
-end_within most last d e less = grind (arith, nat_tests)
-
-pub above_last : (most last d m : ℕ) → last ≡ min most 256 → last + 1 ≤ d → d ≤ m → m < 257 → most < m
-above_last most last d m e over le less = grind (arith, nat_tests)

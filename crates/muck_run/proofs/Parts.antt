@@ -1,5 +1,6 @@
 -- Lemmas on parts of a run.
 use Rattle.std.proofs.Common.{◌≡◌, ℕ, ◌<◌, ◌≤◌, Bool, true, false, cond, List, [], ◌∷◌, ◌++◌, length, take, drop, refl, sym, ◌∙◌, ap, subst, arith, append_assoc, append-nil, Option, Some, None, Result, Ok, Err, min}
+use Rattle.laws.proofs.Lists.{no_ending}
 use Rattle.muck_io.proofs.Appended.{appends_twice}
 use Rattle.std.proofs.lemmas.Bool.{lt-ltb, cond-true, cond-false}
 use Rattle.std.proofs.lemmas.List.{take-append-drop}
@@ -56,9 +57,6 @@ plays_one f h k a b event text e is other alive written app = record {
   text = appends_as a b text _ (written ∙ sym (append-nil (told (now h) event))) app;
   alive = lives_on h k event is other alive;
 }
-
-pub no_ending : {X : Type 0} {x : X} {xs : List X} {P : Type 0} → x ∷ xs ≡ [] → P
-no_ending e = cc
 
 -- one event happened, all of the part, and then the ending; a front of its text was written
 pub breaks_after : (f : Part) (ending : List Entry) (h k : History) (a b : Option (List ℕ)) (event : Event) (text : List ℕ) → Says f (now h) (by_porter event ∷ []) →

@@ -1,6 +1,7 @@
 -- The turns after a line: nothing is written of them, they leave the world alive, and no dump is among them.
 use Rattle.std.proofs.Common.{◌≡◌, ℕ, ℤ, false, List, [], ◌∷◌, ◌++◌, refl, sym, ◌∙◌, ap, Option, Some, None, suc, zero, subst}
 use Rattle.std.specs.List.{list_any}
+use Rattle.laws.proofs.Lists.{no_ending}
 use Rattle.muck_model.specs.declared.event.Entry.{Entry}
 use Rattle.muck_model.specs.declared.event.Event.TheVariants.{Exec, Claim, Slice, Died}
 use Rattle.spec_events.specs.Logged.{is_dump}
@@ -14,7 +15,7 @@ use Rattle.spec_events.proofs.Runs.{longer_grew, now-grew}
 use Rattle.muck_script.specs.inner.Settling.{DiedDuring}
 use Rattle.muck_script.specs.Story.{Turn, of_line, of_process, next_turn, turn_entries, turn, turns, plain, told, text_of}
 use Rattle.muck_run.specs.inner.Plays.{Plays, Breaks}
-use Rattle.muck_run.proofs.Parts.{appends_nothing, appends_as, no_ending}
+use Rattle.muck_run.proofs.Parts.{appends_nothing, appends_as}
 
 -- Entries of turns, each behind the other: done lines, claims and slices.
 data AreTurns : List Entry → Type 0 where

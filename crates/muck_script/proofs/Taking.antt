@@ -1,7 +1,7 @@
 -- A turn, as it is taken.
-use Rattle.std.proofs.Common.{◌≡◌, ℕ, ℤ, Bool, true, false, ◌&&◌, cond, [], ◌∷◌, refl, sym, ◌∙◌, ap, Option, Some, None, Result, Ok, Err}
+use Rattle.std.proofs.Common.{◌≡◌, ℕ, ℤ, Bool, true, false, ◌&&◌, cond, [], ◌∷◌, refl, sym, ◌∙◌, ap, Option, Some, None}
 use Rattle.std.proofs.lemmas.Bool.{cond-true, and_parts}
-use Rattle.std.specs.Prelude.{is_some, OnErr}
+use Rattle.std.specs.Prelude.{is_some}
 use Rattle.muck_model.specs.declared.event.Event.TheVariants.{Exec, Claim, Slice}
 use Rattle.spec_events.specs.World.{World}
 use Rattle.spec_events.specs.Steps.{has_claim, is_there, is_lawful, next_ready, next_process}
@@ -69,8 +69,3 @@ some_slice (Some pid) = refl
 
 pub some_next : (w : World) → next_ready w ≡ None → is_some (next_process w) ≡ is_some (next_turn w)
 some_next w e = some_slice (next_process w) ∙ ap (λ (o : Option Turn). is_some o) (process_next w e)
-
--- what is said of an error, of any answer
-pub on_error : (A E : Type 0) (r : Result A E) (P : Type 0) → P → OnErr r P
-on_error A E (Ok v) P p = tt
-on_error A E (Err e) P p = p

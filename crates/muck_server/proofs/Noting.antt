@@ -2,6 +2,7 @@
 use Rattle.std.proofs.Common.{◌≡◌, ℕ, zero, suc, ◌<◌, Bool, true, false, List, [], ◌∷◌, ◌++◌, refl, sym, ap, ◌∙◌, subst, arith, eqb-true, Option, Some}
 use Rattle.std.specs.Prelude.{◌==◌, map, slice_get, is_some}
 use Rattle.std.proofs.lemmas.Option.{none-some, same_Some}
+use Rattle.laws.proofs.Truths.{opposed}
 use Rattle.turn_lock.specs.Histories.{kept, own_of}
 use Rattle.muck_model.specs.declared.event.Entry.{Entry}
 use Rattle.muck_model.specs.declared.event.Event.{Event}
@@ -12,7 +13,6 @@ use Rattle.spec_events.specs.World.{World}
 use Rattle.spec_events.specs.Steps.{effect}
 use Rattle.spec_events.specs.Histories.{by_porter, AllLawful}
 use Rattle.spec_talks.specs.Parties.{party_of}
-use Rattle.spec_talks.proofs.Histories.{both_ways}
 use Rattle.spec_serve.specs.Marks.{ActsStopping, IsLinksNote}
 use Rattle.spec_serve.proofs.Longer.{links_note_longer, stop_noted}
 use Rattle.muck_dumping.specs.inner.Dumps.{by}
@@ -56,7 +56,7 @@ noted_there counted w tale lawful (own, ends) note =
 
 -- and they are so behind whatever comes then
 pub noted_behind : (counted : Option Counted) (w : World) (tale es : List Entry) → is_some counted ≡ true → IsLinksNote counted w tale → IsLinksNote counted w (tale ++ es)
-noted_behind counted w tale es there note = links_note_longer w tale es counted (λ none. absurd (both_ways (is_some counted) there none)) note
+noted_behind counted w tale es there note = links_note_longer w tale es counted (λ none. absurd (opposed (is_some counted) there none)) note
 
 -- or behind want of memory of another party
 pub noted_died : (counted : Option Counted) (w : World) (tale : List Entry) → IsLinksNote counted w tale → IsLinksNote counted w (tale ++ by 9 Died ∷ [])
@@ -71,7 +71,7 @@ pub noted_halted : (counts : List Count) (w : World) → w.stopping ≡ false �
 unfolding effect
 noted_halted counts w going alive = (
   record { entry = by_porter StopSeen; here = refl; porter = refl; stopping = refl; alive = alive },
-  λ place less a. both_ways w.stopping (none_before place less a) going,
+  λ place less a. opposed w.stopping (none_before place less a) going,
 )
   where
     none_before : (place : ℕ) → place < 1 → ActsStopping w (by_porter Halt ∷ by_porter StopSeen ∷ []) place → w.stopping ≡ true

@@ -4,6 +4,7 @@ use Rattle.std.specs.Prelude.{◌==◌, if◌then◌else◌, slice_get, is_some}
 use Rattle.std.specs.Option.{option_and_then}
 use Rattle.std.proofs.lemmas.List.{append-nil}
 use Rattle.std.proofs.lemmas.Option.{none-some, same_Some}
+use Rattle.laws.proofs.Truths.{not_so}
 use Rattle.turn_lock.specs.Histories.{kept, own_of}
 use Rattle.turn_lock.proofs.Parts.{own_append}
 use Rattle.muck_model.specs.declared.event.Entry.{Entry}
@@ -13,7 +14,6 @@ use Rattle.spec_events.specs.Histories.{by_porter}
 use Rattle.spec_events.specs.Own.{Stage, next, stage_of, IsWellFormed, is_last, IsOver}
 use Rattle.spec_events.proofs.Owning.{stage_one, stage_more, well_formed, over_with, over_stop}
 use Rattle.spec_talks.specs.Parties.{party_of}
-use Rattle.spec_talks.proofs.Histories.{both_ways}
 use Rattle.muck_dumping.specs.inner.Dumps.{by}
 use Rattle.muck_crew.specs.Shared.{IsParty, done_by, IsShared, IsThrough, AllOver, EndsStopped}
 use Rattle.muck_server.specs.Served.{last_dump, IsLast}
@@ -99,9 +99,6 @@ pub none_first : (workers p : ℕ) → OthersOver workers p []
 none_first workers p q is other = inl refl
 
 -- The stop.
-
-not_so : {A : Type 0} → false ≡ true → A
-not_so e = absurd (both_ways false e refl)
 
 porter_stop : (stage : Option Stage) → is_some (option_and_then (λ s. next 0 s StopSeen) stage) ≡ true → option_and_then (λ s. next 0 s StopSeen) stage ≡ Some Stage.stopped
 porter_stop None h = not_so h

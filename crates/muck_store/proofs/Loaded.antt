@@ -3,6 +3,7 @@ use Rattle.std.proofs.Common.{◌≡◌, ℕ, List, [], Option, Some, None, refl
 use Rattle.std.proofs.lemmas.Option.{slice_get-map, same_Some, none-some}
 use Rattle.std.specs.List.{slice_get}
 use Rattle.std.specs.Option.{option_map, option_and_then, option_map_or}
+use Rattle.laws.proofs.Mapped.{length_map}
 use Rattle.muck_model.specs.declared.dbref.Kind.TheVariants.{Garbage}
 use Rattle.muck_codec.specs.declared.stored.Stored.{Stored}
 use Rattle.spec_live.specs.declared.object.Object.{Object}
@@ -10,7 +11,6 @@ use Rattle.spec_live.specs.Flags.{has_flag, no_flags, vehicle}
 use Rattle.spec_live.specs.Chain.{walk}
 use Rattle.spec_live.specs.Objects.{Entry, index_of, object_in, list_of, list_in, kind_in, flags_in, place_in, is_vehicle_in}
 use Rattle.spec_live.proofs.Chains.{walk_none}
-use Rattle.spec_live.proofs.Lists.{length_map}
 use Rattle.muck_store.specs.Forms.{next_at, object_of, entry_of, loaded}
 use Rattle.muck_store.specs.Whole.{kind_of, seats_in, first_at}
 use Rattle.muck_store.proofs.Meeting.{place_at}

@@ -6,12 +6,14 @@ use Rattle.std.proofs.lemmas.Map.Steps.{length-le_from_distinct_below}
 use Rattle.std.proofs.lemmas.Option.{same_Some, none-some, slice_get_within, option_and_then_some}
 use Rattle.std.specs.List.{slice_get}
 use Rattle.std.specs.Option.{option_and_then, option_map_or}
+use Rattle.laws.proofs.Places.{get_left, get_none}
+use Rattle.laws.proofs.Truths.{exit_or_not}
 use Rattle.muck_model.proofs.Dbrefs.{eq_same}
 use Rattle.muck_codec.specs.declared.stored.Stored.{Stored}
 use Rattle.spec_live.specs.Chain.{walk, IsChain, Member, IsApart, has}
 use Rattle.spec_live.specs.Objects.{dbref_of, index_of, same, is_exit}
 use Rattle.spec_live.proofs.Chains.{chain_below, walk_is, member_any, apart_distinct}
-use Rattle.spec_live.proofs.Lists.{has_not, some_at}
+use Rattle.spec_live.proofs.Lists.{has_not}
 use Rattle.muck_store.specs.Forms.{next_at}
 use Rattle.muck_store.specs.Whole.{stands_in, chain_met, first_at, list_met, held_met, all_met}
 
@@ -46,14 +48,6 @@ unfolding Member
 member_at p [] m = elim m [ ]
 member_at p (x ∷ xs) m = elim m [ inl e ↦ (zero, ap (λ z. Some z) (sym e)) | inr r ↦ let k : (k : ℕ) × (slice_get xs k ≡ Some p) = member_at p xs r in (suc k.0, k.1) ]
 
-get_left : (k : ℕ) (xs ys : List ℕ) → k < length xs → slice_get (xs ++ ys) k ≡ slice_get xs k
-get_left k [] ys lt = absurd (omega arith)
-get_left zero (x ∷ xs) ys lt = refl
-get_left (suc k) (x ∷ xs) ys lt = get_left k xs ys (omega arith)
-
-get_none : (k : ℕ) (xs : List ℕ) → slice_get xs k ≡ None → length xs ≤ k
-get_none k xs h = elim (cases_lt k (length xs)) [ inl lt ↦ let s : (x : ℕ) × (slice_get xs k ≡ Some x) = some_at xs k lt in absurd (none-some s.0 (sym h ∙ s.1)) | inr le ↦ le ]
-
 -- Along a chain.
 
 -- an object has its place in p, and is an exit or not
@@ -62,12 +56,6 @@ pub record StandsAt (os : List Stored) (v : Bool) (p d : ℕ) : Type 0 where
   pub is : slice_get os d ≡ Some stored
   pub place : stored.place ≡ dbref_of p
   pub kind : is_exit stored.kind ≡ v
-
-exit_or_not : (e v : Bool) → cond e v (not v) ≡ true → e ≡ v
-exit_or_not true true h = refl
-exit_or_not true false h = absurd (false≢true h)
-exit_or_not false true h = absurd (false≢true h)
-exit_or_not false false h = refl
 
 stands_by : (os : List Stored) (v : Bool) (p d : ℕ) (o : Option Stored) → slice_get os d ≡ o → option_map_or (λ s. same s.place (dbref_of p) && cond (is_exit s.kind) v (not v)) o false ≡ true → StandsAt os v p d
 stands_by os v p d None e h = absurd (false≢true h)

@@ -1,8 +1,9 @@
 -- Lists of numbers, none twice: joined, read by place, and counted.
-use Rattle.std.proofs.Common.{◌≡◌, ◌⊎◌, ℕ, ◌<◌, ◌≤◌, zero, suc, List, [], ◌∷◌, ◌++◌, Some, inl, inr, refl, sym, ap, subst, length, arith, Bool, true, false, cond, eqb}
+use Rattle.std.proofs.Common.{◌≡◌, ◌⊎◌, ℕ, ◌<◌, ◌≤◌, zero, suc, List, [], ◌∷◌, ◌++◌, Some, inl, inr, refl, sym, ap, subst, length, arith, eqb}
 use Rattle.std.proofs.lemmas.Bool.{cases_eq, ne_eqb, eq-eqb}
 use Rattle.std.proofs.lemmas.Map.Steps.{length-le_from_distinct_below}
 use Rattle.std.specs.List.{slice_get}
+use Rattle.laws.proofs.Lists.{fewer_by}
 use Rattle.spec_live.specs.Chain.{Member, IsApart, without}
 use Rattle.spec_live.proofs.Chains.{apart_distinct, member_any, member_without}
 
@@ -61,16 +62,7 @@ apart_at (y ∷ ys) (suc j) zero x a g h =
     absurd (a.0 (subst P e (member_at ys j x g)))
 apart_at (y ∷ ys) (suc j) (suc k) x a g h = ap suc (apart_at ys j k x a.1 g h)
 
-pub get_front : (xs ys : List ℕ) (k x : ℕ) → slice_get xs k ≡ Some x → slice_get (xs ++ ys) k ≡ Some x
-get_front [] ys k x h = absurd (cc)
-get_front (y ∷ xs) ys zero x h = h
-get_front (y ∷ xs) ys (suc k) x h = get_front xs ys k x h
-
 -- How long lists are.
-
-fewer_by : (b : Bool) (y : ℕ) (xs ys : List ℕ) → length xs ≤ length ys → length (cond b xs (y ∷ xs)) ≤ suc (length ys)
-fewer_by true y xs ys h = omega arith
-fewer_by false y xs ys h = omega arith
 
 without_le : (x : ℕ) (ys : List ℕ) → length (without x ys) ≤ length ys
 unfolding without

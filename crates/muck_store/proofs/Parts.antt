@@ -4,6 +4,7 @@ use Rattle.std.proofs.lemmas.Bool.{and_parts, cases_Bool, eqb-true, false≢true
 use Rattle.std.proofs.lemmas.Option.{none-some}
 use Rattle.std.specs.List.{count_by, slice_get}
 use Rattle.std.specs.Option.{option_map_or, option_and_then}
+use Rattle.laws.proofs.Options.{nowhere_by}
 use Rattle.muck_model.specs.declared.dbref.Kind.{Kind}
 use Rattle.muck_model.specs.declared.dbref.Kind.TheVariants.{Room, Player, Garbage}
 use Rattle.muck_model.proofs.Dbrefs.{eq_same}
@@ -111,10 +112,6 @@ place_is os d p s e h = ap (λ (o : Option Stored). option_and_then (λ (x : Sto
 pub place_nowhere : (os : List Stored) (d : ℕ) (s : Stored) → slice_get os d ≡ Some s → index_of s.place ≡ None → place_at os d ≡ None
 unfolding place_at
 place_nowhere os d s e h = ap (λ (o : Option Stored). option_and_then (λ (x : Stored). index_of x.place) o) e ∙ h
-
-nowhere_by : (o : Option ℕ) → not (option_map_or (λ n. true) o false) ≡ true → o ≡ None
-nowhere_by None h = refl
-nowhere_by (Some n) h = cc
 
 pub top_parts : (os : List Stored) → Whole os → (a : Alive os 0) → (is_room a.stored.kind ≡ true) × (index_of a.stored.place ≡ None) × (a.stored.next ≡ nothing)
 top_parts os w a =

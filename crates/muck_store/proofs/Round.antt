@@ -9,11 +9,12 @@ use Rattle.std.specs.List.Sorted.{IsStrictlySortedBy}
 use Rattle.std.specs.Map.{keys_of}
 use Rattle.std.specs.Option.{option_and_then}
 use Rattle.std.specs.declared.cmp.Ordering.TheVariants.{Less}
+use Rattle.laws.proofs.Orders.{is_less}
+use Rattle.laws.proofs.Tests.{all_get}
 use Rattle.muck_model.specs.declared.dbref.Dbref.{Dbref}
 use Rattle.muck_model.proofs.Dbrefs.{eq_same}
 use Rattle.muck_prop.specs.Order.{path_cmp, path_cmp_total}
 use Rattle.muck_prop.proofs.Maps.{entries_are}
-use Rattle.muck_prop.proofs.Sequence.{is_less}
 use Rattle.muck_codec.specs.inner.Stored.{Run, IsProperty, AreProperties}
 use Rattle.muck_codec.specs.declared.stored.Property.{Property}
 use Rattle.muck_codec.specs.declared.stored.Stored.{Stored}
@@ -201,11 +202,6 @@ from_again os es k (s ∷ rest) h =
     let head : stored_of es k (entry_of os s) ≡ s = h 0 k s (omega arith) refl in
     let tail : stored_from es (suc k) (map (entry_of os) rest) ≡ rest = from_again os es (suc k) rest (λ j n x e q. h (suc j) n x (omega (arith, e)) q) in
     ap (λ x. x ∷ stored_from es (suc k) (map (entry_of os) rest)) head ∙ ap (λ t. s ∷ t) tail
-
-all_get : {X : Type 0} (P : X → Type 0) (xs : List X) (k : ℕ) (x : X) → AllByRecursion P xs → slice_get xs k ≡ Some x → P x
-all_get P [] k x h e = absurd (none-some x e)
-all_get P (y ∷ ys) zero x h e = subst P (same_Some y x e) h.0
-all_get P (y ∷ ys) (suc k) x h e = all_get P ys k x h.1 e
 
 pub persist_loaded : (os : List Stored) → length os ≤ 100000 → is_whole os ≡ true → AllByRecursion (λ s. AreProperties s.props) os → persist (loaded os) ≡ os
 unfolding persist loaded

@@ -1,11 +1,12 @@
 -- The stored form of a consistent world is whole: a dump of it can be read back.
 use Rattle.std.proofs.Common.{◌≡◌, List, ◌∙◌, ap, true}
+use Rattle.laws.proofs.Truths.{all_three}
 use Rattle.spec_live.specs.Objects.{Entry, is_player}
 use Rattle.spec_live.specs.Consistent.{IsConsistent}
 use Rattle.muck_store.specs.Forms.{persist}
 use Rattle.muck_store.specs.Whole.{kind_of, all_tied, is_tree, is_whole}
 use Rattle.muck_store.proofs.StoredForms.{kind_persist}
-use Rattle.muck_store.proofs.StoredTies.{all_three, tied_persist}
+use Rattle.muck_store.proofs.StoredTies.{tied_persist}
 use Rattle.muck_store.proofs.StoredTree.{tree_persist}
 
 pub consistent_whole : (es : List Entry) → IsConsistent es → is_whole (persist es) ≡ true

@@ -1,9 +1,10 @@
 -- What the readers of records give where these are the stored form of objects.
-use Rattle.std.proofs.Common.{◌≡◌, ◌⊎◌, ℕ, ℤ, ◌<◌, ◌+◌, zero, suc, List, [], ◌∷◌, Option, Some, None, inl, inr, refl, sym, ◌∙◌, ap, length, arith, Bool, true, false}
+use Rattle.std.proofs.Common.{◌≡◌, ℕ, ℤ, ◌<◌, ◌+◌, zero, suc, List, [], ◌∷◌, Option, Some, None, inl, inr, refl, sym, ◌∙◌, ap, length, arith, Bool, true, false}
 use Rattle.std.specs.Prelude.{pos, negsuc, not, ◌&&◌, if◌then◌else◌}
 use Rattle.std.proofs.lemmas.Bool.{and_from, false≢true, cases_lt}
 use Rattle.std.specs.List.{slice_get}
 use Rattle.std.specs.Option.{option_map, option_and_then, option_map_or}
+use Rattle.laws.proofs.Truths.{exits_agree}
 use Rattle.muck_model.specs.declared.dbref.Dbref.{Dbref}
 use Rattle.muck_model.specs.declared.dbref.Kind.TheVariants.{Garbage}
 use Rattle.muck_model.proofs.Dbrefs.{same_eq}
@@ -56,10 +57,6 @@ place_there es k e h = rw (object_at_entry es k e h) refl
 pub list_there : (es : List Entry) (v : Bool) (k : ℕ) (e : Entry) → slice_get es k ≡ Some e → list_in v es k ≡ list_of v e
 unfolding list_in
 list_there es v k e h = rw h refl
-
-pub place_cases : (o : Option ℕ) → (o ≡ None) ⊎ ((p : ℕ) × (o ≡ Some p))
-place_cases None = inl refl
-place_cases (Some p) = inr (p, refl)
 
 pub alive_below : (es : List Entry) (d : ℕ) → is_garbage (kind_in es d) ≡ false → d < length es
 alive_below es d h = elim (cases_lt d (length es)) [
@@ -142,12 +139,6 @@ whole_number (negsuc m) n h = absurd (cc)
 
 pub number_is : (d : Dbref) (n : ℕ) → index_of d ≡ Some n → d ≡ dbref_of n
 number_is d n h = let make : ℤ → Dbref = λ z. record { 0 = z } in ap make (whole_number d.0 n h)
-
-exits_agree : (b v : Bool) → b ≡ v → (if b then v else not v) ≡ true
-exits_agree true true h = refl
-exits_agree true false h = absurd (false≢true (sym h))
-exits_agree false true h = absurd (false≢true h)
-exits_agree false false h = refl
 
 stands_by : (es : List Entry) (v : Bool) (p d : ℕ) (o : Option Entry) → option_and_then (λ (x : Object). index_of x.place) (option_map (λ (e : Entry). e.object) o) ≡ Some p
     → is_exit (option_map_or (λ (x : Object). x.kind) (option_map (λ (e : Entry). e.object) o) Garbage) ≡ v

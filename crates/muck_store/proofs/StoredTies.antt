@@ -1,9 +1,11 @@
 -- The records of a consistent world agree with the kinds of what they name.
-use Rattle.std.proofs.Common.{◌≡◌, ◌⊎◌, ℕ, ◌<◌, ◌+◌, zero, suc, List, [], ◌∷◌, Option, Some, None, inl, inr, refl, sym, ◌∙◌, ap, subst, length, arith, Bool, true, false, map}
-use Rattle.std.specs.Prelude.{not, ◌&&◌, ◌||◌, nat_lt, if◌then◌else◌}
+use Rattle.std.proofs.Common.{◌≡◌, ℕ, ◌<◌, ◌+◌, zero, suc, List, [], ◌∷◌, Option, Some, None, inl, inr, refl, sym, ◌∙◌, ap, subst, length, arith, Bool, true, false, map}
+use Rattle.std.specs.Prelude.{not, ◌&&◌, nat_lt}
 use Rattle.std.proofs.lemmas.Bool.{cases_eq, ne_eqb, eq-eqb, lt-ltb, or_right, false≢true}
 use Rattle.std.specs.List.{slice_get}
 use Rattle.std.specs.List.Sorted.{IsStrictlySortedBy}
+use Rattle.laws.proofs.Options.{or_none}
+use Rattle.laws.proofs.Truths.{all_five, all_three, either_way, one_of_three}
 use Rattle.muck_model.specs.declared.dbref.Dbref.{Dbref}
 use Rattle.muck_model.specs.declared.dbref.Kind.{Kind}
 use Rattle.muck_model.specs.declared.dbref.Kind.TheVariants.{Thing, Player}
@@ -21,25 +23,10 @@ use Rattle.muck_codec.specs.declared.stored.Property.{Property}
 use Rattle.muck_store.specs.Forms.{property_of, properties_of, link_of, first_of, next_in, stored_of, stored_from, persist}
 use Rattle.muck_store.specs.Whole.{kind_of, seats_in, leads_to, may_name, has_chains, has_owner, has_place, has_link, home_for, is_blank, is_tied, all_tied}
 use Rattle.muck_store.proofs.MetLists.{none_member}
-use Rattle.muck_store.proofs.StoredForms.{length_persist, object_at_entry, kind_there, place_there, list_there, place_cases, kind_persist, seats_persist, no_next, next_listed, number_is}
+use Rattle.muck_store.proofs.StoredForms.{length_persist, object_at_entry, kind_there, place_there, list_there, kind_persist, seats_persist, no_next, next_listed, number_is}
 use Rattle.muck_store.proofs.StoredTree.{holder_alive}
 
 -- Tests that hold together.
-
-pub all_three : (a b c : Bool) → a ≡ true → b ≡ true → c ≡ true → (a && b && c) ≡ true
-all_three a b c p q r = rw (p, q, r) refl
-
-all_five : (a b c d e : Bool) → a ≡ true → b ≡ true → c ≡ true → d ≡ true → e ≡ true → (a && b && c && d && e) ≡ true
-all_five a b c d e p q r s t = rw (p, q, r, s, t) refl
-
-one_of_three : (a b c : Bool) → (a ≡ true) ⊎ ((b ≡ true) ⊎ (c ≡ true)) → (a || b || c) ≡ true
-one_of_three true b c h = refl
-one_of_three false true c h = refl
-one_of_three false false c h = elim h [ inl p ↦ absurd (false≢true p) | inr q ↦ elim q [ inl p ↦ absurd (false≢true p) | inr p ↦ p ] ]
-
-either_way : (b x y : Bool) → (b ≡ true → x ≡ true) → (b ≡ false → y ≡ true) → (if b then x else y) ≡ true
-either_way true x y p q = p refl
-either_way false x y p q = q refl
 
 -- What leads to the number of an object.
 
@@ -92,7 +79,7 @@ unfolding stored_of fits_in
 place_persist es c zero e at alive =
     all_three (is_room e.object.kind) (not (leads_to (λ n. true) e.object.place)) (same (link_of (next_in es 0)) nothing) (ap (λ z. is_room z) (sym (kind_there es 0 e at) ∙ c.ordered.room))
     (leads_nowhere e.object.place (sym (place_there es 0 e at) ∙ c.ordered.top)) (ap (λ (z : Option ℕ). same (link_of z) nothing) (no_next es 0 c.ordered.top))
-place_persist es c (suc k) e at alive = elim (place_cases (place_in es (suc k))) [
+place_persist es c (suc k) e at alive = elim (or_none (place_in es (suc k))) [
   | inl none ↦ absurd (elim (c.placed (suc k) none) [
     | inl z ↦ omega (arith, z)
     | inr g ↦ false≢true (sym alive ∙ ap (λ z. is_garbage z) (sym (kind_there es (suc k) e at) ∙ g))
@@ -120,7 +107,7 @@ follower_member d (x ∷ y ∷ ys) n h = elim (cases_eq x d) [
 ]
 
 next_known : (es : List Entry) → IsOrdered es → (k n : ℕ) → next_in es k ≡ Some n → n < length es
-next_known es c k n h = elim (place_cases (place_in es k)) [
+next_known es c k n h = elim (or_none (place_in es k)) [
   | inl none ↦ let gone = no_next es k none in absurd (cc (h, gone))
   | inr s ↦
       let v : Bool = is_exit (kind_in es k) in

@@ -6,6 +6,8 @@ use Rattle.std.proofs.lemmas.Option.{same_Some, none-some}
 use Rattle.std.proofs.lemmas.Slice.Eq.{bytes_eq-Decides}
 use Rattle.std.specs.List.{slice_get}
 use Rattle.std.specs.Option.{option_map_or}
+use Rattle.laws.proofs.Lists.{no_items}
+use Rattle.laws.proofs.Truths.{parts5, parts6}
 use Rattle.muck_model.specs.declared.dbref.Dbref.{Dbref}
 use Rattle.muck_model.specs.declared.dbref.Kind.{Kind}
 use Rattle.muck_model.specs.declared.dbref.Kind.TheVariants.{Thing, Player, Garbage}
@@ -62,14 +64,6 @@ pub record AliveTied (os : List Stored) (k : ℕ) (s : Stored) : Type 0 where
   pub link : has_link os s ≡ true
   pub home : home_for s.kind os s ≡ true
   pub chains : has_chains os s ≡ true
-
-parts5 : (a b c d e : Bool) → (a && b && c && d && e) ≡ true → (a ≡ true) × (b ≡ true) × (c ≡ true) × (d ≡ true) × (e ≡ true)
-parts5 a b c d e h =
-    let p = and_parts (a && b && c && d) e h in
-    let q = and_parts (a && b && c) d p.0 in
-    let r = and_parts (a && b) c q.0 in
-    let t = and_parts a b r.0 in
-    (t.0, t.1, r.1, q.1, p.1)
 
 pub alive_tied : (os : List Stored) (k : ℕ) (s : Stored) → TiedAt os k s → is_garbage s.kind ≡ false → AliveTied os k s
 alive_tied os k s t alive =
@@ -140,12 +134,6 @@ parts8 a b c d e f g h all =
     let r = and_parts (a && b && c && d && e) f q.0 in
     record { first = parts5 a b c d e r.0; sixth = r.1; seventh = q.1; eighth = p.1 }
 
-parts6 : (a b c d e f : Bool) → (a && b && c && d && e && f) ≡ true → (a ≡ true) × (b ≡ true) × (c ≡ true) × (d ≡ true) × (e ≡ true) × (f ≡ true)
-parts6 a b c d e f h =
-    let p = and_parts (a && b && c && d && e) f h in
-    let q = parts5 a b c d e p.0 in
-    (q.0, q.1, q.2, q.3, q.4, p.1)
-
 pub blank_parts : (s : Stored) → is_blank s ≡ true → Blank s
 blank_parts s h =
     let all = parts6 (bytes_eq s.name (codes "<garbage>") && same s.owner (dbref_of 1) && same s.place nothing && same s.link nothing && same s.home nothing && same s.first_content nothing && same s.first_exit nothing && same s.next nothing)
@@ -170,10 +158,6 @@ blank_parts s h =
 pub blank_tied : (os : List Stored) (k : ℕ) (s : Stored) → TiedAt os k s → is_garbage s.kind ≡ true → Blank s
 blank_tied os k s t g =
     blank_parts s (sym (cond-true (is_garbage s.kind) (is_blank s) (has_owner os s && has_place os k s && has_link os s && home_for s.kind os s && has_chains os s) g) ∙ t.tied)
-
-no_items : {X : Type 0} (xs : List X) → length xs ≡ 0 → xs ≡ []
-no_items [] h = refl
-no_items (x ∷ xs) h = absurd (omega arith)
 
 pub blank_object : (s : Stored) → Blank s → is_garbage s.kind ≡ true → object_of s ≡ garbage
 unfolding garbage

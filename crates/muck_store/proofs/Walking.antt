@@ -3,6 +3,7 @@ use Rattle.std.proofs.Common.{◌≡◌, ℕ, ◌+◌, ◌-◌, ◌<◌, ◌≤�
 use Rattle.std.proofs.lemmas.Option.{slice_get-get_or, slice_get_past}
 use Rattle.std.specs.List.{slice_get, count_by}
 use Rattle.std.specs.Option.{option_and_then, option_map_or}
+use Rattle.laws.proofs.Truths.{and_not}
 use Rattle.spec_live.specs.Chain.{has}
 use Rattle.spec_live.specs.Objects.{is_garbage}
 use Rattle.muck_codec.specs.declared.stored.Stored.{Stored}
@@ -11,17 +12,12 @@ use Rattle.muck_store.specs.Whole.{stands_in, chain_met, held_met, all_met, is_t
 
 -- One list.
 
-both : (a b : Bool) → a ≡ true → b ≡ false → (a && not b) ≡ true
-both true false p q = refl
-both true true p q = absurd (cc)
-both false b p q = absurd (cc)
-
 pub chain_more : (n : ℕ) (os : List Stored) (exits : Bool) (p d : ℕ) (at : Option ℕ) (met : List ℕ)
     → at ≡ Some d → stands_in os exits p d ≡ true → has d met ≡ false → chain_met (suc n) os exits p at met ≡ chain_met n os exits p (next_at os d) (met ++ d ∷ [])
 unfolding chain_met
 chain_more n os exits p d at met e stands fresh =
     ap (λ (o : Option ℕ). chain_met (suc n) os exits p o met) e
-    ∙ ap (λ (b : Bool). cond b (chain_met n os exits p (next_at os d) (met ++ d ∷ [])) None) (both (stands_in os exits p d) (has d met) stands fresh)
+    ∙ ap (λ (b : Bool). cond b (chain_met n os exits p (next_at os d) (met ++ d ∷ [])) None) (and_not (stands_in os exits p d) (has d met) stands fresh)
 
 pub chain_stops : (n : ℕ) (os : List Stored) (exits : Bool) (p d : ℕ) (at : Option ℕ) (met : List ℕ)
     → at ≡ Some d → (stands_in os exits p d && not (has d met)) ≡ false → chain_met (suc n) os exits p at met ≡ None

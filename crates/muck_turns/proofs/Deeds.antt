@@ -5,6 +5,7 @@ use Rattle.std.specs.List.{position, position_from}
 use Rattle.std.specs.Option.{SomeIff}
 use Rattle.std.proofs.lemmas.List.{length-map}
 use Rattle.std.proofs.lemmas.Iterator.Adapters.{position_from-zero}
+use Rattle.laws.proofs.Mapped.{map_drop}
 use Rattle.muck_model.specs.declared.dbref.Dbref.{Dbref}
 use Rattle.muf_model.specs.declared.prims.Primitive.{Primitive as Name}
 use Rattle.muf_model.specs.Prims.{family_of}
@@ -33,7 +34,6 @@ use Rattle.muf_model.specs.declared.fault.MufFault.TheVariants.{NotCompiled}
 use Rattle.muf_frame.specs.declared.fault.PrimFault.{PrimFault}
 use Rattle.muf_frame.specs.declared.fault.PrimFault.TheVariants.{Fault as FrameFault}
 use Rattle.muf_frame.specs.inner.Shown.{Shown, flat, locked_by}
-use Rattle.muf_frame.proofs.Data.{map_drop}
 use Rattle.muf_running.specs.declared.entered.Entered.{Entered}
 use Rattle.muf_running.specs.inner.Fitting.{IsAtPrimitive}
 use Rattle.muf_running.specs.inner.Lending.{Shows, Apart, Differs, Rejoins, with_frame}

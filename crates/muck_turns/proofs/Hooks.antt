@@ -4,6 +4,7 @@ use Rattle.std.proofs.lemmas.List.{drop_more, drop_all}
 use Rattle.std.proofs.lemmas.Bool.{cond-true, cond-false}
 use Rattle.std.specs.List.{flat_map}
 use Rattle.std.specs.Option.{option_and_then}
+use Rattle.laws.proofs.Results.{on_ok_as}
 use Rattle.muck_model.specs.declared.dbref.Dbref.{Dbref}
 use Rattle.muck_model.specs.declared.event.Event.TheVariants.{Exec, Slice, Closed}
 use Rattle.muck_model.specs.declared.memory.NoMemory.{NoMemory}
@@ -35,7 +36,6 @@ use Rattle.muck_turns.specs.declared.state.deeds.DeedFault.{DeedFault}
 use Rattle.muck_turns.specs.declared.state.deeds.DeedFault.TheVariants.{Fault, NoMemory as Wanted}
 use Rattle.muck_turns.specs.inner.Deeds.{Begins}
 use Rattle.muck_turns.specs.inner.Hooks.{AreTold, GoesOn, MoreIs, hooked_told}
-use Rattle.muck_turns.proofs.Turns.{on_ok_as}
 
 -- Starts.
 

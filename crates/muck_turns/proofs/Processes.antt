@@ -65,10 +65,6 @@ pub if_done : {E : Type 0} (r : Result Done E) (P Q : Done → Type 0) → ((d :
 if_done (Ok d) P Q k h = k d h
 if_done (Err e) P Q k h = h
 
--- what holds of a value holds of the same one
-pub moved : {A : Type 0} (P : A → Type 0) (x y : A) → P x → x ≡ y → P y
-moved P x y h e = subst P e h
-
 -- FORK is done where a child joined, or there was no room for it
 pub child_joins : (pid : ℤ) (running t : Source) (w v : World) (n : ℤ) (o : Option Process) → process pid w.queue ≡ o → Bears o running w v n → t ≡ handed (int n) running →
     (s : Source) (stack : List Datum) → running ≡ behind stack s → length stack < 1024 → forked pid stack s w ≡ does t v

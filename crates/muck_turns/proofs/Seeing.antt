@@ -1,9 +1,10 @@
 -- The units of a slice, one by one, and what is seen of them.
-use Rattle.std.proofs.Common.{◌≡◌, ℕ, zero, suc, ◌-◌, ◌<◌, ◌≤◌, min, Bool, true, false, not, ◌&&◌, cond, nat_le, List, [], ◌∷◌, map, Option, Some, None, refl, sym, ap, ◌∙◌, subst, arith, inl, inr}
+use Rattle.std.proofs.Common.{◌≡◌, ℕ, zero, suc, ◌-◌, ◌<◌, ◌≤◌, min, Bool, true, false, ◌&&◌, cond, nat_le, List, [], ◌∷◌, map, Option, Some, None, refl, sym, ap, ◌∙◌, subst, arith, inl, inr}
 use Rattle.std.specs.Prelude.{ℤ}
 use Rattle.std.specs.Option.{option_map_or}
 use Rattle.std.proofs.lemmas.Bool.{cond-true, cond-false, lt-leb}
 use Rattle.std.proofs.Math.Nat.{min-le_left, min-le_right}
+use Rattle.laws.proofs.Numbers.{through_not}
 use Rattle.muck_model.specs.declared.tune.Tune.{Tune}
 use Rattle.muf_model.specs.declared.fault.MufFault.{MufFault}
 use Rattle.muf_model.specs.declared.fault.MufFault.TheVariants.{PreemptTooLong, TooManyUnits}
@@ -25,10 +26,6 @@ use Rattle.muck_turns.specs.inner.Limits.{LeadsTo, Allows, ran, ran_units, Runs}
 use Rattle.muck_turns.specs.inner.Seeing.{views, SeesNext}
 
 -- Where one may be taken, the slice isn't through, and it isn't one too many.
-
-through_not : (b : Bool) (all most section left : ℕ) → 1 ≤ cond b (most - section) (left - suc all) → (not b && nat_le left (suc all)) ≡ false
-through_not true all most section left h = refl
-through_not false all most section left h = lt-leb left (suc all) (omega (arith, h))
 
 limit_not : (b : Bool) (all most section : ℕ) (spent : Option ℕ) (before left : ℕ) → 1 ≤ cond b (most - section) (left - suc all) → 1 ≤ option_map_or (λ n. n - before) spent left →
     cond (b && nat_le most section) (Some PreemptTooLong) (cond (are_spent spent before) (Some TooManyUnits) None) ≡ None

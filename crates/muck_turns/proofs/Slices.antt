@@ -1,5 +1,5 @@
 -- The units of a slice, many at once.
-use Rattle.std.proofs.Common.{◌≡◌, ℕ, zero, suc, ◌-◌, ◌<◌, ◌≤◌, min, List, Bool, true, false, Option, Some, None, refl, sym, ap, ◌∙◌, subst, arith, inl, inr, Result, Ok, Err, IfOk}
+use Rattle.std.proofs.Common.{◌≡◌, ℕ, zero, suc, ◌-◌, ◌<◌, ◌≤◌, min, List, Bool, true, false, Option, Some, None, refl, sym, ap, ◌∙◌, subst, arith, inl, inr}
 use Rattle.std.specs.Prelude.{ℤ}
 use Rattle.std.specs.Option.{option_map, option_and_then}
 use Rattle.std.proofs.Math.Nat.{min-le_left}
@@ -269,8 +269,3 @@ module _ (pid : ℤ) (player : Dbref) where
   failed_so d s t f u v b h is =
       subst (λ y. LeadsTo b v (after_deed pid player s y)) (sym h.1)
       (subst (λ y. LeadsTo b v (went pid player y.program.number (fault f y) u)) h.0 is)
-
--- what holds of an answer, so does what follows from it
-pub if_ok_as : {X E : Type 0} (r : Result X E) (A B : X → Type 0) → ((x : X) → A x → B x) → IfOk r A → IfOk r B
-if_ok_as (Ok x) A B f h = f x h
-if_ok_as (Err e) A B f h = h

@@ -1,5 +1,5 @@
 -- The first line that waits on a connection.
-use Rattle.std.proofs.Common.{◌≡◌, ℕ, true, false, cond, List, [], ◌∷◌, Option, Some, None, Result, Ok, Err, OnOk, refl, sym, ◌∙◌, ap, find}
+use Rattle.std.proofs.Common.{◌≡◌, ℕ, true, false, cond, List, [], ◌∷◌, Option, Some, None, refl, sym, ◌∙◌, ap, find}
 use Rattle.std.proofs.lemmas.Bool.{cond-true, cond-false}
 use Rattle.std.specs.Option.{option_and_then}
 use Rattle.muck_model.specs.declared.dbref.Dbref.{Dbref}
@@ -110,13 +110,3 @@ pub none_taken : (d : ℕ) (w : World) (b : Board) → BoardTakesLine d w.live.b
 none_taken d w b h =
     let e : b ≡ w.live.board = h.1 ∙ ap (λ (cs : List Connection). with_connections cs w.live.board) h.0.1 in
     ap (λ (x : Board). record w { live = record w.live { board = x } }) e ∙ sym (none_by d w (connection d w) h.0.0)
-
--- what holds anyway
-pub on_ok : {X E : Type 0} (r : Result X E) (P : Type 0) → P → OnOk r P
-on_ok (Ok x) P h = h
-on_ok (Err e) P h = tt
-
--- what holds where a call succeeds, so does what follows from it
-pub on_ok_as : {X E : Type 0} (r : Result X E) (A B : Type 0) → (A → B) → OnOk r A → OnOk r B
-on_ok_as (Ok x) A B f h = f h
-on_ok_as (Err e) A B f h = h

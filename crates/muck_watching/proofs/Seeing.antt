@@ -3,6 +3,8 @@ use Rattle.std.proofs.Common.{◌≡◌, inl, inr, ℕ, zero, suc, ◌+◌, Bool
 use Rattle.std.specs.Prelude.{OnOk, is_some, is_none, nat_lt}
 use Rattle.std.specs.List.{flat_map}
 use Rattle.std.proofs.lemmas.List.Folds.{list_all-append}
+use Rattle.laws.proofs.Lists.{no_ending}
+use Rattle.laws.proofs.Truths.{opposed}
 use Rattle.muck_io.specs.Sink.{Appends}
 use Rattle.muck_io.proofs.Appended.{appends_twice}
 use Rattle.muck_model.specs.Bytes.{text_fault}
@@ -33,7 +35,7 @@ use Rattle.muck_run.specs.declared.playing.RunFault.TheVariants.{NoMemory, Write
 use Rattle.muck_run.specs.inner.Opens.{Opens}
 use Rattle.muck_run.specs.inner.Plays.{Plays, Breaks, PlaysOrBreaks, ending_of}
 use Rattle.muck_watching.specs.inner.Seen.{IsReady, HandsOut, CutsOff, Shows, PlaysSeen, BreaksSeen, PlaysOrBreaksSeen, plain_of, nothing, act_part, commanded}
-use Rattle.muck_run.proofs.Parts.{appends_nothing, appends_as, goes_second, pending_behind, no_ending}
+use Rattle.muck_run.proofs.Parts.{appends_nothing, appends_as, goes_second, pending_behind}
 use Rattle.muck_run.proofs.Opening.{opens_plays}
 use Rattle.muck_run.proofs.Turns.{turned_silent}
 use Rattle.muck_run.proofs.Lining.{first_turns, then_asked}
@@ -220,9 +222,6 @@ unfolding new_tracer
 ready_new t e = record { empty = ap (λ (x : Tracer). x.kept) e; whole = ap (λ (x : Tracer). x.refused) e }
 
 -- The turns, and what is shown of them.
-
-opposed : (b : Bool) → b ≡ true → b ≡ false → ⊥
-opposed b e f = cc
 
 -- the tracer kept what is shown of them
 kept_of : (vs : List View) (t u : Tracer) → SeesAll TellsSo vs t u → u.refused ≡ false → u ≡ told_all vs t

@@ -2,8 +2,8 @@
 use Rattle.std.proofs.Common.{◌≡◌, ◌∙◌, ap, sym, refl, ℕ, zero, suc, ◌+◌, ◌-◌, ◌*◌, ◌<◌, ◌≤◌, Bool, true, false, cond, List, [], ◌∷◌, ◌++◌, length, map, take, drop, reverse, Some, None, arith}
 use Rattle.std.specs.Prelude.{Option, ℤ, pos, negsuc, nat_lt, slice_get}
 use Rattle.std.specs.Option.{option_or, option_and_then}
-use Rattle.std.proofs.lemmas.Bool.Decides.{nat_tests}
 use Rattle.std.proofs.lemmas.List.{length-map, append_assoc}
+use Rattle.laws.proofs.Numbers.{enough}
 use Rattle.muf_model.specs.declared.fault.MufFault.{MufFault}
 use Rattle.muf_model.specs.declared.fault.MufFault.TheVariants.{BadType, BadArgument}
 use Rattle.muf_model.specs.declared.needs.Need.{Need}
@@ -113,9 +113,6 @@ pairs_kinds (suc n) (x ∷ items ds ∷ rest) f h = refl
 pairs_kinds (suc n) (x ∷ dict ps ∷ rest) f h = refl
 pairs_kinds (suc n) (x ∷ mark ∷ rest) f h = refl
 
-enough : (c l m : ℕ) → nat_lt (suc c) (l + suc m) ≡ false → m ≤ c
-enough c l m h = grind (arith, nat_tests, h)
-
 second_none : (o p : Option MufFault) → p ≡ None → option_or o p ≡ o
 second_none (Some f) p e = refl
 second_none None p e = e
@@ -183,10 +180,6 @@ pub pairs_none : (ps : List (MapKey × Datum)) (n : ℕ) (stack : List Datum) �
 pairs_none ps n [] g = refl
 pairs_none ps n (y ∷ []) g = refl
 pairs_none ps n (y ∷ j ∷ stack) g = ap (λ k. pairs_before ps (pair_before k y (pairs_in n stack))) g
-
-pub none_of : {A : Type 0} → (o : Option A) → ((x : A) → o ≡ Some x → ⊥) → o ≡ None
-none_of (Some x) h = absurd (h x refl)
-none_of None h = refl
 
 pub ruleset copy_steps = (length-map)
 

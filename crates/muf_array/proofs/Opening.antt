@@ -1,6 +1,6 @@
 -- A primitive that passes its tests gives one item for those that it takes.
 use Rattle.std.proofs.Common.{◌≡◌, ◌∙◌, ap, sym, ℕ, ◌+◌, ◌≤◌, Bool, true, false, List, [], ◌∷◌, ◌++◌, length, take, drop, refl, arith}
-use Rattle.std.specs.Prelude.{Option, Some, None, Result, Ok, Err, IfOk, IsTrue, slice_get, pos, negsuc, nat_lt, if◌then◌else◌}
+use Rattle.std.specs.Prelude.{Option, Some, None, slice_get, pos, negsuc, nat_lt, if◌then◌else◌}
 use Rattle.muf_model.specs.declared.fault.MufFault.{MufFault}
 use Rattle.muf_model.specs.declared.fault.MufFault.TheVariants.{BadArgument, BadType, TooHeavy}
 use Rattle.muf_model.specs.declared.value.MapKey.{MapKey}
@@ -136,8 +136,3 @@ delete_opens f h =
 -- it isn't refused
 pub never_refused : (c : Changer) (f : Flat) (words : ℕ) (e : MufFault) → IsOpen c f → primitive (prim_of c) (scope_of words f) f.stack ≡ refuses e → ⊥
 never_refused c f words e h r = let no : gives (h.made ∷ drop (taken_by c) f.stack) ≡ refuses e = sym (h.done (scope_of words f) refl) ∙ r in cc
-
--- what an answer is taken for
-pub open_where : {E : Type 0} {P Q : Type 0} → (r : Result Bool E) → (P → Q) → IfOk r (λ yes. IsTrue yes → P) → IfOk r (λ yes. IsTrue yes → Q)
-open_where (Ok b) f h = λ y. f (h y)
-open_where (Err e) f h = h

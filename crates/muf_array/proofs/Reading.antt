@@ -1,12 +1,13 @@
 -- The entries of lists and dictionaries, by their places.
-use Rattle.std.proofs.Common.{◌≡◌, ◌∙◌, ap, sym, refl, ℕ, zero, suc, ◌+◌, ◌-◌, ◌<◌, ◌≤◌, List, [], ◌∷◌, ◌++◌, length, map, drop, reverse, Some, None, arith, inl, inr}
-use Rattle.std.specs.Prelude.{Option, Result, Ok, Err, IfOk, slice_get, option_map, ℤ, pos, negsuc, nat_lt, int_lt, int_le, if◌then◌else◌, Bool, true, false}
+use Rattle.std.proofs.Common.{◌≡◌, ◌∙◌, ap, sym, refl, ℕ, zero, suc, ◌+◌, ◌-◌, ◌<◌, ◌≤◌, List, [], ◌∷◌, ◌++◌, length, map, drop, Some, None, arith, inl, inr}
+use Rattle.std.specs.Prelude.{Option, slice_get, option_map, ℤ, pos, negsuc, nat_lt, int_lt, int_le, if◌then◌else◌, Bool, true, false}
 use Rattle.std.proofs.lemmas.Bool.{cases_lt}
 use Rattle.std.proofs.lemmas.Bool.Decides.{nat_tests, Decides-int_eq}
 use Rattle.std.specs.Ordering.{int_eq}
-use Rattle.std.proofs.lemmas.List.{length-map, reverse-append}
+use Rattle.std.proofs.lemmas.List.{length-map}
 use Rattle.std.proofs.lemmas.Option.{slice_get-map, slice_get_past}
 use Rattle.std.specs.Option.{option_and_then}
+use Rattle.laws.proofs.Parts.{drop_whole}
 use Rattle.muf_model.specs.declared.value.MapKey.{MapKey}
 use Rattle.muf_model.specs.declared.value.MapKey.TheVariants.{Number, Name}
 use Rattle.muf_model.specs.declared.value.Pair.{Pair}
@@ -48,10 +49,6 @@ list_again (d ∷ ds) = ap (λ r. d ∷ r) (list_again ds)
 
 pub ruleset entry_steps = (placed_length, placed_values, list_key, entries_again, dict_values, dict_keys, length-map, slice_get-map)
 
-pub mapped : {X E : Type 0} → (P Q : X → Type 0) (r : Result X E) → ((x : X) → P x → Q x) → IfOk r P → IfOk r Q
-mapped P Q (Ok x) f h = f x h
-mapped P Q (Err e) f h = h
-
 pub is_there : (es : List (MapKey × Datum)) (at : ℕ) → at < length es → slice_get (map (λ e. e.1) es) at ≡ None → ⊥
 is_there [] at h g = omega (arith, h)
 is_there (e ∷ es) zero h g = let no : Some e.1 ≡ None = g in cc
@@ -78,12 +75,6 @@ dict_key_at ps es at p d e g h =
 none_above : (t : List ℕ) (n : ℕ) (ds : List Datum) → above (Name t) (placed n (data_of ds)) ≡ []
 none_above t n [] = refl
 none_above t n (d ∷ ds) = none_above t (suc n) ds
-
-pub drop_whole : {A : Type 0} → (xs : List A) (n : ℕ) → length xs ≤ n → drop n xs ≡ []
-drop_whole [] zero h = refl
-drop_whole [] (suc n) h = refl
-drop_whole (x ∷ xs) zero h = absurd (omega (arith, h))
-drop_whole (x ∷ xs) (suc n) h = drop_whole xs n (omega (arith, h))
 
 pub above_name : (t : List ℕ) (ds : List Datum) → drop (length ds) (listed ds) ≡ above (Name t) (listed ds)
 above_name t ds = drop_whole (listed ds) (length ds) (omega (arith, placed_length 0 ds)) ∙ sym (none_above t 0 ds)
@@ -144,12 +135,6 @@ first_at (e ∷ es) zero k g = let q : key_datum e.0 ≡ k = cc in ap (λ d. mak
 first_at (e ∷ es) (suc at) k g = first_at es at k g
 
 -- ---- parts of entries, from the last to the first
-
--- one item more before those from a place on
-pub part_more : {A : Type 0} → (xs : List A) (at : ℕ) (x : A) → slice_get xs at ≡ Some x → reverse (drop at xs) ≡ reverse (drop (at + 1) xs) ++ x ∷ []
-part_more [] at x e = absurd (let no : None ≡ Some x = e in cc)
-part_more (y ∷ xs) zero x e = let q : y ≡ x = cc in rw q (reverse-append (x ∷ []) xs)
-part_more (y ∷ xs) (suc at) x e = let z : suc at + 1 ≡ suc (at + 1) = omega arith in rw z (part_more xs at x e)
 
 -- and one entry
 pub spread_more : (es : List (MapKey × Datum)) (at : ℕ) (v k : Datum) → slice_get (map (λ e. e.1) es) at ≡ Some v → slice_get (map (λ e. key_datum e.0) es) at ≡ Some k → spread (drop at es) ≡ spread (drop (at + 1) es) ++ v ∷ k ∷ []

@@ -3,6 +3,7 @@ use Rattle.std.proofs.Common.{◌≡◌, ℕ, zero, suc, ◌+◌, ◌≤◌, Lis
 use Rattle.std.specs.Prelude.{Option, Some, None, Result, Ok, Err, nat_lt, nat_le, option_map, slice_get, codes}
 use Rattle.std.specs.Str.{bytes_eq}
 use Rattle.std.proofs.lemmas.Slice.Eq.{bytes_eq-Decides}
+use Rattle.laws.proofs.Lists.{one_longer_spelling}
 use Rattle.indexmap.specs.IndexMap.{insert_entry}
 use Rattle.std.proofs.lemmas.List.{append-nil, map-append, length-map}
 use Rattle.muf_model.specs.declared.code.VarId.{VarId}
@@ -153,9 +154,6 @@ names_offered (suc n) o (d ∷ ds) = ap (λ l. d.name ∷ l) (names_offered n o 
 as_many_names : (ds : List Definition) → length (names_of ds) ≡ length ds
 as_many_names ds = length-map ds (λ d. d.name)
 
-one_longer : (names : List (List ℕ)) (name : List ℕ) (n : ℕ) → n ≡ length names → n + 1 ≡ length (names ++ name ∷ [])
-one_longer names name n e = ap (λ i. i + 1) e ∙ sym (length-append names (name ∷ []))
-
 -- ---- a name behind a declaration
 
 module _ (k : Known) (g : Growth) (line : ℕ) (name : List ℕ) (ts all : List Token) (h : Between ts k.names k.variables k.locals g) where
@@ -175,7 +173,7 @@ module _ (k : Known) (g : Growth) (line : ℕ) (name : List ℕ) (ts all : List 
               vs = h.vs ++ name ∷ [];
               declares = declared (is_free e);
               entered = rw (entered_last k (names_of g.words) h.vs [] h.entered none_owned name e (meaning.Variable (record { 0 = 4 + k.variables })), h.counts) (variable_more name h.entered);
-              counts = one_longer h.vs name k.variables h.counts;
+              counts = one_longer_spelling h.vs name k.variables h.counts;
               empty = h.empty;
               now = h.now;
               around = h.around;

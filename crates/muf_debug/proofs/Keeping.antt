@@ -1,11 +1,9 @@
 -- What a tracer keeps.
-use Rattle.std.proofs.Common.{◌≡◌, ◌⊎◌, inl, inr, Bool, true, false, List, [], ◌∷◌, ◌∙◌, ap}
+use Rattle.std.proofs.Common.{◌≡◌, ◌⊎◌, inl, inr, true, List, [], ◌∷◌, ◌∙◌, ap}
+use Rattle.laws.proofs.Truths.{opposed}
 use Rattle.muf_debug.specs.declared.view.View.{View}
 use Rattle.muf_debug.specs.Watching.{SeesAll}
 use Rattle.muf_debug.specs.Shown.{Tracer, told, told_all, TellsSo, KeepsShown}
-
-opposed : (b : Bool) → b ≡ true → b ≡ false → ⊥
-opposed b e f = cc
 
 still_refused : (t m : Tracer) (v : View) → t.refused ≡ true → TellsSo t v m → m.refused ≡ true
 still_refused t m v so (inl e) = e

@@ -1,15 +1,15 @@
 -- Values that come between others or go, and the places of keys.
 use Rattle.std.proofs.Common.{◌≡◌, ℕ, zero, suc, ◌+◌, ◌<◌, ◌≤◌, max, Bool, true, false, List, [], ◌∷◌, ◌++◌, length, map, drop, set, get_or, Some, None, refl, sym, ◌∙◌, ap, subst, arith, rules}
-use Rattle.std.specs.Prelude.{if◌then◌else◌, slice_get, int_lt, nat_lt, ◌&&◌}
+use Rattle.std.specs.Prelude.{if◌then◌else◌, slice_get, int_lt}
 use Rattle.std.specs.List.{insert, remove}
-use Rattle.std.specs.Ordering.{nat_cmp, is_lt, ordering_reverse}
-use Rattle.std.specs.declared.cmp.Ordering.{Ordering}
-use Rattle.std.specs.declared.cmp.Ordering.TheVariants.{Less, Equal, Greater}
-use Rattle.std.proofs.lemmas.Bool.{lt-ltb}
+use Rattle.std.specs.Ordering.{nat_cmp, is_lt}
 use Rattle.std.proofs.lemmas.Int.{ints}
 use Rattle.std.proofs.lemmas.List.{length-map}
 use Rattle.std.specs.Cmp.Lexicographic.{slice_cmp}
 use Rattle.std.proofs.lemmas.Cmp.{nat_list_cmp_total}
+use Rattle.laws.proofs.Numbers.{fitting, place_at_most, small}
+use Rattle.laws.proofs.Orders.{is_less, not_less_turned}
+use Rattle.laws.proofs.Places.{map_remove}
 use Rattle.muf_model.specs.declared.size.Size.{Size}
 use Rattle.muf_model.specs.declared.value.MapKey.{MapKey}
 use Rattle.muf_model.specs.declared.value.Pair.{Pair}
@@ -19,8 +19,8 @@ use Rattle.muf_model.specs.Datum.{Datum, items, dict, data_of, pairs_of}
 use Rattle.muf_model.specs.Measures.{weight, data_weight, pairs_weight, nesting, data_nesting, pairs_nesting, key_below}
 use Rattle.muf_model.specs.Entries.{key_same, entry_of, with_entry, entry_place, has_key, without, above, gathered, IsAhead, Rising}
 use Rattle.muf_model.specs.Values.{fits, size_fits, RiseInData, RiseInPairs, IsValue, IsSized}
-use Rattle.muf_model.proofs.Entries.{rising, same_is, above as passes, place_cases}
-use Rattle.muf_model.proofs.Sized.{fitting, sized, within, weight_more, nesting_more, rise_more, entries_again, dict_weight, dict_nesting}
+use Rattle.muf_model.proofs.Entries.{rising, same_is, above as passes}
+use Rattle.muf_model.proofs.Sized.{sized, within, weight_more, nesting_more, rise_more, entries_again, dict_weight, dict_nesting}
 
 -- ---- room
 
@@ -64,25 +64,12 @@ rise_less i [] h r = absurd (omega arith)
 rise_less zero (x ∷ ds) h r = r.1
 rise_less (suc i) (x ∷ ds) h r = (r.0, rise_less i ds (omega arith) r.1)
 
-small : (w n : ℕ) → w ≤ 65535 → n ≤ 63 → (nat_lt w 65536 && nat_lt n 64) ≡ true
-small w n h k = rw (lt-ltb w 65536 (omega (arith, h)), lt-ltb n 64 (omega (arith, k))) refl
-
 pub less_fits : (i : ℕ) (ds : List Datum) (s t : Size) → i < length ds → IsSized (items (data_of ds)) s → t.weight ≡ data_weight (data_of (remove ds i)) → t.nesting ≡ data_nesting (data_of (remove ds i)) → IsSized (items (data_of (remove ds i))) t
 less_fits i ds s t h z w n =
     let l = within (items (data_of ds)) s z in
     sized (items (data_of (remove ds i))) t (omega (arith, w)) (omega (arith, n)) (rise_less i ds h z.is_value.rising) (small t.weight t.nesting (omega (arith, w, l.0, z.weighs, weight_within i ds h)) (omega (arith, n, l.1, z.nests, nesting_within i ds h)))
 
 -- ---- the order of keys
-
-is_less : (o : Ordering) → is_lt o ≡ true → o ≡ Less
-is_less Less e = refl
-is_less Equal e = search (rules, e)
-is_less Greater e = search (rules, e)
-
-not_less : (o : Ordering) → o ≡ ordering_reverse o → is_lt o ≡ false
-not_less Less e = search (rules, e)
-not_less Equal e = refl
-not_less Greater e = refl
 
 below_further : (j k l : MapKey) → key_below j k ≡ true → key_below k l ≡ true → key_below j l ≡ true
 below_further (Number m) (Number n) (Number p) e f = grind (arith, ints, e, f)
@@ -95,7 +82,7 @@ below_further (Name r) (Name s) (Name t) e f = ap is_lt (nat_list_cmp_total.tran
 
 not_below_itself : (k : MapKey) → key_below k k ≡ false
 not_below_itself (Number n) = grind (arith, ints)
-not_below_itself (Name t) = not_less (slice_cmp nat_cmp t t) (nat_list_cmp_total.antisymm t t)
+not_below_itself (Name t) = not_less_turned (slice_cmp nat_cmp t t) (nat_list_cmp_total.antisymm t t)
 
 apart_cases : (k l : MapKey) (b : Bool) → key_same k l ≡ b → key_below k l ≡ true → b ≡ false
 apart_cases k l true e f = search (rules, sym (subst (λ j. key_below k j ≡ false) (same_is k l e) (not_below_itself k)) ∙ f)
@@ -145,7 +132,7 @@ place_from k l n false false e f h = search (rules, sym (passes k l e f) ∙ h)
 pub others_from : (k : MapKey) (ps : List Pair) (i : ℕ) (d : Pair) → i < length ps → key_below (get_or ps i d).key k ≡ false → entry_place k (map pair_view ps) ≤ i
 others_from k [] i d h e = absurd (omega arith)
 others_from k (p ∷ ps) zero d h e = place_from k p.key (entry_place k (map pair_view ps)) (key_same k p.key) (key_below k p.key) refl refl e
-others_from k (p ∷ ps) (suc i) d h e = place_cases (entry_place k (map pair_view ps)) i (key_same k p.key) (key_below k p.key) (others_from k ps i d (omega arith) e)
+others_from k (p ∷ ps) (suc i) d h e = place_at_most (entry_place k (map pair_view ps)) i (key_same k p.key) (key_below k p.key) (others_from k ps i d (omega arith) e)
 
 none_above : (k : MapKey) (es : List (MapKey × Datum)) → IsAhead k es → Rising es → entry_of k es ≡ None
 none_above k [] a r = refl
@@ -260,12 +247,6 @@ rise_pairs_less : (i : ℕ) (es : List (MapKey × Datum)) → i < length es → 
 rise_pairs_less i [] h r = absurd (omega arith)
 rise_pairs_less zero (e ∷ es) h r = r.1
 rise_pairs_less (suc i) (e ∷ es) h r = (r.0, rise_pairs_less i es (omega arith) r.1)
-
-pub map_remove : {A B : Type 0} → (f : A → B) (xs : List A) (i : ℕ) → map f (remove xs i) ≡ remove (map f xs) i
-map_remove f [] zero = refl
-map_remove f [] (suc i) = refl
-map_remove f (x ∷ xs) zero = refl
-map_remove f (x ∷ xs) (suc i) = ap (λ r. f x ∷ r) (map_remove f xs i)
 
 pairs_weight_less : (i : ℕ) (ps : List Pair) → pairs_weight (pairs_of (remove (map pair_view ps) i)) ≡ data_weight (data_of (remove (map value_view ps) i))
 pairs_weight_less i ps = ap (λ es. pairs_weight (pairs_of es)) (sym (map_remove pair_view ps i)) ∙ dict_weight (remove ps i) ∙ ap (λ ds. data_weight (data_of ds)) (map_remove value_view ps i)

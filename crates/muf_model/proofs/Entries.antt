@@ -1,15 +1,16 @@
 -- Keys and entries of dictionaries, and what putting an entry does.
-use Rattle.std.proofs.Common.{◌≡◌, ◌≤◌, ℕ, zero, suc, Bool, true, false, List, [], ◌∷◌, Some, None, if◌then◌else◌, refl, ap, sym, subst, ◌∙◌, rules, map, insert, bytes_eq, int_lt, slice_get, slice_set, length, arith}
-use Rattle.std.specs.Prelude.{ℤ}
+use Rattle.std.proofs.Common.{◌≡◌, ◌≤◌, ℕ, suc, Bool, true, false, List, [], ◌∷◌, Some, None, if◌then◌else◌, refl, ap, sym, subst, ◌∙◌, rules, map, insert, bytes_eq, int_lt, slice_get, slice_set, length, arith}
 use Rattle.std.specs.declared.cmp.Ordering.{Ordering}
 use Rattle.std.specs.declared.cmp.Ordering.TheVariants.{Less, Equal, Greater}
-use Rattle.std.specs.Ordering.{is_lt, is_eq, int_eq, nat_cmp, ordering_reverse}
+use Rattle.std.specs.Ordering.{is_lt, is_eq, nat_cmp, ordering_reverse}
 use Rattle.std.specs.Cmp.Lexicographic.{slice_cmp}
 use Rattle.std.proofs.lemmas.Cmp.{nat_list_cmp_total}
 use Rattle.std.proofs.lemmas.Map.Text.{is_eq-slice_cmp}
 use Rattle.std.proofs.lemmas.Bool.Decides.{Decides-int_eq}
 use Rattle.std.proofs.lemmas.Slice.Eq.{bytes_eq-Decides}
 use Rattle.std.proofs.lemmas.List.{map-set}
+use Rattle.laws.proofs.Numbers.{number_above, place_at_most}
+use Rattle.laws.proofs.Places.{map_insert}
 use Rattle.muf_model.specs.declared.value.MapKey.{MapKey}
 use Rattle.muf_model.specs.declared.value.MapKey.TheVariants.{Number, Name}
 use Rattle.muf_model.specs.declared.value.Pair.{Pair}
@@ -28,11 +29,6 @@ same_is (Name s) (Name t) e = ap Name ((bytes_eq-Decides s t).0 e)
 same_itself : (k : MapKey) → key_same k k ≡ true
 same_itself (Number n) = (Decides-int_eq n n).1 refl
 same_itself (Name t) = (bytes_eq-Decides t t).1 refl
-
-number_above : (m n : ℤ) (b c : Bool) → int_lt m n ≡ b → int_lt n m ≡ c → int_eq m n ≡ false → b ≡ false → c ≡ true
-number_above m n true c e f h l = search (rules, l)
-number_above m n false true e f h l = refl
-number_above m n false false e f h l = search (rules, e, f, h)
 
 text_above : (s t : List ℕ) (o : Ordering) → slice_cmp nat_cmp s t ≡ o → bytes_eq s t ≡ false → is_lt o ≡ false → text_below t s ≡ true
 text_above s t Less e h l = search (rules, l)
@@ -111,11 +107,6 @@ pub inserted : (k : MapKey) (x : Datum) (es : List (MapKey × Datum)) → has_ke
 inserted k x [] n = refl
 inserted k x ((m, z) ∷ es) n = insert_cases k m x z es (key_same k m) (key_below k m) refl (inserted k x es) n
 
-pub map_insert : {A B : Type 0} → (f : A → B) (xs : List A) (i : ℕ) (x : A) → map f (insert xs i x) ≡ insert (map f xs) i (f x)
-map_insert f xs zero x = refl
-map_insert f [] (suc i) x = refl
-map_insert f (y ∷ xs) (suc i) x = ap (λ r. f y ∷ r) (map_insert f xs i x)
-
 -- the same of pairs
 pub put_there : (ps : List Pair) (i : ℕ) (k : MapKey) (v : Value) (q : Pair) → pair_view q ≡ (k, view v) → i ≡ entry_place k (map pair_view ps) → has_key k (slice_get (map pair_view ps) i) ≡ true → map pair_view (slice_set ps i q) ≡ with_entry k (view v) (map pair_view ps)
 put_there ps i k v q p e t =
@@ -131,11 +122,6 @@ put_new ps i k v q p e n =
     ∙ ap (λ j. insert (map pair_view ps) j (k, view v)) e
     ∙ inserted k (view v) (map pair_view ps) (ap (λ j. has_key k (slice_get (map pair_view ps) j)) (sym e) ∙ n)
 
-pub place_cases : (n m : ℕ) (b c : Bool) → n ≤ m → (if b then 0 else (if c then 0 else suc n)) ≤ suc m
-place_cases n m true c h = omega arith
-place_cases n m false true h = omega arith
-place_cases n m false false h = omega arith
-
 pub place_within : (k : MapKey) (es : List (MapKey × Datum)) → entry_place k es ≤ length es
 place_within k [] = omega arith
-place_within k ((l, x) ∷ es) = place_cases (entry_place k es) (length es) (key_same k l) (key_below k l) (place_within k es)
+place_within k ((l, x) ∷ es) = place_at_most (entry_place k es) (length es) (key_same k l) (key_below k l) (place_within k es)

@@ -1,7 +1,8 @@
 -- What each primitive of numbers does. Results wrap to 32 bits.
-use Rattle.std.specs.Prelude.{suc, List, [], ◌∷◌, Option, Some, None, Bool, true, false, not, ◌&&◌, ◌||◌, nat_lt, int_lt, int_le, int_rem, if◌then◌else◌, ℤ, pos, negsuc}
+use Rattle.std.specs.Prelude.{suc, List, [], ◌∷◌, Option, Some, None, Bool, true, false, not, ◌&&◌, ◌||◌, nat_lt, int_lt, int_le, if◌then◌else◌, ℤ, pos, negsuc}
 use Rattle.std.specs.Ordering.{int_eq}
-use Rattle.std.specs.Int.{w32, cast_signed, int_wrapping_add, int_wrapping_sub, int_wrapping_mul, int_wrapping_div, int_wrapping_neg, int_signum, int_bit_and, int_bit_or, int_bit_xor, int_shl, int_shr}
+use Rattle.std.specs.Int.{w32, cast_signed, int_wrapping_add, int_wrapping_sub, int_wrapping_mul, int_signum, int_bit_and, int_bit_or, int_bit_xor, int_shl, int_shr}
+use Rattle.muck_model.specs.Division.{quotient, remainder, magnitude}
 use Rattle.muf_model.specs.declared.fault.MufFault.TheVariants.{StackEmpty, BadType}
 use Rattle.muf_model.specs.declared.prims.Primitive.{Primitive}
 use Rattle.muf_model.specs.declared.prims.Primitive.TheVariants.{Add, Subtract, Multiply, Divide, Modulo, Increment, Decrement, Abs, Sign, BitOr, BitAnd, BitXor, BitShift, Equal, Unequal, Less, Greater, LessEqual, GreaterEqual, Not, And, Or, Xor, ToInt, ToDbref, DbCmp}
@@ -9,17 +10,6 @@ use Rattle.muf_model.specs.Datum.{Datum, int, object, variable}
 use Rattle.muf_model.specs.Measures.{is_true}
 use Rattle.muf_model.specs.Answer.{Deed, plain, Made, makes, rejects}
 use Rattle.muf_model.specs.StackRows.{truth, judged}
-
--- toward zero, and 0 where the divisor is 0
-abbrev pub quotient : ℤ → ℤ → ℤ
-quotient i j = if int_eq j (pos 0) then pos 0 else int_wrapping_div w32 i j
-
--- with the sign of i, and 0 where the divisor is 0
-abbrev pub remainder : ℤ → ℤ → ℤ
-remainder i j = if int_eq j (pos 0) then pos 0 else int_rem i j
-
-abbrev pub magnitude : ℤ → ℤ
-magnitude i = if int_lt i (pos 0) then int_wrapping_neg w32 i else i
 
 -- left by a positive number, else right with the sign
 abbrev pub shifted : ℤ → ℤ → ℤ

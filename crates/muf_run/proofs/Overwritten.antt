@@ -1,10 +1,11 @@
 -- What a variable holds that is stored to, and isn't read before, makes no difference.
 use Rattle.std.proofs.Common.{◌≡◌, ℕ, zero, suc, ◌+◌, ◌-◌, ◌≤◌, ◌<◌, List, [], ◌∷◌, length, drop, Bool, true, false, refl, sym, ap, subst, ◌∙◌, arith}
-use Rattle.std.specs.Prelude.{ℤ, Option, Some, None, slice_get, slice_set, is_some, IfSome, nat_lt, if◌then◌else◌}
+use Rattle.std.specs.Prelude.{ℤ, Option, Some, None, slice_get, slice_set, is_some, nat_lt, if◌then◌else◌}
 use Rattle.std.specs.Ordering.{int_eq}
 use Rattle.std.proofs.lemmas.Bool.{le-ltb}
-use Rattle.std.proofs.lemmas.Bool.Decides.{Decides-int_eq}
 use Rattle.std.proofs.lemmas.List.{set-set, length-drop}
+use Rattle.laws.proofs.Numbers.{int_equal_itself}
+use Rattle.laws.proofs.Places.{get_drop}
 use Rattle.muf_model.specs.declared.code.Code.{Code}
 use Rattle.muf_model.specs.declared.code.VarId.{VarId}
 use Rattle.muf_model.specs.declared.code.Word.{Word}
@@ -21,7 +22,6 @@ use Rattle.muf_model.specs.inner.Flat.{Flat}
 use Rattle.muf_frame.specs.inner.Shown.{locked_by}
 use Rattle.muf_frame.specs.inner.Moves.{scope_of, with_variable}
 use Rattle.muf_frame.specs.inner.Answers.{Became}
-use Rattle.muf_frame.proofs.Data.{get_drop}
 use Rattle.muf_frame.proofs.Ladders.{used_whole}
 use Rattle.muf_array.specs.declared.changers.Changer.{Changer}
 use Rattle.muf_array.specs.declared.changers.Changer.TheVariants.{SetItem, InsertItem, AppendItem, DelItem}
@@ -35,23 +35,20 @@ use Rattle.muf_run.proofs.GoesOn.{quick_fits}
 
 -- ---- the variables of a program
 
-same_number : (n : ℤ) → int_eq n n ≡ true
-same_number n = (Decides-int_eq n n).1 refl
-
 read_cases : (n : ℤ) (vs : List Datum) (o : Owned) (os : List Owned) (b : Bool) → int_eq o.program n ≡ b → owned_by n (with_owned n vs os) ≡ vs → owned_by n (if b then record { program = n; values = vs } ∷ os else o ∷ with_owned n vs os) ≡ vs
-read_cases n vs o os true e h = rw (same_number n) refl
+read_cases n vs o os true e h = rw (int_equal_itself n) refl
 read_cases n vs o os false e h = rw e h
 
 read_again : (n : ℤ) (vs : List Datum) (os : List Owned) → owned_by n (with_owned n vs os) ≡ vs
-read_again n vs [] = rw (same_number n) refl
+read_again n vs [] = rw (int_equal_itself n) refl
 read_again n vs (o ∷ os) = read_cases n vs o os (int_eq o.program n) refl (read_again n vs os)
 
 write_cases : (n : ℤ) (vs ws : List Datum) (o : Owned) (os : List Owned) (b : Bool) → int_eq o.program n ≡ b → with_owned n ws (with_owned n vs os) ≡ with_owned n ws os → with_owned n ws (if b then record { program = n; values = vs } ∷ os else o ∷ with_owned n vs os) ≡ (if b then record { program = n; values = ws } ∷ os else o ∷ with_owned n ws os)
-write_cases n vs ws o os true e h = rw (same_number n) refl
+write_cases n vs ws o os true e h = rw (int_equal_itself n) refl
 write_cases n vs ws o os false e h = rw e (ap (λ r. o ∷ r) h)
 
 write_again : (n : ℤ) (vs ws : List Datum) (os : List Owned) → with_owned n ws (with_owned n vs os) ≡ with_owned n ws os
-write_again n vs ws [] = rw (same_number n) refl
+write_again n vs ws [] = rw (int_equal_itself n) refl
 write_again n vs ws (o ∷ os) = write_cases n vs ws o os (int_eq o.program n) refl (write_again n vs ws os)
 
 -- ---- a variable that is set twice
@@ -115,11 +112,6 @@ still_there false false v x words f =
     ∙ ap is_some (sym (get_drop f.base i f.variables))
 
 -- ---- the three units
-
--- what is there is as it was asked
-pub some_mapped : {A : Type 0} → (P Q : A → Type 0) (o : Option A) → ((x : A) → P x → Q x) → IfSome o P → IfSome o Q
-some_mapped P Q (Some x) f h = f x h
-some_mapped P Q None f h = h
 
 -- a word that goes on is a unit
 word_ends : (code : Code) (f g : Flat) (w : Word) → HasWord code f.place w → machine.word code w (f.place + 1) f ≡ going 0 g → UnitEnds code f (going 0 g)

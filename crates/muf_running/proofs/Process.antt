@@ -1,10 +1,10 @@
 -- What a frame and the codes of its programs stand for after each step.
-use Rattle.std.proofs.Common.{◌≡◌, ℕ, zero, suc, ◌+◌, ◌-◌, ◌<◌, List, [], ◌∷◌, ◌++◌, length, take, drop, map, reverse, Option, Some, None, cond, refl, sym, ap, subst, ◌∙◌, arith}
+use Rattle.std.proofs.Common.{◌≡◌, ℕ, zero, suc, ◌+◌, ◌<◌, List, [], ◌∷◌, ◌++◌, length, drop, map, reverse, Option, Some, None, cond, refl, sym, ap, subst, ◌∙◌, arith}
 use Rattle.std.specs.Prelude.{ℤ, slice_get, slice_set, is_some, true, ◌||◌}
 use Rattle.std.specs.Ordering.{int_eq}
 use Rattle.std.specs.List.{list_any}
 use Rattle.std.specs.Option.{option_map}
-use Rattle.std.proofs.lemmas.List.{drop-map, reverse-reverse, length-reverse}
+use Rattle.std.proofs.lemmas.List.{drop-map}
 use Rattle.std.proofs.lemmas.List.Sorted.{IsPermutation-reverse, list_any-IsPermutation}
 use Rattle.std.proofs.lemmas.Bool.{lt-ltb}
 use Rattle.std.proofs.lemmas.Option.{slice_get-map, slice_get_within, slice_get-get_or}
@@ -33,7 +33,6 @@ use Rattle.muf_compile.proofs.SameLine.{same_line}
 use Rattle.muf_frame.specs.inner.Shown.{Shown, flat}
 use Rattle.muf_frame.specs.inner.Moves as moves
 use Rattle.muf_frame.specs.inner.Moves.{caught}
-use Rattle.muf_frame.proofs.Tops.{above_height}
 use Rattle.muf_run.specs.inner.Alike.{EndsAlike}
 use Rattle.muf_run.specs.inner.Machine.{after_fault}
 use Rattle.muf_run.specs.inner.Runs.{RunsAlike}
@@ -213,12 +212,6 @@ begin_at f g d code common argument n start count stands at first same =
     let fitting : FitsState (code ∷ []) g next = subst (λ x. FitsState (code ∷ []) x next) frame (begun_fits d code common argument n w.0 stands w.1) in
     let found : last_word (tree_of code).words ≡ Some (definition_at code.placed w.0) = last_read code.placed code.words n count ∙ ap (option_map (definition_at code.placed)) w.1 in
     ((fits fitting (started_nested (program_with d code) (definition_at code.placed w.0) common argument stands.nested (word_nested code.placed code.words n w.0 stands.nested w.1)), ap numbers_in (sym (decoded fitting))), ap Some (decoded fitting) ∙ sym (ap (option_map (λ x. started (program_with d code) x common argument)) found))
-
--- those that are left of a call stack
-pub kept_programs : {A : Type 0} (k : ℕ) (xs : List A) → reverse (take (length xs - k) xs) ≡ drop k (reverse xs)
-kept_programs k xs =
-    let same : take (length xs - k) xs ≡ reverse (drop k (reverse xs)) = sym (above_height k (reverse xs) ∙ ap (λ l. take (l - k) (reverse (reverse xs))) (length-reverse xs) ∙ ap (take (length xs - k)) (reverse-reverse xs)) in
-    ap reverse same ∙ reverse-reverse (drop k (reverse xs))
 
 -- another stack, and other variables of the process and of its programs
 lent_fits : (g : Flat) {cs : List Code} {f : Flat} {s : Source} → FitsState cs f s → FitsState cs (record f { stack = g.stack; common = g.common; owned = g.owned }) (with_frame g s)

@@ -1,5 +1,6 @@
 -- The pieces between a `$define`'s name and its `$enddef`.
 use Rattle.std.proofs.Common.{◌≡◌, ℕ, ◌<◌, true, false, cond, List, [], ◌∷◌, ◌++◌, length, None, Result, Ok, Err, refl, ap, sym, ◌∙◌, arith, zero, suc, append_assoc}
+use Rattle.laws.proofs.Lists.{append_none}
 use Rattle.muf_token.specs.declared.fault.FaultKind.{FaultKind}
 use Rattle.muf_token.specs.declared.fault.FaultKind.TheVariants.{BadDirective}
 use Rattle.muf_token.specs.declared.fault.Refusal.{Refusal}
@@ -7,7 +8,6 @@ use Rattle.muf_token.specs.declared.piece.Piece.{Piece}
 use Rattle.muf_token.specs.Pieces.{Front, ended, broken, found, front}
 use Rattle.muf_token.specs.Output.{refuse, and_then}
 use Rattle.muf_token.specs.Directives.{Body, is_enddef, after_piece, body_in, body_within, body_at}
-use Rattle.muf_token.proofs.Texts.{append_none}
 use Rattle.muf_token.proofs.Fronts.{IsShorter, front_shorter, found_shorter}
 
 -- these pieces, and then what the rest gives

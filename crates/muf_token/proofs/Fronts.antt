@@ -1,12 +1,12 @@
 -- A piece takes a byte at least.
-use Rattle.std.proofs.Common.{◌≡◌, ℕ, ◌≤◌, ◌<◌, ◌+◌, Bool, true, false, not, cond, eqb, List, [], ◌∷◌, ◌++◌, length, drop, Option, Some, None, refl, ap, sym, ◌∙◌, subst, arith, zero, suc, append_assoc}
+use Rattle.std.proofs.Common.{◌≡◌, ℕ, ◌≤◌, ◌<◌, Bool, true, false, cond, eqb, List, [], ◌∷◌, ◌++◌, length, Option, Some, None, refl, ap, sym, ◌∙◌, subst, arith, zero, suc, append_assoc}
 use Rattle.std.proofs.lemmas.Bool.{cond_both}
 use Rattle.std.specs.List.{position_or_len}
+use Rattle.laws.proofs.Parts.{word_rest}
 use Rattle.muf_token.specs.declared.fault.FaultKind.{FaultKind}
 use Rattle.muf_token.specs.declared.piece.Piece.{Piece}
 use Rattle.muf_token.specs.declared.piece.Piece.TheVariants.{Broken}
 use Rattle.muf_token.specs.Pieces.{is_blank, next_line, Front, ended, broken, found, after_byte, quoted, text_found, word_found, piece_here, front, then_pieces, first_pieces}
-use Rattle.muf_token.proofs.Words.{length_drop}
 
 -- what stands behind the piece has fewer than so many bytes
 abbrev pub IsShorter : ℕ → Front → Type 0
@@ -50,13 +50,6 @@ quoted_shorter false (b ∷ text) =
 text_shorter : (n line : ℕ) (r : Option (List ℕ × List ℕ)) → EndsWithin n r → IsShorter n (text_found line r)
 text_shorter n line None h = tt
 text_shorter n line (Some p) h = h
-
-one_more : (n : ℕ) → suc n ≡ 1 + n
-one_more n = omega arith
-
-word_rest : (b : ℕ) (text : List ℕ) (v : Bool) (n : ℕ) → v ≡ false → length (drop (cond (not v) (1 + n) 0) (b ∷ text)) < length (b ∷ text)
-word_rest b text true n h = cc
-word_rest b text false n h = subst (λ k. length (drop k (b ∷ text)) < length (b ∷ text)) (one_more n) (omega (arith, length_drop n text))
 
 word_shorter : (line b : ℕ) (text : List ℕ) → is_blank b ≡ false → IsShorter (length (b ∷ text)) (word_found line (b ∷ text))
 word_shorter line b text h = word_rest b text (is_blank b) (position_or_len is_blank text) h

@@ -1,6 +1,7 @@
 -- Where a line ends.
 use Rattle.std.proofs.Common.{◌≡◌, ℕ, ◌+◌, true, not, cond, List, [], ◌∷◌, ◌++◌, length, take, drop, refl, ap, ◌∙◌, arith}
 use Rattle.std.specs.List.{position_or_len}
+use Rattle.laws.proofs.Parts.{drop_front, take_front}
 use Rattle.muf_token.specs.inner.Bytes.{are_inside}
 use Rattle.muf_token.specs.Pieces.{below}
 use Rattle.muf_token.specs.Directives.{is_line_end, rest_of_line}
@@ -14,18 +15,10 @@ end_after (b ∷ here) lines h =
     ap (λ v. cond (not v) (1 + position_or_len is_line_end (here ++ below lines)) 0) (no_line_end b (inside_head b here h))
     ∙ ap (λ n. 1 + n) (end_after here lines (inside_tail b here h)) ∙ omega arith
 
-take_all : (xs ys : List ℕ) → take (length xs) (xs ++ ys) ≡ xs
-take_all [] ys = refl
-take_all (x ∷ xs) ys = ap (λ rest. x ∷ rest) (take_all xs ys)
-
-drop_all : (xs ys : List ℕ) → drop (length xs) (xs ++ ys) ≡ ys
-drop_all [] ys = refl
-drop_all (x ∷ xs) ys = drop_all xs ys
-
 pub rest_here : (here : List ℕ) (lines : List (List ℕ)) → are_inside here ≡ true → rest_of_line (here ++ below lines) ≡ here
-rest_here here lines h = ap (λ n. take n (here ++ below lines)) (end_after here lines h) ∙ take_all here (below lines)
+rest_here here lines h = ap (λ n. take n (here ++ below lines)) (end_after here lines h) ∙ take_front here (below lines)
 
 pub end_here : (here : List ℕ) (lines : List (List ℕ)) → are_inside here ≡ true → drop (position_or_len is_line_end (here ++ below lines)) (here ++ below lines) ≡ below lines
-end_here here lines h = ap (λ n. drop n (here ++ below lines)) (end_after here lines h) ∙ drop_all here (below lines)
+end_here here lines h = ap (λ n. drop n (here ++ below lines)) (end_after here lines h) ∙ drop_front here (below lines)
 
 pub ruleset line_ends = (rest_here, end_here)

@@ -1,6 +1,7 @@
 -- Each piece of a source goes on at a place with less text.
 use Rattle.std.proofs.Common.{◌≡◌, ℕ, ◌≤◌, ◌<◌, Bool, true, false, cond, List, [], length, Option, Some, None, Result, Ok, Err, refl, ap, ◌∙◌, subst, arith, zero, suc}
 use Rattle.std.specs.List.{position_or_len}
+use Rattle.laws.proofs.Parts.{length_drop}
 use Rattle.muck_model.specs.declared.dbref.Dbref.{Dbref}
 use Rattle.muf_token.specs.declared.fault.FaultKind.{FaultKind}
 use Rattle.muf_token.specs.declared.fault.Refusal.{Refusal}
@@ -17,7 +18,6 @@ use Rattle.muf_token.specs.Expansion.{is_directive}
 use Rattle.muf_token.specs.Branches.{is_taking, outermost}
 use Rattle.muf_token.specs.Directives.{directive_of, Spot, Name, name_in, name_at, is_line_end, is_enddef, Body, after_piece, body_in, body_within, body_at}
 use Rattle.muf_token.specs.Source.{State, Step, def_at, define_at, undef_at, conditional_at, else_at, endif_at, object_of, included, include_at, directed, put_out, taken, skipped, stepped, words_unless, at_front, words_within, words_from}
-use Rattle.muf_token.proofs.Words.{length_drop}
 use Rattle.muf_token.proofs.Fronts.{IsShorter, front_shorter, found_shorter}
 
 -- what comes next has at most so many bytes

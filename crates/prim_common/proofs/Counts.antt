@@ -3,9 +3,9 @@ use Rattle.std.proofs.Common.{◌≡◌, ℕ, zero, suc, ◌+◌, ◌*◌, ◌<�
 use Rattle.std.specs.Prelude.{ℤ, pos, negsuc, nat_lt, ◌&&◌}
 use Rattle.std.proofs.lemmas.List.{length-append, length-map, append-nil}
 use Rattle.std.proofs.lemmas.Bool.{ltb-true, and_parts}
-use Rattle.std.proofs.lemmas.Nat.{mul-le}
 use Rattle.std.proofs.Math.Nat.{zero-mul, suc-mul}
 use Rattle.std.specs.Option.{option_or}
+use Rattle.laws.proofs.Numbers.{product_most}
 use Rattle.muf_model.specs.declared.needs.Need.{Need}
 use Rattle.muf_model.specs.declared.prims.Primitive.{Primitive}
 use Rattle.muf_model.specs.declared.prims.Primitive.TheVariants.{Pop}
@@ -80,9 +80,6 @@ times_length (suc n) each =
     let first : length (times (suc n) each) ≡ length each + length (times n each) = length-append each (times n each) in
     let rest : length (times n each) ≡ n * length each = times_length n each in
     omega (arith, first, rest, suc-mul n (length each))
-
-pub product_most : (a b : ℕ) → a ≤ 2147483647 → b ≤ 64 → a * b ≤ 137438953408
-product_most a b h k = mul-le a b 2147483647 64 h k
 
 pub ruleset product_steps = (times_length, product_most)
 

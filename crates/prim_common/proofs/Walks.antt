@@ -4,6 +4,7 @@ use native.Mathlib.Numerals.{unary_clauses}
 use Rattle.std.specs.Prelude.{slice_get, Result}
 use Rattle.std.specs.Option.{option_or}
 use Rattle.std.proofs.lemmas.List.{length-append, drop-drop}
+use Rattle.laws.proofs.Places.{item_at, none_at}
 use Rattle.muf_model.specs.declared.fault.MufFault.{MufFault}
 use Rattle.muf_model.specs.declared.needs.Need.{Need}
 use Rattle.muf_model.specs.declared.value.Value.{Value}
@@ -12,18 +13,6 @@ use Rattle.muf_model.specs.Ladder.{times, walk}
 use Rattle.muf_model.specs.inner.View.{view}
 use Rattle.prim_common.specs.inner.Tests.{Passes}
 use Rattle.prim_common.proofs.Faults.{fails, passes, or_assoc}
-
--- the item at a place and those behind it
-item_at : {A B : Type 0} (f : A → B) (xs : List A) (at : ℕ) (x : A) → slice_get xs at ≡ Some x → drop at (map f xs) ≡ f x ∷ drop (suc at) (map f xs)
-item_at f [] at x e = absurd cc
-item_at f (y ∷ ys) zero x e = (let same : y ≡ x = cc in ap (λ z. f z ∷ map f ys) same)
-item_at f (y ∷ ys) (suc at) x e = item_at f ys at x e
-
-none_at : {A B : Type 0} (f : A → B) (xs : List A) (at : ℕ) → slice_get xs at ≡ None → drop at (map f xs) ≡ []
-none_at f [] zero e = refl
-none_at f [] (suc at) e = refl
-none_at f (y ∷ ys) zero e = absurd cc
-none_at f (y ∷ ys) (suc at) e = none_at f ys at e
 
 walk_none : (test : Need → Datum → Option MufFault) (ns : List Need) → walk test ns [] ≡ None
 walk_none test [] = refl

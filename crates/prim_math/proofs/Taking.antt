@@ -4,6 +4,7 @@ use Rattle.std.specs.Prelude.{ℤ, Option, Some, None, slice_get}
 use Rattle.std.specs.Option.{option_and_then}
 use Rattle.std.specs.Ordering.{int_eq}
 use Rattle.std.proofs.lemmas.List.{length-map}
+use Rattle.laws.proofs.Mapped.{map_drop}
 use Rattle.muf_model.specs.declared.fault.MufFault.TheVariants.{BadType}
 use Rattle.muf_model.specs.Datum.{Datum, int, object, variable}
 use Rattle.muf_model.specs.Answer.{Answer, refuses, Scope, plain, makes, put, unless, needing}
@@ -12,7 +13,6 @@ use Rattle.muf_model.specs.Rows.{used}
 use Rattle.muf_model.specs.NumberRows.{one_int, two_ints, compared, number_of, object_of, objects_equal}
 use Rattle.muf_model.specs.StackRows.{truth}
 use Rattle.muf_frame.specs.inner.Answers.{int_at, object_at}
-use Rattle.muf_frame.proofs.Data.{map_drop}
 use Rattle.muf_frame.proofs.Ladders.{kinds, used_plain}
 use Rattle.prim_math.specs.inner.Alike.{alike, as_number}
 

@@ -2,6 +2,9 @@
 use Rattle.std.proofs.Common.{length-take, length-drop, Bool, true, false, ◌≡◌, ℕ, zero, suc, ◌+◌, ◌-◌, ◌<◌, ◌≤◌, List, [], ◌∷◌, ◌++◌, length, map, take, drop, refl, ap, sym, ◌∙◌, arith, rules}
 use Rattle.std.specs.Prelude.{if◌then◌else◌, pos, Option, Some, None, slice_get}
 use Rattle.std.proofs.lemmas.List.{length-map, map-append}
+use Rattle.laws.proofs.Mapped.{map_drop, map_take}
+use Rattle.laws.proofs.Parts.{drop_taken}
+use Rattle.laws.proofs.Places.{first_one, get_drop, get_taken}
 use Rattle.muf_model.specs.Datum.{Datum, int}
 use Rattle.muf_model.specs.Measures.{is_true}
 use Rattle.muf_model.specs.Answer.{gives, fitting, Scope, makes, needing, put, unless}
@@ -13,9 +16,7 @@ use Rattle.muf_model.specs.inner.View.{view}
 use Rattle.muf_model.specs.StackRows.{doubled, doubled_true, overed, tucked, picked, doubled_list}
 use Rattle.muf_model.specs.declared.value.Value.{Value}
 use Rattle.muf_frame.specs.inner.Answers.{int_at}
-use Rattle.muf_frame.proofs.Data.{map_take, map_drop, get_drop}
 use Rattle.std.proofs.Math.Seq.{drop-append_seam}
-use Rattle.prim_stack.proofs.Tops.{first_one}
 use Rattle.prim_stack.specs.inner.Does.{true_in}
 
 abbrev or_else : {A : Type 0} → A → Option A → A
@@ -71,17 +72,6 @@ pub picked_read : (stack : List Datum) (n : ℕ) (x : Datum) → 0 < n → slice
 picked_read stack zero x h e = absurd (omega (arith, h))
 picked_read [] (suc n) x h e = absurd (search (rules, e))
 picked_read (y ∷ rest) (suc n) x h e = ap (λ l. gives (l ++ rest)) (first_one n rest x e)
-
-get_taken : {A : Type 0} → (n m : ℕ) (xs : List A) → n < m → slice_get (take m xs) n ≡ slice_get xs n
-get_taken n zero xs h = absurd (omega (arith, h))
-get_taken n (suc m) [] h = refl
-get_taken zero (suc m) (x ∷ xs) h = refl
-get_taken (suc n) (suc m) (x ∷ xs) h = get_taken n m xs (omega (arith, h))
-
-drop_taken : {A : Type 0} → (n : ℕ) (xs : List A) → drop n (take n xs) ≡ []
-drop_taken zero xs = refl
-drop_taken (suc n) [] = refl
-drop_taken (suc n) (x ∷ xs) = drop_taken n xs
 
 drop_from : {A : Type 0} → (n : ℕ) (xs : List A) (x : A) → slice_get xs n ≡ Some x → drop n xs ≡ x ∷ drop (n + 1) xs
 drop_from n [] x e = absurd (search (rules, e))

@@ -5,6 +5,7 @@ use Rattle.std.specs.Ordering.{int_eq}
 use Rattle.std.specs.Option.{option_and_then}
 use Rattle.std.proofs.lemmas.List.{length-map}
 use Rattle.std.proofs.lemmas.Option.{slice_get-map}
+use Rattle.laws.proofs.Mapped.{map_drop}
 use Rattle.muf_model.specs.declared.fault.MufFault.TheVariants.{BadType, BadArgument, BadAddress, Aborted}
 use Rattle.muf_model.specs.Datum.{Datum, text, variable, address}
 use Rattle.muf_model.specs.Answer.{Answer, stores, calls, refuses, Scope, variable_at, needing, put, unless}
@@ -19,7 +20,6 @@ use Rattle.muf_model.specs.declared.prims.Primitive.TheVariants.{Fetch, Store, E
 use Rattle.muf_model.specs.inner.Flat.{Flat}
 use Rattle.muf_frame.specs.inner.Moves.{scope_of}
 use Rattle.muf_frame.specs.inner.Answers.{text_at}
-use Rattle.muf_frame.proofs.Data.{map_drop}
 use Rattle.prim_stack.specs.inner.Does.{as_variable, as_address}
 
 abbrev fetch_read : Scope → Option ℕ → List Datum → Answer

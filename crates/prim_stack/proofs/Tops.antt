@@ -1,9 +1,12 @@
 -- The rows of the stack, by the items at the top.
 use Rattle.std.proofs.Common.{length-take, true, false, ◌≡◌, ℕ, zero, suc, ◌+◌, ◌-◌, ◌<◌, List, [], ◌∷◌, ◌++◌, length, map, take, drop, reverse, refl, ap, sym, ◌∙◌, arith, rules}
-use Rattle.std.specs.Prelude.{ℤ, pos, negsuc, Option, Some, None, slice_get, slice_set, option_map, option_to_list}
+use Rattle.std.specs.Prelude.{ℤ, pos, negsuc, Option, Some, None, slice_get, slice_set, option_map}
 use Rattle.std.proofs.lemmas.List.{length-map, map-append, map-set}
 use Rattle.std.specs.List.{position, position_or_len}
 use Rattle.std.proofs.lemmas.Option.{slice_get-map}
+use Rattle.laws.proofs.Mapped.{map_drop, map_take}
+use Rattle.laws.proofs.Places.{first_one, get_taken}
+use Rattle.laws.proofs.Turned.{map_reverse}
 use Rattle.muf_model.specs.declared.value.Value.{Value}
 use Rattle.muf_model.specs.inner.View.{view}
 use Rattle.muf_model.specs.StackRows.{is_mark, above, rotated, rotated_up, rotated_down, put_at}
@@ -12,8 +15,6 @@ use Rattle.muf_model.specs.Datum.{Datum, int}
 use Rattle.muf_model.specs.Answer.{Answer, gives, refuses, needing, Scope, unless}
 use Rattle.muf_frame.specs.inner.Answers.{int_at}
 use Rattle.prim_stack.specs.inner.Does.{mark_in}
-use Rattle.muf_frame.proofs.Data.{map_take, map_drop}
-use Rattle.muf_frame.proofs.Alike.{map_reverse}
 use Rattle.muf_frame.proofs.Ladders.{kinds, used_plain, used_whole}
 use Rattle.muf_model.specs.declared.prims.Primitive.TheVariants.{Rotate}
 use Rattle.muf_model.specs.Needs.{an_int}
@@ -23,12 +24,6 @@ use Rattle.prim_stack.proofs.Counts.{counted_used}
 pub ruleset give_steps = (used_plain, length-map)
 
 pub ruleset count_steps = (counted_used, length-map)
-
-pub first_one : {A : Type 0} → (n : ℕ) (xs : List A) (x : A) → slice_get xs n ≡ Some x → take 1 (drop n xs) ≡ x ∷ []
-first_one zero [] x s = absurd (search (rules, s))
-first_one zero (y ∷ ys) x s = ap (λ o. option_to_list o) s
-first_one (suc n) [] x s = absurd (search (rules, s))
-first_one (suc n) (y ∷ ys) x s = first_one n ys x s
 
 -- the deepest of n items goes to the top
 pub lifted : (n : ℕ) (xs : List Value) (v : Value) → 0 < n → slice_get xs (n - 1) ≡ Some v → view v ∷ map view (take (n - 1) xs ++ drop (n - 1 + 1) xs) ≡ rotated_up n (map view xs)
@@ -70,12 +65,6 @@ turned_data n xs = rw (map-append, map_drop, map_reverse, map_take) refl
 pub ruleset move_steps = (lifted, sunk, put_read, turned_data, map_take, map_drop, map-set, length-map)
 
 pub ruleset rotate_steps = (rotate_row, map_drop, length-map)
-
-get_taken : {A : Type 0} → (n m : ℕ) (xs : List A) → n < m → slice_get (take m xs) n ≡ slice_get xs n
-get_taken n zero xs h = absurd (omega (arith, h))
-get_taken n (suc m) [] h = refl
-get_taken zero (suc m) (x ∷ xs) h = refl
-get_taken (suc n) (suc m) (x ∷ xs) h = get_taken n m xs (omega (arith, h))
 
 -- one item further, where it is no mark
 pub mark_passed : (n : ℕ) (xs : List Datum) → n < length xs → mark_in (slice_get xs n) ≡ false → position_or_len is_mark (drop n xs) ≡ suc (position_or_len is_mark (drop (n + 1) xs))

@@ -3,6 +3,7 @@ use Rattle.std.proofs.Common.{◌≡◌, ◌+◌, ℕ, zero, suc, pos, List, [],
 use Rattle.std.specs.Prelude.{ℤ}
 use Rattle.std.specs.List.{cons_option}
 use Rattle.std.specs.Option.{option_and_then, option_map_or}
+use Rattle.laws.proofs.Places.{get_drop}
 use Rattle.muck_model.specs.declared.dbref.Dbref.{Dbref}
 use Rattle.spec_live.specs.Lives.{Live, tell_but}
 use Rattle.spec_rights.specs.declared.act.Actor.{Actor}
@@ -12,7 +13,6 @@ use Rattle.muf_model.specs.Datum.{Datum, int, text, object}
 use Rattle.muf_model.specs.Needs.{one_there, a_near_one}
 use Rattle.muf_model.specs.Ladder.{times}
 use Rattle.muf_frame.specs.inner.Answers.{object_at, as_object}
-use Rattle.muf_frame.proofs.Data.{get_drop}
 use Rattle.spec_prims.specs.Asking.{numbered}
 use Rattle.spec_prims.specs.Row.{gives, refuses}
 use Rattle.spec_prims.specs.Shared.{taken}

@@ -2,11 +2,11 @@
 use Rattle.std.proofs.Common.{◌≡◌, ℕ, ◌+◌, ◌<◌, ◌≤◌, Bool, true, false, cond, List, [], ◌∷◌, ◌++◌, length, map, take, drop, refl, ap, sym, ◌∙◌, arith, length-append, ⊎_elim}
 use Rattle.std.specs.Prelude.{nat_lt}
 use Rattle.std.proofs.lemmas.Bool.{cases_Bool, cond-true, cond-false, lt-ltb, le-ltb, ltb-false}
+use Rattle.laws.proofs.Mapped.{map_drop}
 use Rattle.muf_model.specs.declared.fault.MufFault.TheVariants.{StackFull}
 use Rattle.muf_model.specs.Datum.{Datum}
 use Rattle.muf_model.specs.Answer.{Answer, gives, refuses, Made, makes, put, fitting}
 use Rattle.std.proofs.lemmas.List.{length-map, length-drop, map-append}
-use Rattle.muf_frame.proofs.Data.{map_drop}
 use Rattle.prim_text.proofs.Texts.{made_is_text}
 
 pub ruleset making_steps = (made_is_text)

@@ -1,12 +1,9 @@
 -- Texts cut into pieces, one piece after another.
-use Rattle.std.proofs.Common.{◌≡◌, ℕ, zero, suc, ◌+◌, ◌-◌, ◌<◌, ◌≤◌, ◌⊎◌, true, List, [], ◌∷◌, ◌++◌, Option, Some, None, length, take, drop, refl, sym, ap, ◌∙◌, arith, ⊎_elim, inl, inr, length-drop}
+use Rattle.std.proofs.Common.{◌≡◌, ℕ, zero, suc, ◌+◌, ◌-◌, ◌<◌, ◌≤◌, true, List, [], ◌∷◌, ◌++◌, Some, None, length, take, drop, refl, sym, ap, ◌∙◌, arith, ⊎_elim, length-drop}
 use Rattle.std.proofs.lemmas.Bool.{cases_Bool, cond-true, cond-false, and_parts, leb-true}
 use Rattle.std.proofs.lemmas.List.{append_assoc}
+use Rattle.laws.proofs.Options.{or_none}
 use Rattle.muf_model.specs.Texts.{stands_at, first_from, first_place, cut_at, cut, pieces, joined}
-
-or_none : {A : Type 0} → (o : Option A) → (o ≡ None) ⊎ ((x : A) × (o ≡ Some x))
-or_none None = inl refl
-or_none (Some x) = inr (x, refl)
 
 fits_from : (t s : List ℕ) (n k j : ℕ) → first_from t s k n ≡ Some j → j + length t ≤ length s
 fits_from t s zero k j h = absurd (let e : None ≡ Some j = h in cc)

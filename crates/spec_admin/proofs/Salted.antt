@@ -1,8 +1,9 @@
 -- The player that is made has its password, and where none is made nothing is drawn.
-use Rattle.std.proofs.Common.{◌≡◌, ◌⊎◌, ◌<◌, ℕ, zero, suc, true, cond, List, ◌++◌, take, refl, ◌∙◌, ap, Option, Some, None, inl, inr, Result, Ok, Err, arith}
+use Rattle.std.proofs.Common.{◌≡◌, ◌⊎◌, ℕ, zero, suc, true, cond, List, ◌++◌, take, refl, ◌∙◌, ap, Option, Some, None, inl, inr, Result, Ok, Err, arith}
 use Rattle.std.specs.Option.{option_map, option_and_then, option_map_or}
-use Rattle.std.specs.Int.{byte_at, bytes_high_first}
+use Rattle.std.specs.Int.{bytes_high_first}
 use Rattle.std.proofs.lemmas.Slice.Eq.{bytes_eq-Decides}
+use Rattle.laws.proofs.Texts.{byte_small}
 use Rattle.hex.specs.Hex.{IsBytes, encode_with, encode_lower, decode_of}
 use Rattle.hex.proofs.HexLemmas.{decode_of-encode_lower}
 use Rattle.muck_model.specs.declared.dbref.Dbref.{Dbref}
@@ -30,10 +31,6 @@ use Rattle.spec_commands.specs.Building.{made_at, created_shown}
 use Rattle.spec_admin.specs.Players.{salt_of, password_drawn, player_put, player_made}
 
 -- A digest is the one of its word.
-
-byte_small : (k n : ℕ) → byte_at k n < 256
-byte_small zero n = omega arith
-byte_small (suc k) n = omega arith
 
 high_bytes : (k n : ℕ) → IsBytes (bytes_high_first k n)
 high_bytes zero n i = omega arith

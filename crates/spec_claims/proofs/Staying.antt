@@ -4,6 +4,7 @@ use Rattle.std.specs.List.{filter, list_any}
 use Rattle.std.specs.Ordering.{int_eq}
 use Rattle.std.proofs.lemmas.Cmp.{int_eq_equiv}
 use Rattle.std.proofs.lemmas.Bool.{eq-eqb, and_parts, eqb-true}
+use Rattle.laws.proofs.Numbers.{same_pid}
 use Rattle.muck_model.specs.declared.event.Entry.{Entry}
 use Rattle.muck_model.specs.declared.event.Event.{Event}
 use Rattle.muck_model.specs.declared.event.Event.TheVariants.{Opened, Input, Closed, Moment, Exec, Planned, Claim, Slice, Commit, Lost, Idle, Take, Cut, Stored, DumpFailed, Halt, StopSeen, Died}
@@ -15,7 +16,6 @@ use Rattle.spec_events.specs.Steps.{has_claim, is_lawful, is_allowed, is_died, h
 use Rattle.spec_events.specs.Slices.{sliced}
 use Rattle.spec_events.specs.Histories.{after, AllLawful}
 use Rattle.spec_events.proofs.Happening.{effect-claims}
-use Rattle.spec_events.proofs.Modes.{same_pid}
 use Rattle.spec_claims.specs.inner.Claims.{IsSole, AreOthers}
 use Rattle.spec_claims.proofs.Kept.{same_done, same_sliced}
 

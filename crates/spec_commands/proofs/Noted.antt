@@ -1,8 +1,9 @@
 -- What players see by messages touches notes alone: properties, what waits to be sent and the state of the random numbers.
-use Rattle.std.proofs.Common.{◌≡◌, ℕ, zero, suc, cond, List, [], ◌∷◌, refl, sym, ◌∙◌, ap, Option, Some, None}
+use Rattle.std.proofs.Common.{◌≡◌, ℕ, cond, List, [], ◌∷◌, refl, sym, ◌∙◌, ap, Option, Some, None}
 use Rattle.std.specs.Prelude.{map, slice_get}
 use Rattle.std.specs.Option.{option_map, option_map_or, option_and_then}
 use Rattle.std.specs.FinMap as props
+use Rattle.laws.proofs.Places.{get_map}
 use Rattle.muck_model.specs.declared.dbref.Kind.{Kind}
 use Rattle.muck_model.specs.declared.dbref.Kind.TheVariants.{Garbage}
 use Rattle.spec_live.specs.declared.object.Object.{Object}
@@ -89,11 +90,6 @@ notes_both_shown d a typed mine theirs x = search (noting, notes_message_shown, 
 
 abbrev bare : Object → Object
 bare o = record o { props = props.empty }
-
-get_map : {X Y : Type 0} (g : X → Y) (xs : List X) (k : ℕ) → slice_get (map g xs) k ≡ option_map g (slice_get xs k)
-get_map g [] k = refl
-get_map g (x ∷ xs) zero = refl
-get_map g (x ∷ xs) (suc k) = get_map g xs k
 
 bare_seen : (q : Option Entry) → option_map bare (option_map (λ (e : Entry). e.object) q) ≡ option_map (λ (e : Entry). e.object) (option_map without_props q)
 bare_seen None = refl

@@ -2,6 +2,7 @@
 use Rattle.std.proofs.Common.{◌≡◌, ℕ, zero, suc, ℤ, negsuc, Bool, true, false, cond, List, [], ◌∷◌, ◌++◌, drop, length, Option, Some, None, refl, sym, ◌∙◌, ap, subst, nat_lt, ◌+◌}
 use Rattle.std.specs.Option.{option_or}
 use Rattle.std.specs.Prelude.{option_map}
+use Rattle.laws.proofs.Options.{option_or_last}
 use Rattle.muck_model.specs.declared.dbref.Denial.{Denial}
 use Rattle.spec_live.specs.Lives.{Live}
 use Rattle.spec_live.specs.Objects.{Entry}
@@ -159,15 +160,11 @@ module _ (B : MufFault → Live → Type 0) where
 
 -- What every primitive asks first: its level, and what has to be near; then it is as its own acts say.
 
-or_last : (sh near own : Option ℕ) → option_or (option_or (option_or sh None) near) own ≡ option_or sh (option_or near own)
-or_last None near own = refl
-or_last (Some n) near own = refl
-
 -- the acts of the tests, as these put them together
 pub denied_with : (es : List Entry) (a : Actor) (needs : Needs) (level : ℕ) (stack : List Datum) (own : List Act) →
     option_or (option_or (option_or (rule_of (verdict es a (Shared level))) None) (first_denied es a (near_acts (wanted needs stack) stack))) (first_denied es a own) ≡ first_denied es a (acts_with (Some needs) level stack own)
 denied_with es a needs level stack own =
-    or_last (rule_of (verdict es a (Shared level))) (first_denied es a (near_acts (wanted needs stack) stack)) (first_denied es a own)
+    option_or_last (rule_of (verdict es a (Shared level))) (first_denied es a (near_acts (wanted needs stack) stack)) (first_denied es a own)
     ∙ ap (option_or (rule_of (verdict es a (Shared level)))) (sym (denied_both es a (near_acts (wanted needs stack) stack) own))
 
 pub names_first : (needs : Needs) (level : ℕ) (argued : Option MufFault) (a : Actor) (locked : ℕ) (stack : List Datum) (w : Live) → Plain argued →

@@ -1,9 +1,10 @@
 -- What the rows of properties and of talk ask for.
-use Rattle.std.proofs.Common.{◌≡◌, ℕ, ℤ, pos, Bool, true, false, cond, List, [], ◌∷◌, take, drop, map, Option, Some, None, refl, subst, ap, inl, inr}
+use Rattle.std.proofs.Common.{◌≡◌, ℕ, ℤ, pos, Bool, true, false, cond, List, [], ◌∷◌, take, drop, map, Option, Some, None, refl, subst, inl, inr}
 use Rattle.std.specs.Option.{option_map_or, option_and_then}
-use Rattle.std.specs.Prelude.{is_none, is_some, ◌&&◌}
+use Rattle.std.specs.Prelude.{is_some, ◌&&◌}
 use Rattle.std.specs.List.{filter}
 use Rattle.std.specs.FinMap.{keys}
+use Rattle.laws.proofs.Options.{none_of, some_is}
 use Rattle.muck_model.specs.declared.dbref.Dbref.{Dbref}
 use Rattle.muck_prop.specs.declared.path.PropFault.{PropFault}
 use Rattle.muck_prop.specs.declared.value.PropValue.{PropValue}
@@ -124,19 +125,12 @@ module _ (B : MufFault → Live → Type 0) (a : Actor) (w : Live) where
 
 -- NEXTPROP gives no name of a property that the actor may not read.
 
-some_same : (x y : List (List ℕ)) → Some x ≡ Some y → x ≡ y
-some_same x y e = ap (λ (o : Option (List (List ℕ))). option_map_or (λ z. z) o x) e
-
-none_of : {X : Type 0} (o : Option X) → is_none o ≡ true → o ≡ None
-none_of None e = refl
-none_of (Some x) e = absurd cc
-
 module _ (test : List (List ℕ) → Bool) (dir : List (List ℕ)) (after : Option (List (List ℕ))) (c : List (List ℕ)) where
   abbrev Passes : List (List (List ℕ)) → Type 0
   Passes ks = next_among dir after ks ≡ Some c → test c ≡ true
 
   passes_chosen : (q : List (List ℕ)) (rest : List (List (List ℕ))) → test (child dir q) ≡ true → Passes rest → (b : Bool) → cond b (Some (child dir q)) (next_among dir after rest) ≡ Some c → test c ≡ true
-  passes_chosen q rest is next true e = subst (λ x. test x ≡ true) (some_same (child dir q) c e) is
+  passes_chosen q rest is next true e = subst (λ x. test x ≡ true) (some_is (child dir q) c e) is
   passes_chosen q rest is next false e = next e
 
   passes_one : (q : List (List ℕ)) (rest : List (List (List ℕ))) → Passes rest → (b : Bool) → test (child dir q) ≡ b → Passes (cond b (q ∷ rest) rest)

@@ -3,6 +3,8 @@ use Rattle.std.proofs.Common.{◌≡◌, ℕ, ◌<◌, true, false, suc, List, [
 use Rattle.std.specs.Prelude.{slice_get, if◌then◌else◌}
 use Rattle.std.specs.Option.{option_map, option_map_or}
 use Rattle.std.proofs.lemmas.List.{take_all}
+use Rattle.laws.proofs.Lists.{length_last}
+use Rattle.laws.proofs.Places.{got_last}
 use Rattle.muck_model.specs.declared.event.Entry.{Entry}
 use Rattle.muck_model.specs.declared.event.Event.TheVariants.{Cut, DumpFailed}
 use Rattle.muck_model.specs.declared.note.Note.{Note}
@@ -15,7 +17,6 @@ use Rattle.spec_events.specs.Logged.{is_cut, is_stored, is_failed}
 use Rattle.spec_dumps.specs.Fronts.{event_at, cut_behind, last_cut, at_cut, number_of_cut, number_at, IsFront}
 use Rattle.spec_dumps.specs.Survival.{HasCause, HasNumber, IsSafe}
 use Rattle.spec_dumps.specs.inner.Holding.{IsAt, IsCounted, IsUsable, Keeps, Rests, FailedLast}
-use Rattle.spec_dumps.proofs.Lists.{got_last, length_last}
 use Rattle.spec_dumps.proofs.Fronts.{loads_by}
 use Rattle.spec_dumps.proofs.Moving.{held_now, held_noted, loads_now}
 use Rattle.spec_dumps.proofs.Noting.{front_next, survives_noted, caused_noted, deltas_noted, numbered_noted, rise_noted}

@@ -6,6 +6,8 @@ use Rattle.std.specs.Option.{option_map, option_map_or}
 use Rattle.std.proofs.lemmas.List.{length-append, take-append-le}
 use Rattle.std.proofs.lemmas.Option.{slice_get_within}
 use Rattle.std.proofs.lemmas.Bool.{cases_lt}
+use Rattle.laws.proofs.Numbers.{one_short}
+use Rattle.laws.proofs.Places.{got_on}
 use Rattle.muck_model.specs.declared.event.Entry.{Entry}
 use Rattle.muck_model.specs.declared.event.Event.{Event}
 use Rattle.muck_model.specs.declared.note.Note.{Note}
@@ -16,7 +18,6 @@ use Rattle.spec_events.specs.World.{World}
 use Rattle.spec_events.specs.Histories.{after}
 use Rattle.spec_events.specs.Logged.{is_cut, is_dump, is_stored, is_failed}
 use Rattle.spec_dumps.specs.Fronts.{persisted, stands_at, event_at, at_cut, cut_behind, last_cut, number_of_cut, number_at, place_of_note, IsNotedBy, IsFront, Loads}
-use Rattle.spec_dumps.proofs.Lists.{got_on}
 
 -- each note stands before an entry, or at the start
 abbrev pub ArePlaced : List Entry → List Note → Type 0
@@ -45,10 +46,6 @@ pub last_cut_first : (h : List Entry) (place : ℕ) → place ≡ 0 → last_cut
 last_cut_first h place z = ap (λ p. last_cut (take p h)) z ∙ last_cut_none
 
 -- The last Cut is one of the entries.
-
-one_short : (b : Bool) → (if b then 1 else 0) ≤ 1
-one_short true = omega arith
-one_short false = omega arith
 
 pub last_cut_short : (h : List Entry) → last_cut h ≤ length h
 unfolding last_cut

@@ -5,6 +5,8 @@ use Rattle.std.specs.Option.{option_map, option_map_or}
 use Rattle.std.proofs.lemmas.List.{take_all, take-append-le}
 use Rattle.std.proofs.lemmas.Option.{slice_get_within, slice_get_past}
 use Rattle.std.proofs.lemmas.Bool.{cases_lt}
+use Rattle.laws.proofs.Lists.{length_last}
+use Rattle.laws.proofs.Places.{got_last, got_on, got_past}
 use Rattle.muck_model.specs.declared.event.Entry.{Entry}
 use Rattle.muck_model.specs.declared.event.Event.{Event}
 use Rattle.muck_model.specs.declared.event.Event.TheVariants.{Cut, DumpFailed}
@@ -15,7 +17,6 @@ use Rattle.spec_events.specs.Logged.{is_dump, is_stored, is_failed}
 use Rattle.spec_dumps.specs.Fronts.{stands_at, event_at, at_cut, place_of_note, IsFront, Loads, Overflows}
 use Rattle.spec_dumps.specs.Survival.{until, AllNoted, Survives, HasCause, AllCaused, IsDelta, AllDeltas, HasNumber, AllNumbered, AllRise}
 use Rattle.spec_dumps.specs.inner.Holding.{IsAt, IsCounted}
-use Rattle.spec_dumps.proofs.Lists.{got_on, got_last, got_past, length_last}
 use Rattle.spec_dumps.proofs.Fronts.{ArePlaced, stands_on, event_on, event_off, place_on, note_within, front_on, front_later, front_beside, loads_by}
 
 -- the stretch of a note that was there ends where it did

@@ -2,6 +2,8 @@
 use Rattle.std.proofs.Common.{◌≡◌, inl, inr, ℕ, ◌<◌, ◌≤◌, true, ◌||◌, zero, suc, List, [], ◌∷◌, length, take, refl, ap, sym, ◌∙◌, subst, arith, Some, None}
 use Rattle.std.specs.Prelude.{slice_get}
 use Rattle.std.proofs.lemmas.List.{take-append-le}
+use Rattle.laws.proofs.Lists.{length_last}
+use Rattle.laws.proofs.Places.{got_last}
 use Rattle.muck_model.specs.declared.event.Entry.{Entry}
 use Rattle.muck_model.specs.declared.event.Event.{Event}
 use Rattle.muck_model.specs.declared.event.Event.TheVariants.{Stored}
@@ -16,7 +18,6 @@ use Rattle.spec_events.specs.Logged.{is_cut, is_stored, is_failed}
 use Rattle.spec_dumps.specs.Fronts.{persisted, last_cut, at_cut, number_at, IsNotedBy, IsFront, Loads, Fits, dumped_on, file_most}
 use Rattle.spec_dumps.specs.Survival.{AllNoted, HoldsAt, HoldsBy, IsDelta, StandsWhole}
 use Rattle.spec_dumps.specs.inner.Holding.{IsAt, IsCounted, Keeps, Rests, IsDumped}
-use Rattle.spec_dumps.proofs.Lists.{got_last, length_last}
 use Rattle.spec_dumps.proofs.Fronts.{note_within, noted_on, number_on, last_cut_short, last_cut_taken, last_cut_front, last_cut_stands}
 use Rattle.spec_dumps.proofs.Moving.{safe_moved, held_still, held_now, held_noted}
 use Rattle.spec_dumps.proofs.Noting.{front_noted, survives_noted, caused_noted, deltas_noted, numbered_noted, rise_noted, stands_within}

@@ -6,6 +6,7 @@ use Rattle.std.specs.Option.{option_map}
 use Rattle.std.specs.Ordering.{int_eq}
 use Rattle.std.proofs.lemmas.Bool.{cond-false, or_right, eq-eqb}
 use Rattle.std.proofs.lemmas.Cmp.{int_eq_equiv}
+use Rattle.laws.proofs.Truths.{due_of, lost_gone, slice_there}
 use Rattle.muck_model.specs.declared.event.Event.TheVariants.{Claim, Slice, Lost}
 use Rattle.muck_queue.specs.declared.claim.Claim.{Claim as Claimed}
 use Rattle.muck_queue.specs.declared.process.Process.{Process}
@@ -89,11 +90,6 @@ slice_may w party pid a e =
     let mine = last_any (λ c. is_on pid c && (c.party == party)) (record { number = pid; party = party }) w.queue.claims on in
     cond-false _ _ _ a ∙ ap (λ b. b && is_some (find (has_pid pid) w.queue.processes)) mine ∙ there_any (is_due w.moment w.queue.claims) pid w.queue.processes e
 
-due_of : (dead stop b : Bool) → dead ≡ false → cond dead false (b && not stop) ≡ true → b ≡ true
-due_of true stop b a e = cc
-due_of false stop true a e = refl
-due_of false stop false a e = e
-
 alive_of : (dead stop : Bool) (moment : ℕ) (q : Queue) (pid : ℤ) → cond (dead || stop) None (next_due moment q) ≡ Some pid → dead ≡ false
 alive_of true stop moment q pid e = cc
 alive_of false stop moment q pid e = refl
@@ -106,14 +102,6 @@ chosen_lawful w party pid e =
     slice_may w party pid (alive_of w.dead w.stopping w.moment w.queue pid e) (due_of w.dead w.stopping _ (alive_of w.dead w.stopping w.moment w.queue pid e) (claim_may w.dead w.stopping w.moment w.queue pid (alive_of w.dead w.stopping w.moment w.queue pid e) e))
 
 -- A process that a party has claimed is sliced, or it ended meanwhile, and then the claim is lost.
-
-slice_there : (dead there claim : Bool) → dead ≡ false → claim ≡ true → there ≡ true → cond dead false (claim && there) ≡ true
-slice_there true there claim a c t = cc
-slice_there false there claim a c t = ap (λ b. b && there) c ∙ t
-
-lost_gone : (dead there claim : Bool) → dead ≡ false → claim ≡ true → there ≡ false → cond dead false (claim && not there) ≡ true
-lost_gone true there claim a c t = cc
-lost_gone false there claim a c t = ap (λ b. b && not there) c ∙ ap not t
 
 pub slice_lawful : (w : World) (party : ℕ) (pid : ℤ) → w.dead ≡ false → has_claim party pid w ≡ true → is_there pid w ≡ true → is_lawful w (record { party = party; event = Slice pid }) ≡ true
 unfolding is_lawful

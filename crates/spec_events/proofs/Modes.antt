@@ -1,11 +1,12 @@
 -- What becomes of the mode and the section of a process in changes of a queue, and of a world.
-use Rattle.std.proofs.Common.{◌≡◌, ℕ, ℤ, pos, ◌+ℤ◌, ◌≤ℤ◌, ◌<ℤ◌, suc, Bool, true, false, not, cond, List, [], ◌∷◌, ◌++◌, map, refl, sym, ◌∙◌, ap, subst, arith, Option, Some, None, Result}
+use Rattle.std.proofs.Common.{◌≡◌, ℕ, ℤ, pos, ◌+ℤ◌, ◌≤ℤ◌, suc, Bool, true, false, not, cond, List, [], ◌∷◌, ◌++◌, map, refl, sym, ◌∙◌, ap, subst, arith, Option, Some, None, Result}
 use Rattle.std.specs.Prelude.{find}
 use Rattle.std.specs.List.{filter}
 use Rattle.std.specs.Option.{option_map, option_map_or}
 use Rattle.std.specs.Ordering.{int_eq}
 use Rattle.std.proofs.lemmas.Bool.{cond_both}
 use Rattle.std.proofs.lemmas.Int.{ints}
+use Rattle.laws.proofs.Numbers.{above_not, int_at_most, same_pid}
 use Rattle.muck_model.specs.declared.dbref.Dbref.{Dbref}
 use Rattle.spec_live.specs.declared.mark.Mark.{Mark}
 use Rattle.spec_live.specs.declared.mark.Mark.TheVariants.{Lines, Gone}
@@ -78,19 +79,10 @@ numbered_added p q h = rises_added (pos 0) q.last q.processes p h
 
 -- Queues.
 
-pub same_pid : (m n : ℤ) → int_eq m n ≡ true → m ≡ n
-same_pid m n e = grind (arith, ints)
-
-above_not : (pid low m : ℤ) → pid ≤ℤ low → low <ℤ m → int_eq m pid ≡ false
-above_not pid low m h k = grind (arith, ints)
-
 none_above : (pid low last : ℤ) (ps : List Process) → pid ≤ℤ low → Rises low last ps → find (has_pid pid) ps ≡ None
 none_above pid low last [] h r = refl
 none_above pid low last (p ∷ ps) h r =
     ap (λ b. cond b (Some p) (find (has_pid pid) ps)) (above_not pid low p.number h r.0) ∙ none_above pid p.number last ps (omega (arith, ints, h, r.0)) r.1
-
-at_most : (m n : ℤ) → m ≡ n → n ≤ℤ m
-at_most m n e = omega (arith, ints)
 
 module _ (K : Mode → ℕ → Type 0) (pid : ℤ) where
   -- one that isn't looked for stands before the others
@@ -101,7 +93,7 @@ module _ (K : Mode → ℕ → Type 0) (pid : ℤ) where
   -- one that is gone is none of the others
   gone_one : (p : Process) (last : ℤ) (ps rs : List Process) (b : Bool) → has_pid pid p ≡ b → Rises p.number last rs → (Holds K (find (has_pid pid) ps) → Holds K (find (has_pid pid) rs)) →
       Holds K (cond b (Some p) (find (has_pid pid) ps)) → Holds K (find (has_pid pid) rs)
-  gone_one p last ps rs true e r f h = subst (Holds K) (sym (none_above pid p.number last rs (at_most p.number pid (same_pid p.number pid e)) r)) tt
+  gone_one p last ps rs true e r f h = subst (Holds K) (sym (none_above pid p.number last rs (int_at_most p.number pid (same_pid p.number pid e)) r)) tt
   gone_one p last ps rs false e r f h = f h
 
   kept_holds : (test : Process → Bool) (low last : ℤ) (ps : List Process) → Rises low last ps → Holds K (find (has_pid pid) ps) → Holds K (find (has_pid pid) (filter test ps))

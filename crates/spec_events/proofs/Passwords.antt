@@ -5,6 +5,7 @@ use Rattle.std.proofs.lemmas.Option.{none-some}
 use Rattle.std.proofs.lemmas.List.Elements.{All-head, All-tail}
 use Rattle.std.specs.Prelude.{All, find, codes, ltb}
 use Rattle.std.specs.Option.{option_map, option_and_then}
+use Rattle.laws.proofs.Numbers.{apart, less_apart, other_apart, same_numbers}
 use Rattle.muck_model.specs.declared.dbref.Dbref.{Dbref}
 use Rattle.muck_model.specs.declared.tune.Tune.{Tune}
 use Rattle.muck_model.specs.declared.edit.EditState.{EditState}
@@ -42,7 +43,7 @@ use Rattle.spec_events.proofs.Quietly.{quiet_told_each}
 use Rattle.spec_events.proofs.Login.{greeted, greeted_open}
 use Rattle.spec_events.proofs.Done.{player-same_ties}
 use Rattle.spec_events.proofs.Happening.{effect-board}
-use Rattle.spec_events.proofs.Reached.{rising-happened, apart}
+use Rattle.spec_events.proofs.Reached.{rising-happened}
 use Rattle.spec_events.proofs.Turns.{all_licensed_booted, all_licensed_starting}
 
 abbrev player_found : ℕ → List Connection → Option Dbref
@@ -76,9 +77,6 @@ kept_changed e d f number player (c ∷ cs) = at (has_number d c) (kept_changed 
     at false h = there (c.number == e) h
 
 -- Connections that come, get a player, or go.
-
-same_numbers : (n e d : ℕ) → (n == e) ≡ true → (n == d) ≡ true → e ≡ d
-same_numbers n e d s r = grind (arith, nat_tests)
 
 seated_found : (e d : ℕ) (player p : Dbref) (cs : List Connection) → player_found e (changed_in d (seated player) cs) ≡ Some p → (player_found e cs ≡ Some p) ⊎ ((e ≡ d) × (p ≡ player))
 seated_found e d player p [] h = inl h
@@ -133,12 +131,6 @@ above_found n e p (c ∷ cs) a h = at (c.number == e) refl (above_found n e p cs
         above : (m e : ℕ) → n < m → (m == e) ≡ true → n < e
         above m e less s = grind (arith, nat_tests)
     at false s next k = next k
-
-less_apart : (n d e : ℕ) → (n == d) ≡ true → n < e → d ≢ e
-less_apart n d e s h x = grind (arith, nat_tests)
-
-other_apart : (n d e : ℕ) → (n == d) ≡ false → (n == e) ≡ true → d ≢ e
-other_apart n d e s r x = grind (arith, nat_tests)
 
 without_found : (e d : ℕ) (p : Dbref) (cs : List Connection) → IsRising cs → player_found e (without d cs) ≡ Some p → (player_found e cs ≡ Some p) × (d ≢ e)
 without_found e d p [] r h = absurd (none-some p h)

@@ -1,9 +1,11 @@
 -- Lawful entries lead from sound worlds to sound worlds.
 use Rattle.std.proofs.Common.{◌≡◌, ℕ, ◌<◌, ◌≤◌, Bool, true, false, not, ◌&&◌, ◌||◌, cond, List, [], ◌∷◌, length, refl, sym, ◌∙◌, ap, subst, arith, Option, Some, None, ltb, ◌==◌, ◌≢◌}
 use Rattle.std.proofs.lemmas.Bool.Decides.{nat_tests}
-use Rattle.std.proofs.lemmas.Bool.{cond-true, cond-false, ltb-true, ltb-false, and_parts, eq-eqb}
+use Rattle.std.proofs.lemmas.Bool.{cond-true, cond-false, and_parts, eq-eqb}
 use Rattle.std.specs.Prelude.{find, is_none, is_some, nat_lt, nat_le}
 use Rattle.std.specs.Option.{option_map, option_map_or}
+use Rattle.laws.proofs.Numbers.{apart, differs, test_of_less}
+use Rattle.laws.proofs.Options.{none_of, some_none}
 use Rattle.muck_model.specs.declared.event.Entry.{Entry}
 use Rattle.muck_model.specs.declared.event.Event.{Event}
 use Rattle.muck_model.specs.declared.event.Event.TheVariants.{Opened, Input, Closed, Moment, Exec, Slice, Idle, Take, Stored, DumpFailed, Halt, Died}
@@ -36,20 +38,6 @@ use Rattle.spec_events.proofs.Taken.{sliced_going}
 use Rattle.spec_events.proofs.Happening.{effect-board}
 use Rattle.spec_events.proofs.Living.{dead-effect}
 use Rattle.spec_events.proofs.Turns.{gone_away_untouched}
-
-cases_lt : (m n : ℕ) (P : Bool → Type 0) → (m < n → P true) → (n ≤ m → P false) → P (ltb m n)
-cases_lt m n P p q =
-    (elim (ltb m n) as (λ b. ltb m n ≡ b → P b) [ true ↦ λ e. p (ltb-true m n e) | false ↦ λ e. q (ltb-false m n e) ]) refl
-
-differs : (m n : ℕ) → m ≤ n → (m == n) ≡ false → m < n
-differs m n le e = grind (arith, nat_tests)
-
-some_none : {X : Type 0} (x : X) → ◌≡◌ {A = Option X} (Some x) None → ⊥
-some_none x e = cc
-
-none_of : {X : Type 0} (o : Option X) → is_none o ≡ true → o ≡ None
-none_of None e = refl
-none_of (Some x) e = cc
 
 -- Connections that come and go.
 
@@ -91,7 +79,7 @@ rising-placed new (c ∷ cs) = λ none h.
       | false ↦ λ e. refl
     ]) none in
     let rest : find (has_number new.number) cs ≡ None = sym (cond-false _ _ _ other) ∙ none in
-    cases_lt new.number c.number
+    test_of_less new.number c.number
     (λ b. IsRising (cond b (new ∷ c ∷ cs) (c ∷ placed new cs)))
     (λ less. ((less, above_more new.number c.number cs less h.0), h))
     (λ le. (above-placed c.number new cs (differs c.number new.number le other) h.0, rising-placed new cs rest h.1))
@@ -170,9 +158,6 @@ found_above p n (x ∷ xs) c = λ h.
       | true ↦ λ e. let one : x ≡ c = cc in omega (arith, h.0, ap (λ (k : Connection). k.number) one)
       | false ↦ λ e. found_above p n xs c h.1 e
     ]
-
-pub apart : (m n : ℕ) → m < n → (m == n) ≡ false
-apart m n h = grind (arith, nat_tests)
 
 -- where a connection is found to be free, it is the one of its number
 free_found : (p : Connection → Bool) (cs : List Connection) (c : Connection) → IsRising cs → find p cs ≡ Some c → (find (has_number c.number) cs ≡ Some c) × (p c ≡ true)

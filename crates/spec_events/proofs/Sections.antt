@@ -2,6 +2,7 @@
 use Rattle.std.proofs.Common.{◌≡◌, ◌⊎◌, inl, inr, ℕ, zero, suc, ◌+◌, ◌<◌, ◌≤◌, ℤ, Bool, true, false, not, ◌&&◌, cond, nat_le, nat_lt, List, [], ◌∷◌, length, refl, sym, ◌∙◌, ap, subst, arith, Option, Some, None, Result, Ok, Err}
 use Rattle.std.specs.Option.{option_map, option_map_or, option_and_then}
 use Rattle.std.proofs.lemmas.Bool.{cond_both, cond-true, leb-false, le-leb}
+use Rattle.laws.proofs.Truths.{not_through}
 use Rattle.muck_model.specs.declared.dbref.Dbref.{Dbref}
 use Rattle.muck_model.specs.declared.tune.Tune.{Tune}
 use Rattle.spec_rights.specs.declared.act.Actor.{Actor}
@@ -167,10 +168,6 @@ within_section : (b c : Bool) (spent : Bool) → cond (b && c) (Some PreemptTooL
 within_section true true spent h e = absurd cc
 within_section true false spent h e = refl
 within_section false c spent h e = absurd cc
-
-not_through : (b c : Bool) → (not b && c) ≡ false → b ≡ false → c ≡ false
-not_through true c h e = absurd cc
-not_through false c h e = h
 
 -- a unit that may be taken leaves what the section needs
 counted_may : (all section n : ℕ) (b : Bool) → (b ≡ true → suc (more 0 all) ≤ section + suc n) → (b ≡ true → section < more 0 all) → (b ≡ false → suc all < suc n) →

@@ -7,6 +7,9 @@ use Rattle.std.specs.List.{filter, list_any}
 use Rattle.std.specs.Option.{option_and_then, option_map, option_map_or}
 use Rattle.std.specs.Ordering.{int_eq}
 use Rattle.std.proofs.lemmas.Bool.{cond_both}
+use Rattle.laws.proofs.Options.{none_some}
+use Rattle.laws.proofs.Places.{get_nil}
+use Rattle.laws.proofs.Truths.{never}
 use Rattle.muck_model.specs.declared.dbref.Dbref.{Dbref}
 use Rattle.spec_live.specs.declared.mark.Mark.{Mark}
 use Rattle.spec_live.specs.declared.mark.Mark.TheVariants.{Lines, Gone}
@@ -53,13 +56,7 @@ pub each_changed : (Q : Process → Type 0) (test : Process → Bool) (f : Proce
 each_changed Q test f k [] h = tt
 each_changed Q test f k (p ∷ ps) h = cond_both (test p) (f p ∷ ps) (p ∷ changed_first test f ps) (Each Q) (λ e. (k p h.0, h.1)) (λ e. (h.0, each_changed Q test f k ps h.1))
 
-never : false ≡ true → ⊥
-never e = cc
-
 -- Forms.
-
-some_none : {X : Type 0} (x : X) → ◌≡◌ {A = Option X} None (Some x) → ⊥
-some_none x e = cc
 
 itself_none : (o : Option (Option Tree)) → option_and_then itself (option_map (λ form. None) o) ≡ None
 itself_none None = refl
@@ -80,33 +77,28 @@ form_left d e library tree = at (index_of d) (index_of e)
   where
     kept : (n m : ℕ) → option_and_then itself (slice_get (changed_at m (λ form. None) library) n) ≡ Some tree → option_and_then itself (slice_get library n) ≡ Some tree
     kept n m h = elim (cases_eq n m) [
-      | inl k ↦ absurd (some_none tree (sym (subst (λ i. option_and_then itself (slice_get (changed_at m (λ form. None) library) i) ≡ None) (sym k) (ap (option_and_then itself) (get_changed_same library m (λ form. None)) ∙ itself_none (slice_get library m))) ∙ h))
+      | inl k ↦ absurd (none_some tree (sym (subst (λ i. option_and_then itself (slice_get (changed_at m (λ form. None) library) i) ≡ None) (sym k) (ap (option_and_then itself) (get_changed_same library m (λ form. None)) ∙ itself_none (slice_get library m))) ∙ h))
       | inr k ↦ ap (option_and_then itself) (sym (get_changed_other library m n (λ form. None) k)) ∙ h
     ]
 
     at : (o r : Option ℕ) → option_and_then (λ n. option_and_then itself (slice_get (option_map_or (λ n. changed_at n (λ form. None) library) r library) n)) o ≡ Some tree → option_and_then (λ n. option_and_then itself (slice_get library n)) o ≡ Some tree
-    at None r h = absurd (some_none tree h)
+    at None r h = absurd (none_some tree h)
     at (Some n) None h = h
     at (Some n) (Some m) h = kept n m h
-
--- one that is kept is there, and the others are those that were
-get_nil : {X : Type 0} (n : ℕ) → ◌≡◌ {A = Option X} (slice_get [] n) None
-get_nil zero = refl
-get_nil (suc n) = refl
 
 placed_by : (n m : ℕ) (new tree : Tree) (library : Library) → option_and_then itself (slice_get (with_form m new library) n) ≡ Some tree → ((n ≡ m) × (new ≡ tree)) ⊎ (option_and_then itself (slice_get library n) ≡ Some tree)
 placed_by zero zero new tree [] h = inl (refl, let e : ◌≡◌ {A = Option Tree} (Some new) (Some tree) = h in cc)
 placed_by zero zero new tree (form ∷ forms) h = inl (refl, let e : ◌≡◌ {A = Option Tree} (Some new) (Some tree) = h in cc)
 placed_by (suc n) zero new tree [] h = inr h
 placed_by (suc n) zero new tree (form ∷ forms) h = inr h
-placed_by zero (suc m) new tree [] h = absurd (some_none tree h)
+placed_by zero (suc m) new tree [] h = absurd (none_some tree h)
 placed_by zero (suc m) new tree (form ∷ forms) h = inr h
-placed_by (suc n) (suc m) new tree [] h = elim (placed_by n m new tree [] h) [ inl k ↦ inl (ap suc k.0, k.1) | inr k ↦ absurd (some_none tree (sym (ap (option_and_then itself) (get_nil n)) ∙ k)) ]
+placed_by (suc n) (suc m) new tree [] h = elim (placed_by n m new tree [] h) [ inl k ↦ inl (ap suc k.0, k.1) | inr k ↦ absurd (none_some tree (sym (ap (option_and_then itself) (get_nil n)) ∙ k)) ]
 placed_by (suc n) (suc m) new tree (form ∷ forms) h = elim (placed_by n m new tree forms h) [ inl k ↦ inl (ap suc k.0, k.1) | inr k ↦ inr k ]
 
 number_back : (z : ℤ) (n : ℕ) → index_at z ≡ Some n → z ≡ pos n
 number_back (pos m) n e = let q : ◌≡◌ {A = Option ℕ} (Some m) (Some n) = e in cc
-number_back (negsuc m) n e = absurd (some_none n e)
+number_back (negsuc m) n e = absurd (none_some n e)
 
 number_same : (d e : Dbref) (n m : ℕ) → index_of d ≡ Some n → index_of e ≡ Some m → n ≡ m → d ≡ e
 number_same d e n m h k s =
@@ -119,7 +111,7 @@ form_placed d e new tree library = at (index_of d) (index_of e) refl refl
   where
     at : (o r : Option ℕ) → index_of d ≡ o → index_of e ≡ r → option_and_then (λ n. option_and_then itself (slice_get (option_map_or (λ n. with_form n new library) r library) n)) o ≡ Some tree →
         ((d ≡ e) × (new ≡ tree)) ⊎ (option_and_then (λ n. option_and_then itself (slice_get library n)) o ≡ Some tree)
-    at None r s t h = absurd (some_none tree h)
+    at None r s t h = absurd (none_some tree h)
     at (Some n) None s t h = inr h
     at (Some n) (Some m) s t h = elim (placed_by n m new tree library h) [ inl k ↦ inl (number_same d e n m s t k.0, k.1) | inr k ↦ inr k ]
 
@@ -154,7 +146,7 @@ module _ (B : Dbref → List (List ℕ) → Tree → Type 0) where
     where
       at : (o : Option Tree) → form_at d new ≡ o → o ≡ None
       at None h = refl
-      at (Some tree) h = absurd (some_none tree (sym e ∙ f d tree h))
+      at (Some tree) h = absurd (none_some tree (sym e ∙ f d tree h))
 
   swept_none : (n k : ℕ) (es : List Entry) (w : World) → is_marked k es ≡ true → form_at (dbref_of (n + k)) (swept n es w).library ≡ None
   unfolding swept
@@ -220,7 +212,7 @@ module _ (B : Dbref → List (List ℕ) → Tree → Type 0) where
         (d : Dbref) (tree : Tree) → form_at d (swept 0 w.live.objects w).library ≡ Some tree → B d (source_in w.live.objects d) tree
     settled_forms h d tree e = elim (lined d) [
       | inl s ↦ subst (λ lines. B d lines tree) (sym s) (h d tree (swept_fewer 0 w.live.objects w d tree e))
-      | inr m ↦ absurd (some_none tree (sym (subst (λ x. form_at x (swept 0 w.live.objects w).library ≡ None) (sym m.1) (subst (λ k. form_at (dbref_of k) (swept 0 w.live.objects w).library ≡ None) (zero_first m.0) (swept_none 0 m.0 w.live.objects w m.2))) ∙ e))
+      | inr m ↦ absurd (none_some tree (sym (subst (λ x. form_at x (swept 0 w.live.objects w).library ≡ None) (sym m.1) (subst (λ k. form_at (dbref_of k) (swept 0 w.live.objects w).library ≡ None) (zero_first m.0) (swept_none 0 m.0 w.live.objects w m.2))) ∙ e))
     ]
 
     -- one that is in no program of which something is to be told

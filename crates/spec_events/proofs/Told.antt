@@ -2,6 +2,7 @@
 use Rattle.std.proofs.Common.{◌≡◌, ℕ, Bool, true, false, List, [], refl, sym, ◌∙◌, ap, subst, Option, Some, None, arith}
 use Rattle.std.specs.Prelude.{map, if◌then◌else◌}
 use Rattle.std.specs.Option.{option_map, option_map_or, option_and_then}
+use Rattle.laws.proofs.Places.{read_mapped}
 use Rattle.muck_model.specs.declared.dbref.Dbref.{Dbref}
 use Rattle.muck_model.specs.declared.dbref.Kind.TheVariants.{Garbage}
 use Rattle.spec_live.specs.declared.object.Object.{Object}
@@ -10,7 +11,6 @@ use Rattle.spec_live.specs.Marks.{unmarked}
 use Rattle.spec_live.specs.Lives.{Live, on_objects}
 use Rattle.spec_rights.specs.declared.act.Actor.{Actor}
 use Rattle.spec_rights.specs.Licence.{Freedom, Reordered, front_open, Licensed, Differs}
-use Rattle.spec_live.proofs.Lists.{read_mapped}
 use Rattle.spec_live.proofs.Steps.{Walk}
 use Rattle.spec_live.proofs.Walks.{walk_told}
 use Rattle.spec_live.proofs.Entries.{fewer_walk}

@@ -1,11 +1,12 @@
 -- Whose connections came or went by a line, by a slice and by a connection that goes.
-use Rattle.std.proofs.Common.{◌≡◌, ℕ, ◌<◌, ◌≤◌, ℤ, pos, negsuc, Bool, true, false, cond, not, ◌&&◌, ◌||◌, ◌==◌, ltb, List, [], ◌∷◌, map, length, refl, sym, ◌∙◌, ap, subst, arith, Option, Some, None, inl, inr, ◌⊎◌}
+use Rattle.std.proofs.Common.{◌≡◌, ℕ, ◌<◌, ◌≤◌, ℤ, pos, negsuc, Bool, true, false, cond, not, ◌&&◌, ◌||◌, ◌==◌, ltb, List, [], ◌∷◌, map, length, refl, sym, ◌∙◌, ap, subst, Option, Some, None, inl, inr, ◌⊎◌}
 use Rattle.std.proofs.lemmas.Bool.{ltb-true, lt-ltb, false≢true, cond-true, cond-false}
-use Rattle.std.proofs.lemmas.Bool.Decides.{nat_tests}
 use Rattle.std.proofs.lemmas.List.Elements.{All-head, All-tail}
 use Rattle.std.specs.Prelude.{All, find, codes}
 use Rattle.std.specs.List.{list_any}
 use Rattle.std.specs.Option.{option_map_or, option_and_then}
+use Rattle.laws.proofs.Numbers.{beyond_turning}
+use Rattle.laws.proofs.Truths.{and_false, and_true, never_turning, or_assoc, or_swap}
 use Rattle.muck_model.specs.declared.dbref.Dbref.{Dbref}
 use Rattle.muck_model.specs.declared.edit.EditState.{EditState}
 use Rattle.muck_model.specs.declared.event.Event.TheVariants.{Closed, Exec, Slice}
@@ -134,16 +135,6 @@ abbrev IsFree : ℕ → Seats → Type 0
 IsFree d [] = ⊥
 IsFree d (x ∷ xs) = (((x.0 == d) ≡ true) × (x.1 ≡ None)) ⊎ (((x.0 == d) ≡ false) × IsFree d xs)
 
-or_swap : (a b : Bool) → (a || b) ≡ (b || a)
-or_swap true true = refl
-or_swap true false = refl
-or_swap false true = refl
-or_swap false false = refl
-
-or_assoc : (a b c : Bool) → (a || (b || c)) ≡ ((a || b) || c)
-or_assoc true b c = refl
-or_assoc false b c = refl
-
 -- then the seats of a player are those that it had, and that one
 sits_any : (q p : Dbref) (d : ℕ) (xs : Seats) → IsFree d xs → has_seat q (sit d p xs) ≡ (has_seat q xs || same q p)
 sits_any q p d [] h = absurd h
@@ -194,21 +185,10 @@ rises_of : (cs : List Connection) → IsRising cs → Rises (seats_of cs)
 rises_of [] h = tt
 rises_of (c ∷ cs) h = (above_of c.number cs h.0, rises_of cs h.1)
 
-beyond : (n d : ℕ) (m : ℕ) → (n == d) ≡ true → n < m → (m == d) ≡ false
-beyond n d m e lt = grind (arith, nat_tests)
-
-and_true : (b : Bool) → (b && true) ≡ b
-and_true true = refl
-and_true false = refl
-
-and_false : (b : Bool) → (b && false) ≡ false
-and_false true = refl
-and_false false = refl
-
 beside_above : (n d : ℕ) (p : Dbref) (xs : Seats) → (n == d) ≡ true → Above n xs → seat_beside d p xs ≡ has_seat p xs
 beside_above n d p [] e h = refl
 beside_above n d p (x ∷ xs) e h =
-    ap (λ b. (option_map_or (same p) x.1 false && not b) || seat_beside d p xs) (beyond n d x.0 e h.0) ∙ ap (λ b. b || seat_beside d p xs) (and_true (option_map_or (same p) x.1 false))
+    ap (λ b. (option_map_or (same p) x.1 false && not b) || seat_beside d p xs) (beyond_turning n d x.0 e h.0) ∙ ap (λ b. b || seat_beside d p xs) (and_true (option_map_or (same p) x.1 false))
     ∙ ap (λ b. option_map_or (same p) x.1 false || b) (beside_above n d p xs e h.1)
 
 -- who sits down there is alone where it had no seat
@@ -222,11 +202,6 @@ sits_alone p d (x ∷ xs) r (inr h) =
     ∙ ap (λ b. b || seat_beside d p (sit d p xs)) (and_true (option_map_or (same p) x.1 false)) ∙ ap (λ b. option_map_or (same p) x.1 false || b) (sits_alone p d xs r.1 h.1)
 
 -- What turned.
-
-never : (a b : Bool) → a ≡ b → (b && not a) ≡ false
-never true b e = and_false b
-never false false e = refl
-never false true e = absurd (false≢true e)
 
 abbrev at_number : ℤ → Dbref
 at_number z = record { 0 = z }
@@ -243,7 +218,7 @@ module _ (w v : Live) (stood : (n : ℕ) → stood_in v.objects n ≡ stands_in 
   alike_turns : seats v ≡ seats w → Turns Nobody w v
   alike_turns e =
       let same_seats : (q : Dbref) → is_connected q v ≡ is_connected q w = λ q. connected_is q v.board.connections ∙ ap (has_seat q) e ∙ sym (connected_is q w.board.connections) in
-      record { below = tt; gone = λ n lt. never _ _ (same_seats (dbref_of n)); come = λ n lt. never _ _ (sym (same_seats (dbref_of n))); stood = stood }
+      record { below = tt; gone = λ n lt. never_turning _ _ (same_seats (dbref_of n)); come = λ n lt. never_turning _ _ (sym (same_seats (dbref_of n))); stood = stood }
 
   -- The player p sits down at d.
   module _ (d : ℕ) (p : Dbref) (rises : Rises (seats w)) (free : IsFree d (seats w)) (e : seats v ≡ sit d p (seats w)) where

@@ -1,9 +1,10 @@
 -- What a process makes of many units at once.
-use Rattle.std.proofs.Common.{◌≡◌, ℕ, zero, suc, ◌-◌, ◌<◌, ◌≤◌, min, Bool, true, false, not, ◌&&◌, cond, nat_le, List, [], ◌∷◌, map, refl, sym, ◌∙◌, ap, subst, arith, Option, Some, None}
-use Rattle.std.proofs.lemmas.Bool.{cond-true, cond-false, lt-leb, le-leb, leb-false}
+use Rattle.std.proofs.Common.{◌≡◌, ℕ, zero, suc, ◌-◌, ◌<◌, ◌≤◌, min, Bool, true, false, ◌&&◌, cond, nat_le, List, [], ◌∷◌, map, refl, sym, ◌∙◌, ap, subst, arith, Option, Some, None}
+use Rattle.std.proofs.lemmas.Bool.{cond-true, cond-false, lt-leb, le-leb}
 use Rattle.std.proofs.Math.Nat.{min-le_left, min-le_right}
 use Rattle.std.specs.Prelude.{ℤ}
 use Rattle.std.specs.Option.{option_map, option_map_or, option_and_then}
+use Rattle.laws.proofs.Numbers.{clear_by, some_of, third_zero, through_not}
 use Rattle.muck_model.specs.declared.dbref.Dbref.{Dbref}
 use Rattle.muck_model.specs.declared.tune.Tune.{Tune}
 use Rattle.spec_live.specs.Objects.{Entry}
@@ -214,10 +215,6 @@ may_of tune level left m x h =
     let d = min-le_right (unbroken tune left x) (unspent tune level left x) in
     record { by_left = omega (arith, a, h); by_section = omega (arith, b, c, h); by_level = omega (arith, b, d, h) }
 
-through_not : (b : Bool) (all most section left : ℕ) → 1 ≤ cond b (most - section) (left - suc all) → (not b && nat_le left (suc all)) ≡ false
-through_not true all most section left h = refl
-through_not false all most section left h = lt-leb left (suc all) (omega (arith, h))
-
 limit_not : (b : Bool) (all most section : ℕ) (spent : Option ℕ) (before left : ℕ) → 1 ≤ cond b (most - section) (left - suc all) → 1 ≤ option_map_or (λ n. n - before) spent left →
     cond (b && nat_le most section) (Some PreemptTooLong) (cond (are_spent spent before) (Some TooManyUnits) None) ≡ None
 limit_not true all most section None before left h k = cond-false _ _ _ (lt-leb most section (omega (arith, h)))
@@ -240,9 +237,6 @@ may_less tune level left m x h = record {
   by_section = unbroken_less (is_preempt x.mode) tune.preempt_units (section_most tune) x.section left m h.by_section;
   by_level = unspent_less (units_most tune level) x.units left m h.by_level;
 }
-
-some_of : (m k : ℕ) → suc m ≤ k → 1 ≤ k
-some_of m k h = omega (arith, h)
 
 may_through : (tune : Tune) (level left m : ℕ) (x : Agent) → May tune level left (suc m) x → is_through tune left x ≡ false
 may_through tune level left m x h = through_not (is_preempt x.mode) tune.preempt_units (section_most tune) x.section left (some_of m _ h.by_section)
@@ -331,19 +325,11 @@ met_by : (b c : Bool) → (c ≡ false → b ≡ true) → cond c (Some PreemptT
 met_by b true h = refl
 met_by b false h = cond-true _ _ _ (h refl)
 
--- some could be taken by the section and by the slice
-clear_by : (b : Bool) (all most section left : ℕ) → (not b && nat_le left (suc all)) ≡ false → (b && nat_le most section) ≡ false → 0 < cond b (most - section) (left - suc all)
-clear_by true all most section left h k = let less = leb-false most section k in omega (arith, less)
-clear_by false all most section left h k = let less = leb-false left (suc all) h in omega (arith, less)
-
-none_of_three : (a b c : ℕ) → 0 < a → 0 < b → min a (min b c) ≡ 0 → c ≡ 0
-none_of_three a b c h k e = omega (arith, h, k, e)
-
 pub allowed_none : (tune : Tune) (level left : ℕ) (x : Agent) → 0 < left → is_through tune left x ≡ false → allowed tune level left x ≡ 0 → limit_fault tune level x ≡ Some (limit_met tune x)
 allowed_none tune level left x some on_it none =
     met_by (are_spent (units_most tune level) x.units) (is_preempt x.mode && nat_le (section_most tune) x.section) (λ e.
     is_spent (units_most tune level) x.units left some
-    (none_of_three left (unbroken tune left x) (unspent tune level left x) some (clear_by (is_preempt x.mode) tune.preempt_units (section_most tune) x.section left on_it e) none))
+    (third_zero left (unbroken tune left x) (unspent tune level left x) some (clear_by (is_preempt x.mode) tune.preempt_units (section_most tune) x.section left on_it e) none))
 
 -- so the process ends by that
 pub finish_met : (tune : Tune) (pid : ℤ) (left : ℕ) (x : Agent) (s : Source) (w : World) → seat pid w ≡ Some (x, s) → 0 < left → is_through tune left x ≡ false → allowed tune (acting x s w.live.objects).level left x ≡ 0 →

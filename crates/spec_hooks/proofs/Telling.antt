@@ -4,6 +4,7 @@ use Rattle.std.proofs.lemmas.Bool.{cases_eq, cases_lt, lt-ltb, le-ltb}
 use Rattle.std.proofs.lemmas.Option.{slice_get_past}
 use Rattle.std.specs.List.{slice_get}
 use Rattle.std.specs.Option.{option_map, option_and_then}
+use Rattle.laws.proofs.Numbers.{zero_first}
 use Rattle.muck_model.specs.declared.dbref.Dbref.{Dbref}
 use Rattle.muck_model.proofs.Dbrefs.{same_eq, eq_same}
 use Rattle.spec_live.specs.declared.moved.Move.{Move}
@@ -211,9 +212,6 @@ module _ (p : Dbref) (k : ℕ) (is : p ≡ dbref_of k) (before after : Live) whe
   ]
 
 -- All of them.
-
-zero_first : (k : ℕ) → k ≡ 0 + k
-zero_first k = omega arith
 
 from_first : (es : List Entry) (k : ℕ) → slice_get es k ≡ slice_get es (0 + k)
 from_first es k = ap (λ (i : ℕ). slice_get es i) (zero_first k)

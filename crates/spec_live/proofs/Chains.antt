@@ -2,7 +2,6 @@
 use Rattle.std.proofs.Common.{◌≡◌, ℕ, ◌<◌, ◌≤◌, zero, suc, List, [], ◌∷◌, Option, Some, None, inl, inr, refl, sym, ◌∙◌, ap, subst, length, arith, true, false, eqb}
 use Rattle.std.proofs.lemmas.Bool.{cases_eq, ne_eqb, eq-eqb, eqb-true, or_cases, false≢true}
 use Rattle.std.proofs.lemmas.Map.Steps.{length-le_from_distinct_below}
-use Rattle.std.specs.Option.{option_eq}
 use Rattle.std.specs.List.{IsDistinct, AllByRecursion, list_any}
 use Rattle.spec_live.specs.Chain.{walk, IsChain, Ends, Member, IsApart, without}
 
@@ -223,11 +222,3 @@ walk_none (suc n) f = refl
 pub member_none : (n : ℕ) (f : ℕ → Option ℕ) (s : Option ℕ) (y : ℕ) → s ≡ None → Member y (walk n f s) → ⊥
 unfolding Member
 member_none n f s y e m = let P : List ℕ → Type 0 = λ l. Member y l in let Q : Option ℕ → Type 0 = λ t. Member y (walk n f t) in subst P (walk_none n f) (subst Q e m)
-
--- tests of a link
-pub leads_true : (o : Option ℕ) (d : ℕ) → option_eq eqb o (Some d) ≡ true → o ≡ Some d
-leads_true None d h = absurd (false≢true h)
-leads_true (Some x) d h = ap (λ z. Some z) (eqb-true x d h)
-
-pub leads_false : (o : Option ℕ) (d : ℕ) → option_eq eqb o (Some d) ≡ false → o ≡ Some d → ⊥
-leads_false o d h e = let P : Option ℕ → Type 0 = λ t. option_eq eqb t (Some d) ≡ false in false≢true (sym (subst P e h) ∙ eq-eqb d d refl)

@@ -2,6 +2,7 @@
 use Rattle.std.proofs.Common.{◌≡◌, ℕ, ◌<◌, ℤ, pos, negsuc, Option, Some, None, Result, Ok, Err, inl, inr, refl, sym, ◌∙◌, ap, subst, length, Bool, true, false, cond, eqb, List}
 use Rattle.std.proofs.lemmas.Bool.{cases_lt, eqb-false, false≢true}
 use Rattle.std.specs.Option.{option_and_then, option_map_or}
+use Rattle.laws.proofs.Options.{kept_some}
 use Rattle.muck_model.specs.declared.dbref.Dbref.{Dbref}
 use Rattle.spec_live.specs.declared.fault.DbFault.{DbFault}
 use Rattle.spec_live.specs.declared.fault.DbFault.TheVariants.{NoSuchObject, WouldLoop, WrongKind}
@@ -14,10 +15,6 @@ use Rattle.spec_live.proofs.Lists.{has_not}
 use Rattle.spec_live.proofs.Readers.{kind_past}
 
 -- A number behind a dbref.
-
-kept_some : (b : Bool) (m n : ℕ) → cond b None (Some m) ≡ Some n → (b ≡ false) × (m ≡ n)
-kept_some true m n h = absurd (cc (h))
-kept_some false m n h = (refl, cc (h))
 
 index_is : (z : ℤ) (n : ℕ) → index_of (record { 0 = z }) ≡ Some n → ◌≡◌ {A = Dbref} (record { 0 = z }) (dbref_of n)
 index_is (pos m) n h = let e : m ≡ n = cc (h) in ap (λ k. dbref_of k) e

@@ -3,6 +3,7 @@ use Rattle.std.proofs.Common.{◌≡◌, ℕ, ◌+◌, ◌<◌, ◌≤◌, zero,
 use Rattle.std.proofs.lemmas.Bool.{cases_eq, ltb-true, ne_eqb, eq-eqb, false≢true}
 use Rattle.std.specs.List.{slice_get}
 use Rattle.std.specs.Option.{option_map, option_and_then, option_map_or}
+use Rattle.laws.proofs.Places.{get_more, got_last, read_more}
 use Rattle.muck_model.specs.declared.dbref.Dbref.{Dbref}
 use Rattle.muck_model.specs.declared.dbref.Kind.{Kind}
 use Rattle.muck_model.specs.declared.dbref.Kind.TheVariants.{Room, Thing, Exit, Player, Program, Garbage}
@@ -16,7 +17,7 @@ use Rattle.spec_live.specs.Moving.{moved}
 use Rattle.spec_live.specs.Setting.{may_link, may_live}
 use Rattle.spec_live.specs.Making.{objects_most, free_in, blank_entry, grown, new_object, created, may_make, make_judged, owner_judged, create_check}
 use Rattle.spec_live.specs.Consistent.{HasOwner, HasLink, HasHome, IsTied, IsOrdered, IsConsistent, MayMove}
-use Rattle.spec_live.proofs.Lists.{get_last, get_more, read_more, length_changed}
+use Rattle.spec_live.proofs.Lists.{length_changed}
 use Rattle.spec_live.proofs.KindLaws.{only_garbage, none_in_garbage, standing_alive, player_alive, linked_alive, home_alive}
 use Rattle.spec_live.proofs.Readers.{kind_alike, flags_alike, vehicle_alike, object_named, object_unnamed, list_named}
 use Rattle.spec_live.proofs.Orders.{ordered_alike, ordered_moved, placed_moved, nobodys_place, no_place}
@@ -31,7 +32,7 @@ object_more es k ne = ap (λ (o : Option Entry). option_map (λ (e : Entry). e.o
 
 pub object_last : (es : List Entry) → object_in (es ++ blank_entry ∷ []) (length es) ≡ Some garbage
 unfolding object_in blank_entry
-object_last es = ap (λ (o : Option Entry). option_map (λ (e : Entry). e.object) o) (get_last es blank_entry)
+object_last es = ap (λ (o : Option Entry). option_map (λ (e : Entry). e.object) o) (got_last es blank_entry)
 
 pub list_more : (v : Bool) (es : List Entry) (k : ℕ) → list_in v (es ++ blank_entry ∷ []) k ≡ list_in v es k
 unfolding list_in blank_entry

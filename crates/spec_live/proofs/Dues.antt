@@ -4,6 +4,7 @@ use Rattle.std.proofs.lemmas.Bool.{cases_eq, eqb-true, eq-eqb, ne_eqb, false≢t
 use Rattle.std.proofs.lemmas.Option.{slice_get-map, slice_get_past}
 use Rattle.std.specs.List.{slice_get}
 use Rattle.std.specs.Option.{option_map, option_and_then, option_map_or}
+use Rattle.laws.proofs.Places.{read_mapped, read_more}
 use Rattle.spec_live.specs.declared.object.Object.{Object}
 use Rattle.spec_live.specs.declared.saving.Saving.{Saving}
 use Rattle.spec_live.specs.declared.saving.Saving.TheVariants.{Due}
@@ -13,7 +14,7 @@ use Rattle.spec_live.specs.Making.{blank_entry}
 use Rattle.spec_live.specs.Moving.{left_out, put_first, with_place, set_down}
 use Rattle.spec_live.specs.Recycling.{gone_entry, is_exit_of, exit_gone, without_exits, exits_gone, vanished}
 use Rattle.spec_live.specs.Saving.{Links, saving_in, links_in, next_in, front, is_number, same_links, relinked, all_saving}
-use Rattle.spec_live.proofs.Lists.{read_mapped, get_changed_same, get_changed_other, read_more}
+use Rattle.spec_live.proofs.Lists.{get_changed_same, get_changed_other}
 use Rattle.spec_live.proofs.Savings.{object_relinked, list_relinked, saving_relinked, object_resaved, list_resaved}
 use Rattle.spec_live.proofs.Readers.{entry_change, kind_alike, place_alike}
 use Rattle.spec_live.proofs.RecyclingLaws.{is_exit_at}

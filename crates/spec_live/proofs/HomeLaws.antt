@@ -1,7 +1,10 @@
 -- Untying from an object, and sending home what it holds.
 use Rattle.std.proofs.Common.{◌≡◌, ℕ, ◌<◌, List, [], ◌∷◌, Option, Some, None, inl, inr, refl, sym, ◌∙◌, ap, subst, length, arith, Bool, true, false, cond, not}
+use Rattle.laws.proofs.Mapped.{length_map}
+use Rattle.laws.proofs.Numbers.{way_not_by}
+use Rattle.laws.proofs.Places.{read_mapped}
 use Rattle.muck_model.proofs.Dbrefs.{eq_same, same_eq}
-use Rattle.std.proofs.lemmas.Bool.{cases_lt, false≢true, and_parts}
+use Rattle.std.proofs.lemmas.Bool.{cases_lt, false≢true, and_parts, not-true}
 use Rattle.std.proofs.lemmas.Option.{slice_get-map}
 use Rattle.std.specs.List.{slice_get}
 use Rattle.std.specs.Option.{option_map, option_and_then, option_map_or}
@@ -17,7 +20,7 @@ use Rattle.spec_live.specs.Setting.{may_link, may_live}
 use Rattle.spec_live.specs.Recycling.{without_ties, untie, untied, wished_home, may_go, way_home, sent_home}
 use Rattle.spec_live.specs.Consistent.{HasLink, HasHome, IsTied, IsOrdered, IsConsistent, StandsIn, MayMove}
 use Rattle.spec_live.proofs.Chains.{member_later, member_none, without_first, apart_first}
-use Rattle.spec_live.proofs.Lists.{read_mapped, length_map, put_other, has_not}
+use Rattle.spec_live.proofs.Lists.{put_other, has_not}
 use Rattle.spec_live.proofs.KindLaws.{none_in_garbage, stands_still, stands_in_room, garbage_in_none}
 use Rattle.spec_live.proofs.Readers.{kind_past, list_moved, kind_moved, length_moved}
 use Rattle.spec_live.proofs.Orders.{ordered_alike, ordered_moved}
@@ -183,15 +186,11 @@ goes_zero es x s c lower h =
     let fits : fits_in es x 0 ≡ true = zero_fits es x s c.room h in
     record { fits = fits; free = zero_free es x c (fit_known es x 0 fits) lower }
 
-not_true : (b : Bool) → not b ≡ true → b ≡ false
-not_true true h = absurd (false≢true h)
-not_true false h = refl
-
 goes_by : (es : List Entry) (x to : ℕ) → may_go x to es ≡ true → GoesTo es x to
 unfolding may_go
 goes_by es x to h =
     let both : (fits_in es x to ≡ true) × (not (has x (path_in es to)) ≡ true) = and_parts (fits_in es x to) (not (has x (path_in es to))) h in
-    record { fits = both.0; free = has_not x (path_in es to) (not_true (has x (path_in es to)) both.1) }
+    record { fits = both.0; free = has_not x (path_in es to) (not-true (has x (path_in es to)) both.1) }
 
 way_by : (es : List Entry) (x to : ℕ) (b : Bool) → may_go x to es ≡ b → GoesTo es x 0 → GoesTo es x (cond b to 0)
 way_by es x to true h zeroth = goes_by es x to h
@@ -226,10 +225,6 @@ wished_not es d x Program u h = owner_not es d (owner_in es x) u h
 wished_not es d x Thing u h = home_not es d x u h
 wished_not es d x Player u h = home_not es d x u h
 wished_not es d x k u h = absurd (cc (h))
-
-way_not_by : (d to : ℕ) (b : Bool) → (d ≡ 0 → ⊥) → (to ≡ d → ⊥) → cond b to 0 ≡ d → ⊥
-way_not_by d to true low ne h = ne h
-way_not_by d to false low ne h = low (sym h)
 
 way_not_from : (es : List Entry) (d x : ℕ) (o : Option ℕ) → (d ≡ 0 → ⊥) → (o ≡ Some d → ⊥) → option_map_or (λ to. cond (may_go x to es) to 0) o 0 ≡ d → ⊥
 way_not_from es d x None low ne h = low (sym h)

@@ -4,6 +4,9 @@ use Rattle.std.proofs.lemmas.Bool.{cases_eq, cases_lt, false≢true}
 use Rattle.std.proofs.lemmas.Option.{slice_get-map, slice_get_past}
 use Rattle.std.specs.List.{slice_get}
 use Rattle.std.specs.Option.{option_map, option_and_then, option_map_or}
+use Rattle.laws.proofs.Mapped.{length_map}
+use Rattle.laws.proofs.Numbers.{same_place}
+use Rattle.laws.proofs.Places.{read_mapped, some_at}
 use Rattle.muck_model.specs.declared.dbref.Dbref.{Dbref}
 use Rattle.muck_model.specs.declared.dbref.Flags.{Flags}
 use Rattle.muck_model.specs.declared.dbref.Kind.{Kind}
@@ -18,7 +21,7 @@ use Rattle.spec_live.specs.Objects.{Entry, index_of, object_in, list_of, list_in
 use Rattle.spec_live.specs.Moving.{left_out, put_first, with_place, set_down, moved}
 use Rattle.spec_live.specs.Saving.{saving_in}
 use Rattle.spec_live.specs.Stood.{stood_in}
-use Rattle.spec_live.proofs.Lists.{length_map, read_mapped, get_changed_same, get_changed_other, length_changed, some_at, same_place, put_same, put_other}
+use Rattle.spec_live.proofs.Lists.{get_changed_same, get_changed_other, length_changed, put_same, put_other}
 use Rattle.spec_live.proofs.Savings.{length_relinked, object_relinked, list_relinked, mark_relinked}
 
 -- Two lists of entries that every reader sees alike.

@@ -1,7 +1,9 @@
 -- Recycling keeps a world consistent.
 use Rattle.std.proofs.Common.{◌≡◌, ℕ, List, [], Option, Some, None, Ok, inl, inr, refl, sym, ◌∙◌, ap, subst, length, Bool, true, false, cond, eqb, not, ◌||◌, map}
+use Rattle.laws.proofs.Mapped.{length_map}
+use Rattle.laws.proofs.Numbers.{same_place}
 use Rattle.muck_model.proofs.Dbrefs.{eq_same, same_eq}
-use Rattle.std.proofs.lemmas.Bool.{cases_eq, eqb-true, eqb-false, ne_eqb, false≢true, and_from, and_parts, or_parts, not-true}
+use Rattle.std.proofs.lemmas.Bool.{cases_eq, eqb-true, eqb-false, ne_eqb, false≢true, and_from, and_parts, or_parts, not-true, cases_Bool}
 use Rattle.std.proofs.lemmas.Option.{slice_get-map}
 use Rattle.std.specs.List.{slice_get}
 use Rattle.std.specs.Option.{option_map, option_map_or}
@@ -15,13 +17,13 @@ use Rattle.spec_live.specs.Recycling.{untied, sent_home, gone_entry, is_exit_of,
 use Rattle.spec_live.specs.Saving.{relinked}
 use Rattle.spec_live.specs.Consistent.{StandsIn, IsOrdered, IsConsistent}
 use Rattle.spec_live.proofs.Chains.{without_gone, without_member, member_without}
-use Rattle.spec_live.proofs.Lists.{length_map, length_changed, get_changed_same, same_place, apart_without}
+use Rattle.spec_live.proofs.Lists.{length_changed, get_changed_same, apart_without}
 use Rattle.spec_live.proofs.KindLaws.{none_in_exit, only_exit, player_no_exit, linked_no_exit, home_no_exit}
 use Rattle.spec_live.proofs.Readers.{object_change, list_change, object_elsewhere, list_elsewhere, object_left, list_left, kind_is, place_is, kind_alike}
 use Rattle.spec_live.proofs.Savings.{length_relinked, object_relinked, list_relinked, mark_relinked}
 use Rattle.spec_live.proofs.Ties.{consistent_seen}
 use Rattle.spec_live.proofs.Checks.{Passed, checked_ok, index_only}
-use Rattle.spec_live.proofs.Fewer.{IsFewer, IsUnspoken, whether, consistent_fewer}
+use Rattle.spec_live.proofs.Fewer.{IsFewer, IsUnspoken, consistent_fewer}
 use Rattle.spec_live.proofs.HomeLaws.{IsUntied, is_untied, not_nothing, ordered_untied, IsSent, is_sent, consistent_untied, consistent_sent_home, list_untied, kind_untied, kind_sent_home}
 
 -- The exits of an object.
@@ -134,7 +136,7 @@ unfolding IsApart
 nil_apart xs e = let P : List ℕ → Type 0 = λ l. IsApart l in subst P (sym e) tt
 
 exits_members : (d : ℕ) (es : List Entry) → IsOrdered es → (v : Bool) (p x : ℕ) → (v ≡ true → p ≡ d → ⊥) → Member x (list_in v es p) → is_exit_at d es x ≡ false
-exits_members d es c v p x ne m = elim (whether (is_exit_at d es x)) [
+exits_members d es c v p x ne m = elim (cases_Bool (is_exit_at d es x)) [
   | inl g ↦
       let s : StandsIn es v p x = c.stands v p x m in
       let t : StandsIn es true d x = exit_stands d es x g in
@@ -143,7 +145,7 @@ exits_members d es c v p x ne m = elim (whether (is_exit_at d es x)) [
 ]
 
 exits_place : (d : ℕ) (es : List Entry) → IsOrdered es → (v : Bool) (p x : ℕ) → Member x (list_in v es p) → is_exit_at d es p ≡ false
-exits_place d es c v p x m = elim (whether (is_exit_at d es p)) [ inl g ↦ absurd (in_exit es c x p (c.stands v p x m).place (exit_stands d es p g).kind) | inr g ↦ g ]
+exits_place d es c v p x m = elim (cases_Bool (is_exit_at d es p)) [ inl g ↦ absurd (in_exit es c x p (c.stands v p x m).place (exit_stands d es p g).kind) | inr g ↦ g ]
 
 member_cond : (b : Bool) (x : ℕ) (xs : List ℕ) → Member x (cond b [] xs) → Member x xs
 unfolding Member
@@ -175,7 +177,7 @@ fewer_exits es d c = record {
     | inl e ↦ nil_apart (list_in v (exits_gone d es) p) (rw (e.0, e.1) (exits_list_here d es))
     | inr e ↦ rw (exits_list v d p es e) (once_by (is_exit_at d es p) (list_in v es p) (c.once v p))
   ];
-  room = elim (whether (is_exit_at d es 0)) [ inl g ↦ absurd (cc (c.top, (exit_stands d es 0 g).place)) | inr g ↦ g ];
+  room = elim (cases_Bool (is_exit_at d es 0)) [ inl g ↦ absurd (cc (c.top, (exit_stands d es 0 g).place)) | inr g ↦ g ];
 }
   where
     once_by : (b : Bool) (xs : List ℕ) → IsApart xs → IsApart (cond b [] xs)
@@ -190,14 +192,14 @@ unspoken_exits es d = record {
 }
   where
     by_kind : (n : ℕ) → is_exit (kind_in es n) ≡ false → is_exit_at d es n ≡ false
-    by_kind n h = elim (whether (is_exit_at d es n)) [ inl g ↦ absurd (false≢true (sym h ∙ (exit_stands d es n g).kind)) | inr g ↦ g ]
+    by_kind n h = elim (cases_Bool (is_exit_at d es n)) [ inl g ↦ absurd (false≢true (sym h ∙ (exit_stands d es n g).kind)) | inr g ↦ g ]
 
 pub consistent_exits_gone : (es : List Entry) (d : ℕ) → IsConsistent es → IsConsistent (exits_gone d es)
 consistent_exits_gone es d c = consistent_fewer es (exits_gone d es) (is_exit_at d es) (fewer_exits es d c.ordered) (unspoken_exits es d) c
 
 -- d itself isn't an exit of d
 not_own_exit : (es : List Entry) (d : ℕ) → IsOrdered es → is_exit_at d es d ≡ false
-not_own_exit es d c = elim (whether (is_exit_at d es d)) [ inl g ↦ absurd (in_exit es c d d (exit_stands d es d g).place (exit_stands d es d g).kind) | inr g ↦ g ]
+not_own_exit es d c = elim (cases_Bool (is_exit_at d es d)) [ inl g ↦ absurd (in_exit es c d d (exit_stands d es d g).place (exit_stands d es d g).kind) | inr g ↦ g ]
 
 pub kind_exits_gone : (es : List Entry) (d : ℕ) → IsOrdered es → kind_in (exits_gone d es) d ≡ kind_in es d
 kind_exits_gone es d c = kind_alike es (exits_gone d es) d (exits_kept d d es (not_own_exit es d c))
@@ -217,8 +219,8 @@ blank_untied d o e = ((λ h. not_nothing d (sym (ap (λ z. z.home) e) ∙ h)), (
 
 pub untied_exits_gone : (es : List Entry) (d x : ℕ) → IsUntied d es → IsUntied d (exits_gone x es)
 untied_exits_gone es d x u = record {
-  home = λ k o h. elim (whether (is_exit_at x es k)) [ inl g ↦ (blank_untied d o (exits_left x k es o g h)).0 | inr g ↦ u.home k o (sym (exits_kept x k es g) ∙ h) ];
-  link = λ k o h. elim (whether (is_exit_at x es k)) [ inl g ↦ (blank_untied d o (exits_left x k es o g h)).1 | inr g ↦ u.link k o (sym (exits_kept x k es g) ∙ h) ];
+  home = λ k o h. elim (cases_Bool (is_exit_at x es k)) [ inl g ↦ (blank_untied d o (exits_left x k es o g h)).0 | inr g ↦ u.home k o (sym (exits_kept x k es g) ∙ h) ];
+  link = λ k o h. elim (cases_Bool (is_exit_at x es k)) [ inl g ↦ (blank_untied d o (exits_left x k es o g h)).1 | inr g ↦ u.link k o (sym (exits_kept x k es g) ∙ h) ];
 }
 
 -- An object that holds nothing vanishes.

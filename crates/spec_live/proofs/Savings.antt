@@ -2,11 +2,12 @@
 use Rattle.std.proofs.Common.{◌≡◌, ℕ, ◌+◌, zero, suc, List, [], ◌∷◌, Option, Some, None, refl, ◌∙◌, ap, length, arith, Bool, true, false, cond, not}
 use Rattle.std.specs.List.{slice_get}
 use Rattle.std.specs.Option.{option_map, option_and_then, option_map_or}
+use Rattle.laws.proofs.Mapped.{length_map}
+use Rattle.laws.proofs.Places.{read_mapped}
 use Rattle.spec_live.specs.declared.saving.Saving.{Saving}
 use Rattle.spec_live.specs.declared.saving.Saving.TheVariants.{Due}
 use Rattle.spec_live.specs.Objects.{Entry, object_in, list_of, list_in, mark_in, kind_in, due}
 use Rattle.spec_live.specs.Saving.{saving_in, links_in, due_from, same_links, relinked, on_saving, all_saving}
-use Rattle.spec_live.proofs.Lists.{length_map, read_mapped}
 
 -- What is due where a test holds.
 

@@ -1,5 +1,6 @@
 -- Every setter keeps a world consistent.
 use Rattle.std.proofs.Common.{◌≡◌, ℕ, ◌<◌, List, [], ◌∷◌, Option, Some, None, Result, Ok, inl, inr, refl, sym, ◌∙◌, ap, subst, length, Bool, true, false, cond, not, ◌&&◌, ◌||◌}
+use Rattle.laws.proofs.Truths.{seats_by}
 use Rattle.muck_model.proofs.Dbrefs.{eq_same}
 use Rattle.std.proofs.lemmas.Bool.{cases_eq, false≢true, and_parts}
 use Rattle.std.specs.List.{list_any, slice_get}
@@ -146,13 +147,6 @@ consistent_homed d to es n h c =
     }) c
 
 -- The flags: players keep their seats.
-
-seats_by : (a b h c : Bool) → not (a && b && not h && c) ≡ true → a ≡ true → b ≡ true → c ≡ true → h ≡ true
-seats_by a b true c q x y z = refl
-seats_by true true false true q x y z = absurd (false≢true q)
-seats_by false b false c q x y z = absurd (false≢true x)
-seats_by true false false c q x y z = absurd (false≢true y)
-seats_by true true false false q x y z = absurd (false≢true z)
 
 seats_kept : (es : List Entry) (flags : Flags) (n x : ℕ) → keeps_seats es flags n ≡ true → IsOrdered es → place_in es x ≡ Some n → kind_in es x ≡ Player → kind_in es n ≡ Thing → is_vehicle_in es n ≡ true → has_flag vehicle flags ≡ true
 unfolding keeps_seats holds_player

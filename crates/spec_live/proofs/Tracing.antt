@@ -4,6 +4,9 @@ use Rattle.std.proofs.lemmas.Bool.{false≢true}
 use Rattle.std.proofs.lemmas.Option.{slice_get-map}
 use Rattle.std.specs.List.{slice_get}
 use Rattle.std.specs.Option.{option_map, option_map_or, option_and_then}
+use Rattle.laws.proofs.Mapped.{length_map}
+use Rattle.laws.proofs.Options.{kept_then}
+use Rattle.laws.proofs.Places.{read_more}
 use Rattle.spec_live.specs.declared.object.Object.{Object}
 use Rattle.spec_live.specs.declared.saving.Saving.{Saving}
 use Rattle.spec_live.specs.declared.saving.Saving.TheVariants.{Due}
@@ -16,7 +19,7 @@ use Rattle.spec_live.specs.Recycling.{gone_entry, taken_away}
 use Rattle.spec_live.specs.Lives.{Live}
 use Rattle.spec_live.specs.Consistent.{IsConsistent}
 use Rattle.spec_live.proofs.Keeping.{Order}
-use Rattle.spec_live.proofs.Lists.{length_map, kept_then, read_kept, read_more}
+use Rattle.spec_live.proofs.Lists.{read_kept}
 use Rattle.spec_live.proofs.Ties.{consistent_seen}
 use Rattle.spec_live.proofs.Dues.{links_alike}
 use Rattle.spec_live.proofs.Steps.{Begun, Stilled, May, stills, Walk}

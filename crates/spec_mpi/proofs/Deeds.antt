@@ -1,7 +1,8 @@
 -- What a deed changes, and what a random word does.
-use Rattle.std.proofs.Common.{◌≡◌, ℕ, zero, suc, List, [], ◌∷◌, Option, Some, None, refl, sym, ◌∙◌, ap}
+use Rattle.std.proofs.Common.{◌≡◌, ℕ, List, Option, Some, None, refl, ◌∙◌, ap}
 use Rattle.std.specs.Prelude.{map, slice_get, slice_set}
 use Rattle.std.specs.Option.{option_map_or}
+use Rattle.laws.proofs.Places.{map_set}
 use Rattle.muck_model.specs.declared.dbref.Dbref.{Dbref}
 use Rattle.muck_model.specs.declared.dbref.Denial.{Denial}
 use Rattle.muck_prop.specs.declared.value.PropValue.{PropValue}
@@ -66,12 +67,6 @@ touching_order = record {
   itself = λ w. record { objects = refl; traced = traced_itself w.objects; connections = refl; tune = refl };
   both = λ u v w r s. record { objects = s.objects ∙ r.objects; traced = traced_both u.objects v.objects w.objects r.traced s.traced; connections = s.connections ∙ r.connections; tune = s.tune ∙ r.tune };
 }
-
--- a change at one place that the view g doesn't see
-map_set : {X Y : Type 0} (g : X → Y) (xs : List X) (n : ℕ) (x y : X) → slice_get xs n ≡ Some x → g y ≡ g x → map g (slice_set xs n y) ≡ map g xs
-map_set g [] n x y e h = refl
-map_set g (z ∷ zs) zero x y e h = let same : z ≡ x = cc in ap (λ v. v ∷ map g zs) (h ∙ ap g (sym same))
-map_set g (z ∷ zs) (suc n) x y e h = ap (λ vs. g z ∷ vs) (map_set g zs n x y e h)
 
 map_changed : {X Y : Type 0} (g : X → Y) (f : X → X) → ((x : X) → g (f x) ≡ g x) → (n : ℕ) (xs : List X) → map g (changed_at n f xs) ≡ map g xs
 unfolding changed_at

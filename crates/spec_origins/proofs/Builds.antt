@@ -3,6 +3,7 @@ use Rattle.std.proofs.Common.{◌≡◌, ℕ, ℤ, zero, suc, pos, negsuc, true,
 use Rattle.std.specs.Prelude.{slice_get, is_some, Result, Ok, Err}
 use Rattle.std.specs.Option.{option_map, option_map_or, option_and_then}
 use Rattle.std.proofs.lemmas.Bool.{and_parts}
+use Rattle.laws.proofs.Truths.{never_both}
 use Rattle.muck_model.specs.declared.dbref.Dbref.{Dbref}
 use Rattle.muck_model.specs.declared.edit.EditState.{EditState}
 use Rattle.muck_model.specs.declared.event.Event.{Event}
@@ -12,7 +13,6 @@ use Rattle.spec_live.specs.Lives.{tell}
 use Rattle.spec_live.specs.Objects.{Entry, index_of, object_at, changed_at}
 use Rattle.spec_live.proofs.Lists.{get_changed_same}
 use Rattle.spec_rights.proofs.Lookups.{at_negative}
-use Rattle.spec_rights.proofs.Telling.{never_both}
 use Rattle.spec_prims.specs.Asking.{numbered}
 use Rattle.spec_commands.specs.declared.edit.EditStep.{EditStep}
 use Rattle.spec_commands.specs.declared.edit.EditStep.TheVariants.{Stay, Compile, Left}

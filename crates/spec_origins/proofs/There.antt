@@ -4,6 +4,7 @@ use Rattle.std.specs.Prelude.{slice_get, is_some}
 use Rattle.std.specs.Option.{option_map, option_map_or, option_and_then}
 use Rattle.std.proofs.lemmas.Bool.{cond_both}
 use Rattle.std.proofs.lemmas.Option.{none-some, slice_get-map}
+use Rattle.laws.proofs.Truths.{never_both}
 use Rattle.muck_model.specs.declared.dbref.Dbref.{Dbref}
 use Rattle.muck_model.specs.declared.edit.EditState.{EditState}
 use Rattle.muck_model.proofs.Dbrefs.{same_eq}
@@ -17,7 +18,7 @@ use Rattle.spec_live.specs.Stood.{stilled}
 use Rattle.spec_live.proofs.Tracing.{object_stilled}
 use Rattle.spec_live.proofs.Savings.{object_resaved}
 use Rattle.spec_rights.proofs.Lookups.{alive, seen_at, at_negative}
-use Rattle.spec_rights.proofs.Telling.{Told, never_both}
+use Rattle.spec_rights.proofs.Telling.{Told}
 use Rattle.spec_mpi.specs.Touching.{without_props}
 use Rattle.spec_prims.specs.Asking.{numbered}
 use Rattle.muck_queue.specs.declared.process.Process.{Process}

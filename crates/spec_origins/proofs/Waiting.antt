@@ -1,8 +1,10 @@
 -- The lines that wait and the editors behind each entry.
 use Rattle.std.proofs.Common.{◌≡◌, ◌⊎◌, ◌<◌, ℕ, ◌==◌, Bool, true, false, not, cond, List, [], ◌∷◌, ◌++◌, drop, length, refl, sym, ◌∙◌, ap, subst, eqb-true, arith, Option, Some, None, inl, inr}
-use Rattle.std.specs.Prelude.{nat_lt, is_none, ◌&&◌}
+use Rattle.std.specs.Prelude.{nat_lt, is_none}
 use Rattle.std.specs.Option.{option_map, option_and_then}
 use Rattle.std.proofs.lemmas.Bool.Decides.{nat_tests}
+use Rattle.laws.proofs.Options.{none_of}
+use Rattle.laws.proofs.Truths.{second_of}
 use Rattle.muck_model.specs.declared.edit.EditState.{EditState}
 use Rattle.muck_model.specs.declared.event.Entry.{Entry}
 use Rattle.muck_model.specs.declared.event.Event.{Event}
@@ -140,15 +142,6 @@ found_gone n (c ∷ cs) h = by_first (c.number == n) refl (found_gone n cs h.1)
     by_first : (t : Bool) → (c.number == n) ≡ t → found n (without n cs) ≡ None → found n (cond t cs (c ∷ without n cs)) ≡ None
     by_first true e k = above_none n cs (subst (λ (m : ℕ). IsAbove m cs) (eqb-true c.number n e) h.0)
     by_first false e k = ap (λ (t : Bool). cond t (Some c) (found n (without n cs))) e ∙ k
-
-none_of : {X : Type 0} (o : Option X) → is_none o ≡ true → o ≡ None
-none_of None e = refl
-none_of (Some x) e = absurd cc
-
-second_of : (first b few stop : Bool) → (first && b && few && stop) ≡ true → b ≡ true
-second_of true true few stop e = refl
-second_of true false few stop e = absurd cc
-second_of false b few stop e = absurd cc
 
 -- by the number of the connection
 by_number : {X : Type 0} (n d : ℕ) (read : Option Connection → X) (cs ds : List Connection) (here : X) → ((n == d) ≡ false → found d ds ≡ found d cs) → read (found n ds) ≡ here → (b : Bool) → (n == d) ≡ b → read (found d ds) ≡ cond b here (read (found d cs))

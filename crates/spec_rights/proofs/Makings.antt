@@ -1,10 +1,12 @@
 -- What is made keeps to the licence.
-use Rattle.std.proofs.Common.{◌≡◌, ℕ, ◌==◌, suc, Bool, true, false, cond, List, [], ◌∷◌, ◌++◌, length, refl, sym, ◌∙◌, ap, subst, Option, Some, None, inl, inr, arith}
+use Rattle.std.proofs.Common.{◌≡◌, ℕ, ◌==◌, suc, Bool, true, false, cond, List, [], ◌∷◌, ◌++◌, length, refl, sym, ◌∙◌, ap, subst, Option, Some, None, inl, inr}
+use Rattle.laws.proofs.Numbers.{least_at_most}
+use Rattle.laws.proofs.Places.{read_more}
+use Rattle.laws.proofs.Truths.{and_all, and_three}
 use Rattle.muck_model.proofs.Dbrefs.{same_eq}
-use Rattle.std.specs.Prelude.{Ok, Err, nat_lt, slice_get, min, nat_le, ◌||◌, ◌&&◌}
+use Rattle.std.specs.Prelude.{Ok, Err, nat_lt, slice_get, min, nat_le, ◌||◌}
 use Rattle.std.specs.Option.{option_map, option_and_then, option_map_or}
 use Rattle.std.proofs.lemmas.Bool.{cases_eq, or_right}
-use Rattle.std.proofs.lemmas.Bool.Decides.{nat_tests}
 use Rattle.muck_model.specs.declared.dbref.Dbref.{Dbref}
 use Rattle.muck_model.specs.declared.dbref.Kind.{Kind}
 use Rattle.muck_model.specs.declared.dbref.Kind.TheVariants.{Room, Thing, Exit, Player, Program, Garbage}
@@ -20,7 +22,7 @@ use Rattle.spec_live.proofs.Keeping.{join}
 use Rattle.spec_live.proofs.Steps.{Touches}
 use Rattle.spec_live.proofs.Walks.{walk_at, walk_created}
 use Rattle.spec_live.proofs.Lives.{goes_objects}
-use Rattle.spec_live.proofs.Lists.{get_changed_same, read_more}
+use Rattle.spec_live.proofs.Lists.{get_changed_same}
 use Rattle.spec_live.proofs.Readers.{object_changed, object_unchanged, object_elsewhere, object_moved, object_unmoved, list_changed, list_named}
 use Rattle.spec_live.proofs.CreationLaws.{list_more, free_garbage}
 use Rattle.spec_rights.specs.declared.act.Actor.{Actor}
@@ -178,9 +180,6 @@ end_created j kind name owner place finished w p e touch h =
 abbrev Builds : Actor → List Entry → Type 0
 Builds a start = (nat_le 3 a.level || flag_at builder start a.user) ≡ true
 
-and_all : (b c d : Bool) → b ≡ true → c ≡ true → d ≡ true → (b && (c && (true && d))) ≡ true
-and_all b c d e f g = rw (e, f, g) refl
-
 room_new : (a : Actor) (free : Freedom) (start : List Entry) (name : List ℕ) (k t : ℕ) → Builds a start → controls_or link start a (dbref_of t) ≡ true → IsNew (judge a free start) (dbref_of k) (new_in Room name a.user (λ o. o) k t)
 unfolding new_object
 room_new a free start name k t b h = record { kind = and_all _ _ _ (same_eq a.user a.user refl) b h; flags = refl; link = refl; lines = refl }
@@ -193,12 +192,6 @@ exit_new : (a : Actor) (free : Freedom) (start : List Entry) (name : List ℕ) (
     IsNew (judge a free start) (dbref_of k) (new_in Exit name a.user (with_link to) k t)
 unfolding new_object
 exit_new a free start name to k t b h l = record { kind = and_all _ _ _ (same_eq a.user a.user refl) b h; flags = refl; link = l; lines = refl }
-
-at_most : (n m : ℕ) → n ≡ m → nat_le (min n 3) m ≡ true
-at_most n m e = grind (arith, nat_tests)
-
-and_three : (b c d : Bool) → b ≡ true → c ≡ true → d ≡ true → (b && (c && d)) ≡ true
-and_three b c d e f g = rw (e, f, g) refl
 
 program_new : (a : Actor) (free : Freedom) (start : List Entry) (name : List ℕ) (level k t : ℕ) → nat_le 1 (level_at start a.user) ≡ true → nat_le level (level_at start a.user) ≡ true → IsNew (judge a free start) (dbref_of k) (new_in Program name a.user (with_level level) k t)
 unfolding new_object
@@ -228,7 +221,7 @@ exit_open a free start es name place to k t s g e =
 -- at its owner's level, at most 3
 pub program_open : (a : Actor) (free : Freedom) (start es : List Entry) (name : List ℕ) (level k t : ℕ) → SameRights start es → verdict es a NewProgram ≡ None → level ≡ min (level_at es a.user) 3 → IsNew (judge a free start) (dbref_of k) (new_in Program name a.user (with_level level) k t)
 program_open a free start es name level k t s g e =
-    let h : nat_le (min (level_at es a.user) 3) (level_at start a.user) ≡ true = at_most (level_at es a.user) (level_at start a.user) (sym (same_level a.user start es s)) in
+    let h : nat_le (min (level_at es a.user) 3) (level_at start a.user) ≡ true = least_at_most (level_at es a.user) (level_at start a.user) (sym (same_level a.user start es s)) in
     program_new a free start name level k t (program_allowed a start es s g) (ap (λ n. nat_le n (level_at start a.user)) e ∙ h)
 
 -- a player belongs to itself, whoever is given as its owner

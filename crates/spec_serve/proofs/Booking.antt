@@ -6,6 +6,7 @@ use mathlib.Core.Option.{some, some-ne-none, some-injective}
 use mathlib.Core.Logic.{dite}
 use native.Mathlib.Decide.{ℕ_discrete}
 use lib.ListN.{get_elem?}
+use Rattle.laws.proofs.Places.{at_removed, set_there, still_at}
 use Rattle.atomic_table.proofs.Lists.{at_set, set_else, at_snoc, at_longer}
 use Rattle.muck_io.specs.Faults.{one_more}
 use Rattle.muck_links.specs.Keyed.{altered, latest}
@@ -22,11 +23,6 @@ use Rattle.spec_serve.proofs.Keys.{latest_altered, latest_else, altered_front, l
 use Rattle.spec_serve.proofs.Pairs.{all2_altered}
 use Rattle.spec_serve.proofs.Counted.{counts_came, counts_altered}
 use Rattle.spec_serve.proofs.Accounting.{keeps_agrees, keeps_new, keeps_closed}
-
-pub set_there : {A : Type 0} (xs : List A) (i : ℕ) (v w : A) → get_elem? xs i ≡ some v → get_elem? (set xs i w) i ≡ some w
-set_there [] i v w at = absurd (some-ne-none v (sym at))
-set_there (x ∷ xs) zero v w at = refl
-set_there (x ∷ xs) (suc i) v w at = set_there xs i v w at
 
 pub same_number : (counted : LinksNote) (t : Talk) (s : Session) → Agrees counted t s → talk_of t ≡ number_of s
 same_number counted t s a = a.number
@@ -232,23 +228,6 @@ books_opened b ts hs k peers d p is bk = record {
     place [] free (suc i) q a e = absurd (some-ne-none q (sym a))
     place (x ∷ xs) free zero q a e = absurd (free 0 q a (sym (ap (λ (z : Peer). z.number) (sym is ∙ e))))
     place (x ∷ xs) free (suc i) q a e = ap suc (place xs (λ n z atz. free (suc n) z atz) i q a e)
-
-at_removed : {A : Type 0} (xs : List A) (i j : ℕ) (a : A) → get_elem? (remove xs i) j ≡ some a → ((j < i) × (get_elem? xs j ≡ some a)) ⊎ ((i ≤ j) × (get_elem? xs (suc j) ≡ some a))
-at_removed [] zero j a e = absurd (some-ne-none a (sym e))
-at_removed [] (suc i) j a e = absurd (some-ne-none a (sym e))
-at_removed (x ∷ xs) zero j a e = inr (omega arith, e)
-at_removed (x ∷ xs) (suc i) zero a e = inl (omega arith, e)
-at_removed (x ∷ xs) (suc i) (suc j) a e = ⊎_elim
-    (λ (y : (j < i) × (get_elem? xs j ≡ some a)). let l = y.0 in inl (omega arith, y.1))
-    (λ (y : (i ≤ j) × (get_elem? xs (suc j) ≡ some a)). let l = y.0 in inr (omega arith, y.1))
-    (at_removed xs i j a e)
-
-still_at : {A : Type 0} (xs : List A) (i j : ℕ) (a : A) → get_elem? xs j ≡ some a → j ≢ i → (n : ℕ) × (get_elem? (remove xs i) n ≡ some a)
-still_at [] i j a e ne = absurd (some-ne-none a (sym e))
-still_at (x ∷ xs) zero zero a e ne = absurd (ne refl)
-still_at (x ∷ xs) zero (suc j) a e ne = (j, e)
-still_at (x ∷ xs) (suc i) zero a e ne = (0, e)
-still_at (x ∷ xs) (suc i) (suc j) a e ne = let h = still_at xs i j a e (λ s. ne (ap suc s)) in (suc h.0, h.1)
 
 -- it is closed
 pub books_closed : (counted : LinksNote) (b : Tally) (ts : List Talk) (hs : List World) (k : Tally) (peers peers' : List Peer) (coming : Option ℕ)

@@ -3,6 +3,7 @@ use Rattle.std.proofs.Common.{◌≡◌, ℕ, ◌<◌, Bool, true, false, ◌||�
 use Rattle.std.specs.Prelude.{find, is_some, is_none, nat_lt, ◌==◌}
 use Rattle.std.specs.List.{list_any}
 use Rattle.std.proofs.lemmas.Bool.Decides.{nat_tests}
+use Rattle.laws.proofs.Numbers.{apart_from}
 use Rattle.muck_links.specs.Keyed.{altered, latest}
 use Rattle.muck_model.specs.declared.event.Entry.{Entry}
 use Rattle.muck_model.specs.declared.event.Event.{Event}
@@ -76,9 +77,6 @@ above_none n (c ∷ cs) h = ap (λ (t : Bool). is_some (cond t (Some c) (find (h
     apart : (m n : ℕ) → n < m → (m == n) ≡ false
     apart m n less = grind (arith, nat_tests)
 
-never : (m n d : ℕ) → (m == n) ≡ false → (m == d) ≡ true → (n == d) ≡ false
-never m n d other same = grind (arith, nat_tests)
-
 -- without a connection, which stands there once
 in_without : (d gone : ℕ) (cs : List Connection) → IsRising cs → is_in d (without gone cs) ≡ cond (gone == d) false (is_in d cs)
 in_without d gone [] h = from (gone == d)
@@ -102,7 +100,7 @@ in_without d gone (c ∷ cs) h = by_first (c.number == gone) refl (in_without d 
     by_first true is e =
         at_it (eqb-true c.number gone is) (gone == d) refl
         ∙ ap (λ (n : ℕ). cond (gone == d) false (is_some (cond (n == d) (Some c) (find (has_number d) cs)))) (sym (eqb-true c.number gone is))
-    by_first false is e = at_other e (c.number == d) (gone == d) (λ same. never c.number gone d is same) refl
+    by_first false is e = at_other e (c.number == d) (gone == d) (λ same. apart_from c.number gone d is same) refl
 
 -- Talks.
 
@@ -153,7 +151,7 @@ talking_ended d gone w (t ∷ ts) = by_first (t.number == gone) refl (talking_en
         ap (λ (n : ℕ). is_open (cond (n == d) (Some (ended_in w t)) (latest talk_of d ts))) (eqb-true t.number gone is)
         ∙ at_it (gone == d)
         ∙ ap (λ (n : ℕ). cond (gone == d) false (is_open (cond (n == d) (Some t) (latest talk_of d ts)))) (sym (eqb-true t.number gone is))
-    by_first false is e = at_other e (t.number == d) (gone == d) (λ same. never t.number gone d is same) refl
+    by_first false is e = at_other e (t.number == d) (gone == d) (λ same. apart_from t.number gone d is same) refl
 
 -- Entries.
 

@@ -1,5 +1,5 @@
 -- Histories that go on.
-use Rattle.std.proofs.Common.{◌≡◌, Bool, true, false, cond, List, [], ◌∷◌, ◌++◌, refl, sym, ap, ◌∙◌}
+use Rattle.std.proofs.Common.{◌≡◌, Bool, true, false, List, [], ◌∷◌, ◌++◌, refl, sym, ap, ◌∙◌}
 use Rattle.std.specs.Prelude.{◌==◌, if◌then◌else◌}
 use Rattle.turn_lock.specs.Histories.{kept, own_of}
 use Rattle.turn_lock.proofs.Parts.{own_append}
@@ -34,14 +34,6 @@ pub worlds_one : (test : Entry → Bool) (w : World) (h : List Entry) (e : Entry
 worlds_one test w h e = worlds_append test w h (e ∷ [])
 
 -- Whose an entry is.
-
-pub both_ways : (t : Bool) → t ≡ true → t ≡ false → ⊥
-both_ways t a b = cc
-
--- what is lawful and isn't Died is allowed
-pub allowed_one : (dead died allowed : Bool) → cond dead died allowed ≡ true → died ≡ false → allowed ≡ true
-allowed_one true died allowed l alive = absurd (both_ways died l alive)
-allowed_one false died allowed l alive = l
 
 -- who has no entry in a list
 pub not_first : (e : Entry) (es : List Entry) → own_of party_of 0 (e ∷ es) ≡ [] → ((e.party == 0) ≡ false) × (own_of party_of 0 es ≡ [])

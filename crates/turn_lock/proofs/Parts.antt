@@ -6,6 +6,7 @@ use mathlib.Core.Option.{some, some-ne-none, some-injective}
 use mathlib.Core.Logic.{dite}
 use native.Mathlib.Decide.{ℕ_discrete}
 use lib.ListN.{get_elem?}
+use Rattle.laws.proofs.Places.{set_swap}
 use Rattle.atomic_table.proofs.Lists.{at_set, set_else, at_snoc, at_longer}
 use Rattle.turn_lock.specs.declared.view.Taken.{Taken}
 use Rattle.turn_lock.specs.declared.view.View.{View}
@@ -49,13 +50,6 @@ has_more xs ys x (i, at) = (i, at_longer xs ys i x at)
 pub known_map : (xs ys : List ℕ) (p : ℕ) → ((n : ℕ) → Has xs n → Has ys n) → IsKnown xs p → IsKnown ys p
 known_map xs ys p f (inl e) = inl e
 known_map xs ys p f (inr h) = inr (f p h)
-
-pub set_swap : {A : Type 0} (xs : List A) (i j : ℕ) (a b : A) → i ≢ j → set (set xs i a) j b ≡ set (set xs j b) i a
-set_swap [] i j a b ne = refl
-set_swap (x ∷ xs) zero zero a b ne = absurd (ne refl)
-set_swap (x ∷ xs) zero (suc j) a b ne = refl
-set_swap (x ∷ xs) (suc i) zero a b ne = refl
-set_swap (x ∷ xs) (suc i) (suc j) a b ne = ap (λ l. x ∷ l) (set_swap xs i j a b (λ e. ne (ap suc e)))
 
 at_end : {A : Type 0} (xs : List A) (x : A) → Has (xs ++ x ∷ []) x
 at_end [] x = (0, refl)

@@ -1,12 +1,12 @@
 use Rattle.std.proofs.Common.{rules, arith, sym, subst, ap, ◌∙◌, ◌≡◌, [], ◌∷◌, ◌++◌, length, length-append}
 use Rattle.std.specs.Prelude.{Some, option_map}
 use Rattle.std.proofs.lemmas.List.{append-nil}
+use Rattle.laws.proofs.Lists.{no_items}
 use Rattle.mpi.specs.Brackets.{pieces, seen_piece, IsPart}
 use Rattle.mpi.specs.Made.{Inside}
 use Rattle.mpi.specs.inner.Alike.{said}
 use Rattle.mpi.proofs.AlikeItems.{said_end, said_call, said_byte}
 use Rattle.mpi.proofs.Inside.{inside_more, inside_byte, made_is_text}
-use Rattle.mpi.proofs.Spelling.{no_bytes}
 use Rattle.mpi.proofs.alike.said.Goals as goal
 
 pub returns-in-Call : goal.returns-in-Call
@@ -40,5 +40,5 @@ pub returns : goal.returns
 returns c =
     let out = c.loop-first.out.items in
     let behind = option_map (λ xs. out ++ xs) in
-    let none : c.loop-first.rest.now ≡ [] = no_bytes c.loop-first.rest.now (omega (arith, c.in_default.ensures.cases)) in
+    let none : c.loop-first.rest.now ≡ [] = no_items c.loop-first.rest.now (omega (arith, c.in_default.ensures.cases)) in
     ap Some (c.of_text_vec.ensures ∙ sym (append-nil out)) ∙ sym (c.loop-first.invariant.whole ∙ ap (λ xs. behind (said (pieces xs))) none ∙ ap behind said_end)

@@ -1,4 +1,7 @@
 use Rattle.std.proofs.Common.{rules, arith, refl, sym, subst, ap, ◌∙◌, ◌≡◌, ◌+◌, ◌-◌, ◌≤◌, [], ◌∷◌, ◌++◌, suc, None, Some, Ok, Err, true, false, length, take, drop, get_or, map, option_map}
+use Rattle.laws.proofs.Lists.{no_items}
+use Rattle.laws.proofs.Mapped.{none_mapped}
+use Rattle.laws.proofs.Places.{next_mapped}
 use Rattle.muck_model.specs.Bytes.{text_fault, text_most}
 use Rattle.mpi.specs.Brackets.{pieces, seen_piece, IsPart}
 use Rattle.mpi.specs.Hosting.{Means}
@@ -8,7 +11,7 @@ use Rattle.mpi.proofs.Inside.{inside_more, inside_byte, text_inside}
 use Rattle.mpi.proofs.Lengths.{short_length}
 use Rattle.mpi.proofs.Replacing.{whole_made}
 use Rattle.mpi.proofs.Thinking.{comes_by, known}
-use Rattle.mpi.proofs.Spelling.{grown_fails, no_bytes, spelled_end, spelled_byte, spelled_byte_long, spelled_call, spelled_call_long, spelled_call_fails}
+use Rattle.mpi.proofs.Spelling.{grown_fails, spelled_end, spelled_byte, spelled_byte_long, spelled_call, spelled_call_long, spelled_call_fails}
 use Rattle.mpi.proofs.evaluator.+evaluating.Goals.{text-in-Byte+in_ok-grow-in-Byte, text-in-Call+in_ok-value-in-Call+in_ok-grow-in-Call, call-then-nesting-eq0-via-then-nesting-eq0, call-then-nesting-eq0-via-else-nesting-eq0+then-mind-eq0}
 use Rattle.std.specs.Option.{option_copied}
 use Rattle.mpi.specs.Functions.{row_of}
@@ -16,7 +19,7 @@ use Rattle.mpi.specs.Thoughts.{Thinks, given_back_in}
 use Rattle.mpi.proofs.Calls.{too_deep, none_left, entered_is, variable_comes, prepared_fails, prepared_comes, first_fails, first_comes, lazy_comes, literal_comes, if_fails, if_comes, all_comes, any_comes, while_comes, with_comes, turns_begin, once_comes, numbers_come, items_come}
 use Rattle.mpi.specs.Gathering.{as_text, kept_of, list_or_long}
 use Rattle.mpi.specs.Values.{nth, is_true, items}
-use Rattle.mpi.proofs.Mapped.{next_mapped, none_mapped, mapped_text}
+use Rattle.mpi.proofs.Mapped.{mapped_text}
 use Rattle.mpi.specs.inner.Alike.{answer_alike, transposed}
 use Rattle.mpi.proofs.AlikeItems.{alike_answers, alike_fails, plain_means}
 use Rattle.mpi.proofs.Turns.{value_end, value_more, value_fails, until_end, until_more, until_known, until_fails, while_stops, while_turns, while_test_fails, while_count_fails, while_body_fails, while_ends, scope_fails, scope_comes, with_is, for_stops, for_turns, for_count_fails, for_body_fails, for_ends, item_end, item_more, item_long, item_fails}
@@ -78,7 +81,7 @@ text-loop-first-preserved g t c =
 
 pub text-returns-clause-thinks : goal.text-returns-clause-thinks
 text-returns-clause-thinks g t c =
-    let none : c.loop-first.rest.now ≡ [] = no_bytes c.loop-first.rest.now (omega (arith, c.in_default.ensures.cases)) in
+    let none : c.loop-first.rest.now ≡ [] = no_items c.loop-first.rest.now (omega (arith, c.in_default.ensures.cases)) in
     comes_by (meaning (scene_of g.H.Host.powers c.args.place.this) c.args.nesting c.args.text.now (c.args.mind.now, g.H.Host.seen c.args.host.now)) (Ok c.loop-first.out.items, (c.loop-first.mind, g.H.Host.seen c.loop-first.host)) (c.loop-first.mind, g.H.Host.seen c.loop-first.host) c.line_of.result (c.loop-first.invariant.whole ∙ ap (λ xs. spelled (entered (scene_of g.H.Host.powers c.args.place.this) c.args.nesting) c.loop-first.out.items (pieces xs) (c.loop-first.mind, g.H.Host.seen c.loop-first.host)) none ∙ spelled_end (entered (scene_of g.H.Host.powers c.args.place.this) c.args.nesting) c.loop-first.out.items (c.loop-first.mind, g.H.Host.seen c.loop-first.host))
     (known (Ok c.loop-first.out.items) c.line_of.result (c.loop-first.mind, g.H.Host.seen c.loop-first.host) (subst (λ x. Means x c.line_of.result) (whole_made c.loop-first.out.items c.loop-first.out.items refl c.loop-first.invariant.short) c.line_of.ensures))
 

@@ -1,10 +1,11 @@
 use Rattle.std.proofs.Common.{rules, arith, sym, subst, ap, ◌∙◌, ◌≡◌, ◌+◌, ◌<◌, ◌≤◌, [], ◌++◌, Ok, Err, None, length}
 use Rattle.std.proofs.lemmas.Bool.Decides.{nat_tests}
+use Rattle.laws.proofs.Lists.{whole_end, whole_new}
 use Rattle.muck_model.specs.Bytes.{text_fault, text_most}
 use Rattle.mpi.specs.Values.{place_in, replaced, substituted}
 use Rattle.mpi.proofs.Growing.{grown_inside, grown_short, grown_text}
 use Rattle.mpi.proofs.Inside.{text_inside, text_short, part_is_text, rest_is_text}
-use Rattle.mpi.proofs.Replacing.{none_part, some_part, place_fits, whole_front, whole_new, whole_rest, whole_end, whole_long, whole_made}
+use Rattle.mpi.proofs.Replacing.{none_part, some_part, place_fits, whole_front, whole_rest, whole_long, whole_made}
 use Rattle.mpi.proofs.lists.substituted.Goals as goal
 
 pub returns-then-is_empty : goal.returns-then-is_empty

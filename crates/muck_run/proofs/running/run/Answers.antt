@@ -1,7 +1,8 @@
 use Rattle.std.proofs.Common.{Err, inl, inr, refl, sym, ap, subst}
+use Rattle.laws.proofs.Results.{err_is}
 use Rattle.muck_run.specs.Outcome.{HasRead}
 use Rattle.muck_run.specs.inner.Ends.{IsScriptWhy, MayEnd}
-use Rattle.muck_run.proofs.Called.{unread_ends, wanted_ends, began_ends, either_since, holds_still, never_begun, has_begun, err_is, run_done}
+use Rattle.muck_run.proofs.Called.{unread_ends, wanted_ends, began_ends, either_since, holds_still, never_begun, has_begun, run_done}
 use Rattle.muck_run.proofs.running.run.Goals as goal
 
 -- no script was read

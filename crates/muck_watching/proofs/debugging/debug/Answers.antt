@@ -1,8 +1,9 @@
 use Rattle.std.proofs.Common.{Err, inl, inr, refl, sym, ap, subst}
+use Rattle.laws.proofs.Results.{err_is}
 use Rattle.muck_watching.specs.Debugged.{HasRead}
 use Rattle.muck_run.specs.inner.Ends.{IsMountWhy, MayRefuse, MayEnd}
 use Rattle.muck_watching.specs.inner.Seen.{IsDebugWhy}
-use Rattle.muck_run.proofs.Called.{refused_ends, wanted_ends, began_ends, either_since, holds_still, never_begun, err_is}
+use Rattle.muck_run.proofs.Called.{refused_ends, wanted_ends, began_ends, either_since, holds_still, never_begun}
 use Rattle.muck_watching.proofs.Debugged.{unread_ends, has_debugged, debug_done}
 use Rattle.muck_watching.proofs.debugging.debug.Goals as goal
 

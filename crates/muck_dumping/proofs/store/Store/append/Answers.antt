@@ -1,4 +1,5 @@
-use Rattle.std.proofs.Common.{◌≡◌, ◌<◌, ◌≤◌, ℕ, true, length, Some, Ok, Err, refl, sym, ap, ◌∙◌, subst, arith}
+use Rattle.std.proofs.Common.{◌≡◌, ◌≤◌, ℕ, true, length, Some, Ok, Err, refl, sym, ap, ◌∙◌, subst, arith}
+use Rattle.laws.proofs.Numbers.{too_few}
 use Rattle.muck_log.specs.World.{World}
 use Rattle.muck_log.specs.Store.{LogState}
 use Rattle.muck_log.specs.Append.{base_of, payload_of}
@@ -12,9 +13,6 @@ use Rattle.muck_dumping.proofs.Marks.{unmounted_holds, appended_holds}
 use Rattle.muck_dumping.proofs.Mounting.{one_log}
 use Rattle.muck_dumping.proofs.Knowing.{next_mounted, next_unmounted}
 use Rattle.muck_dumping.proofs.store.Store.append.Goals as goal
-
-too_many : (n size count : ℕ) → size ≡ count → size < n → n ≤ count → ⊥
-too_many n size count is more le = absurd (omega (arith, is, more, le))
 
 -- what the log asks of its caller
 
@@ -37,7 +35,7 @@ pub returns-then-not-is_of_world-clause-wrote : goal.returns-then-not-is_of_worl
 returns-then-not-is_of_world-clause-wrote g c = λ log es tune tells is left tuned count fit two covers.
     let n : ℕ = length c.in-Some.log.chosen.held.world.objects in
     let same : n ≡ length log.chosen.held.world.objects = ap (λ (l : LogState). length l.chosen.held.world.objects) (one_log c.args.self.now.log c.in-Some.log log c.in-Some.is is) in
-    absurd (too_many n c.args.pending.size (length es) count (c.is_of_world.ensures.more c.if-not-is_of_world.true) (omega (arith, same, covers)))
+    absurd (too_few n c.args.pending.size (length es) count (c.is_of_world.ensures.more c.if-not-is_of_world.true) (omega (arith, same, covers)))
 
 -- the next dump has the number of this one, where it failed
 

@@ -1,5 +1,6 @@
 use Rattle.std.proofs.Common.{◌≡◌, refl, subst, sym, ◌∙◌, ap, true, false, OnOk, to_z, of_z, w32, rules}
 use Rattle.std.proofs.lemmas.Bool.{cond-true}
+use Rattle.laws.proofs.Results.{whatever}
 use Rattle.muck_model.specs.declared.event.Event.TheVariants.{Slice}
 use Rattle.muf_debug.specs.Watching.{SeesAll}
 use Rattle.spec_events.specs.Steps.{is_lawful, is_there}
@@ -9,7 +10,7 @@ use Rattle.spec_views.specs.Views.{views_of}
 use Rattle.muck_machine.specs.inner.Keeping.{history}
 use Rattle.muck_machine.proofs.Keepings.{keeps_concluded, told_seen, still_seen}
 use Rattle.muck_machine.proofs.Licences.{told_licensed}
-use Rattle.muck_machine.proofs.Seeing.{nothing_seen, whatever, seen_now}
+use Rattle.muck_machine.proofs.Seeing.{nothing_seen, seen_now}
 use Rattle.muck_machine.proofs.world.World.slice_seen.Goals as goal
 
 pub slice_seen-done-requires-clause-still : goal.slice_seen-done-requires-clause-still

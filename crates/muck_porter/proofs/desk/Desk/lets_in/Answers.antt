@@ -1,7 +1,7 @@
 use Rattle.std.proofs.Common.{refl, sym, ap, ◌∙◌, inl, inr, rules, ◌≡◌, ℕ, ◌==◌, length, vec_len}
+use Rattle.laws.proofs.Lists.{empty_of}
 use Rattle.muck_links.specs.Sessions.{Told}
 use Rattle.muck_porter.specs.inner.Desks.{stand}
-use Rattle.muck_porter.proofs.InRounds.{empty_of}
 use Rattle.muck_porter.proofs.Going.{free_then}
 use Rattle.muck_porter.proofs.Linking.{came_goes, turned_away, same_goes, over_goes}
 use Rattle.muck_porter.proofs.desk.Desk.lets_in.Goals as goal

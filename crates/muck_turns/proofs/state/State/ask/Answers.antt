@@ -1,10 +1,11 @@
 use Rattle.std.proofs.Common.{ap, ◌∙◌, subst}
 use Rattle.std.proofs.lemmas.Int.{to_z-of_z}
+use Rattle.laws.proofs.Results.{if_ok_as}
 use Rattle.spec_events.specs.Following.{settled}
 use Rattle.spec_events.specs.Slices.{deed, stands_at}
 use Rattle.muck_turns.specs.inner.Deeds.{DoneAs}
 use Rattle.muck_turns.specs.contracts.state.State as state
-use Rattle.muck_turns.proofs.Slices.{done_so, rested_so, failed_so, if_ok_as}
+use Rattle.muck_turns.proofs.Slices.{done_so, rested_so, failed_so}
 use Rattle.muck_turns.proofs.state.State.ask.Goals as goal
 
 pub returns-in-Does : goal.returns-in-Does

@@ -1,11 +1,12 @@
 use Rattle.std.proofs.Common.{rules, ◌≡◌, Ok, Err, sym, subst, drop, true, to_z, of_z, w32}
 use Rattle.std.specs.Prelude.{is_some}
+use Rattle.laws.proofs.Truths.{moved}
 use Rattle.muck_queue.specs.Queues.{process}
 use Rattle.spec_events.specs.Slices.{place_in, queued}
 use Rattle.muck_turns.specs.inner.Deeds.{DoneAs}
 use Rattle.muf_frame.specs.declared.fault.PrimFault.TheVariants.{Fault}
 use Rattle.prim_proc.specs.declared.after.After.TheVariants.{Go, Wait, Fork, Call, Queue}
-use Rattle.muck_turns.proofs.Processes.{go_done, wait_done, fork_there, fork_done, call_at, call_items, call_done, queue_rejoins, queue_at, queue_items, queue_done, refused_done, if_done, moved}
+use Rattle.muck_turns.proofs.Processes.{go_done, wait_done, fork_there, fork_done, call_at, call_items, call_done, queue_rejoins, queue_at, queue_items, queue_done, refused_done, if_done}
 use Rattle.muck_turns.proofs.state.State.do_process.Goals as goal
 
 pub returns-in-Ok-Go : goal.returns-in-Ok-Go

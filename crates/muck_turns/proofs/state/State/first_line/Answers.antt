@@ -1,12 +1,12 @@
 use Rattle.std.proofs.Common.{◌≡◌, ◌∙◌, subst, None}
+use Rattle.laws.proofs.Results.{if_ok_as, on_ok_as}
 use Rattle.spec_live.specs.Boards.{editor_in}
 use Rattle.muck_queue.specs.Queues.{reader}
 use Rattle.spec_events.specs.World.{World, connection}
 use Rattle.spec_events.specs.Lines.{line_for, done, spoken}
 use Rattle.muck_turns.specs.contracts.state.State as state
 use Rattle.muck_turns.specs.inner.Hooks.{said_of}
-use Rattle.muck_turns.proofs.Slices.{if_ok_as}
-use Rattle.muck_turns.proofs.Turns.{line_taken, none_taken, line_said, none_said, on_ok_as}
+use Rattle.muck_turns.proofs.Turns.{line_taken, none_taken, line_said, none_said}
 use Rattle.muck_turns.proofs.state.State.first_line.Goals as goal
 
 pub returns-in-None-clause-world : goal.returns-in-None-clause-world

@@ -1,11 +1,11 @@
 use Rattle.std.proofs.Common.{◌≡◌, Some, None, ◌∙◌, subst}
+use Rattle.laws.proofs.Results.{if_ok_as, on_ok_as}
 use Rattle.spec_live.specs.Boards.{editor_in}
 use Rattle.spec_events.specs.World.{World}
 use Rattle.spec_events.specs.Lines.{command, in_world, line_spoken}
 use Rattle.muck_turns.specs.contracts.state.State as state
 use Rattle.muck_turns.specs.inner.Hooks.{said_of}
-use Rattle.muck_turns.proofs.Slices.{if_ok_as}
-use Rattle.muck_turns.proofs.Turns.{unedited_taken, unedited_said, on_ok_as}
+use Rattle.muck_turns.proofs.Turns.{unedited_taken, unedited_said}
 use Rattle.muck_turns.proofs.state.State.obey.Goals as goal
 
 pub returns-in-None-clause-world : goal.returns-in-None-clause-world

@@ -1,6 +1,6 @@
 use Rattle.std.proofs.lemmas.Int.{to_z-of_z}
+use Rattle.laws.proofs.Results.{on_ok_turns}
 use Rattle.muck_turns.proofs.Hooks.{slice_hooked}
-use Rattle.muck_turns.proofs.Turns.{on_ok}
 use Rattle.muck_turns.proofs.state.State.slice_seen.Goals as goal
 
 pub returns-clause-same : goal.returns-clause-same
@@ -11,4 +11,4 @@ returns-clause-same g c =
 pub returns-clause-seen : goal.returns-clause-seen
 returns-clause-seen g c =
     let h = c.ranges.pid in
-    on_ok c.hook.result _ (simp to_z-of_z at c.in_ok-take_slice_seen.ensures.seen)
+    on_ok_turns c.hook.result _ (simp to_z-of_z at c.in_ok-take_slice_seen.ensures.seen)

@@ -1,6 +1,6 @@
 use Rattle.std.proofs.Common.{refl, ◌∙◌}
+use Rattle.laws.proofs.Results.{on_ok_as}
 use Rattle.muck_turns.proofs.Hooks.{told_next, told_end}
-use Rattle.muck_turns.proofs.Turns.{on_ok_as}
 use Rattle.muck_turns.proofs.state.hook.push_told.Goals as goal
 
 pub loop-moved-init : goal.loop-moved-init
