@@ -1,7 +1,7 @@
 // What is tuned.
 ghost use Rattle.std.specs.Prelude.{◌≡◌, ◌≤◌, ◌++◌, IfOk};
 ghost use Rattle.spec_live.specs.Lives.{reading};
-ghost use Rattle.spec_commands.specs.Finding.{each};
+ghost use Rattle.spec_commands.specs.Finding.{for_each};
 ghost use Rattle.spec_commands.specs.Going.{ended};
 ghost use Rattle.spec_commands.specs.declared.outcome.Outcome.{Outcome};
 ghost use Rattle.spec_admin.specs.Replies.{parameter_line};
@@ -62,7 +62,7 @@ fn show_each(
     tune: &Tune,
     parameters: &[Parameter],
 ) -> Result<(), NoMemory>
-    ensures { Did (each (parameter_shown d tune.now) parameters.now) guard.old guard.new result }
+    ensures { Did (for_each (parameter_shown d tune.now) parameters.now) guard.old guard.new result }
 {
     for parameter in parameters {
         show_parameter(guard, d, tune, *parameter)?;

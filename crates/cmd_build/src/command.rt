@@ -105,7 +105,7 @@ fn shape_of(command: BuildWord) -> Shape
 }
 
 // Does what a command asks, with its arguments.
-#[tactic(auto, using(cmd_common::proofs::Doing::plays_done), unfolding(spec_commands::specs::Going::ended, spec_commands::specs::Commands::build_done, spec_commands::specs::Building::teleported, spec_commands::specs::Building::recycled, spec_commands::specs::Building::chowned, spec_commands::specs::Replies::teleported_reply, spec_commands::specs::Replies::recycled_reply, spec_commands::specs::Replies::chowned_reply))]
+#[tactic(auto, using(cmd_common::proofs::Doing::plays_done), unfolding(spec_commands::specs::Going::ended, spec_commands::specs::Commands::build_done, spec_commands::specs::Building::teleported, spec_commands::specs::Building::recycled_by_command, spec_commands::specs::Building::chowned, spec_commands::specs::Replies::teleported_reply, spec_commands::specs::Replies::recycled_reply, spec_commands::specs::Replies::chowned_reply))]
 fn perform(
     guard: &mut Guard,
     d: u32,

@@ -4,10 +4,10 @@ ghost use Rattle.muck_model.specs.Bytes.{text_fault};
 ghost use Rattle.spec_live.specs.Lives.{tell, either};
 ghost use Rattle.spec_rights.specs.Licence.{Licensed};
 ghost use Rattle.spec_commands.specs.Replies.{goodbye};
-ghost use Rattle.spec_commands.specs.Finding.{looked, look_shown};
+ghost use Rattle.spec_commands.specs.Finding.{place_looked_at, look_shown};
 ghost use Rattle.spec_commands.specs.Reading.{is_empty, by_table};
 ghost use Rattle.spec_commands.specs.Free.{free_play};
-ghost use Rattle.spec_commands.specs.Commands.{play_words, play_shape, line_typed, play_done, signed, play_line};
+ghost use Rattle.spec_commands.specs.Commands.{play_words, play_shape, line_typed, play_done, said_by_sign, play_line};
 ghost use Rattle.muck_perm.specs.inner.Guards.{Did, objects_of, world_of};
 ghost use Rattle.cmd_common.specs.inner.Plays.{Plays};
 ghost use Rattle.cmd_common.specs.inner.Takes.{word_row};
@@ -76,7 +76,7 @@ fn shape_of(command: PlayWord) -> Shape
 // The player looks where it is, or at what it has named.
 #[tactic(auto, unfolding(spec_live::specs::Lives::either))]
 fn look_around(guard: &mut Guard, d: u32, typed: &Typed, named: &Argument) -> Result<(), NoMemory>
-    ensures { Did (either (is_empty named.now.text) (looked d guard.old.actor typed.now) (look_shown d guard.old.actor typed.now named.now.object)) guard.old guard.new result }
+    ensures { Did (either (is_empty named.now.text) (place_looked_at d guard.old.actor typed.now) (look_shown d guard.old.actor typed.now named.now.object)) guard.old guard.new result }
 {
     if named.text.as_slice().is_empty() {
         look(guard, d, typed)
@@ -152,7 +152,7 @@ fn perform(
 }
 
 // A command with the text behind its word.
-#[tactic(auto, unfolding(spec_commands::specs::Commands::signed))]
+#[tactic(auto, unfolding(spec_commands::specs::Commands::said_by_sign))]
 fn do_command(
     guard: &mut Guard,
     d: u32,
@@ -161,7 +161,7 @@ fn do_command(
     text: &Line,
 ) -> Result<Outcome, NoMemory>
     requires { text_fault word.now ≡ None }
-    ensures { Plays (signed d guard.old.actor command word.now text.now) guard.old guard.new result }
+    ensures { Plays (said_by_sign d guard.old.actor command word.now text.now) guard.old guard.new result }
 {
     match arguments(guard, d, word, shape_of(command), text)? {
         Some(args) => perform(guard, d, command, word, text, &args),
@@ -170,7 +170,7 @@ fn do_command(
 }
 
 // A line that doesn't begin with a sign.
-#[tactic(auto, using(cmd_common::proofs::Texts::parts_are_texts), unfolding(spec_live::specs::Lives::unchanged, spec_commands::specs::Going::ended, spec_commands::specs::Reading::by_table, spec_commands::specs::Commands::signed))]
+#[tactic(auto, using(cmd_common::proofs::Texts::parts_are_texts), unfolding(spec_live::specs::Lives::unchanged, spec_commands::specs::Going::ended, spec_commands::specs::Reading::by_table, spec_commands::specs::Commands::said_by_sign))]
 fn do_words(guard: &mut Guard, d: u32, line: &Line) -> Result<Outcome, NoMemory>
     ensures { Plays (by_table play_words play_shape (play_done d guard.old.actor (line_typed line.now)) d guard.old.actor line.now) guard.old guard.new result }
 {

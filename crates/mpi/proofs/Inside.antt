@@ -11,7 +11,7 @@ use Rattle.std.proofs.lemmas.Bool.{le-ltb, lt-ltb, cases_lt}
 use Rattle.std.proofs.lemmas.List.{length-take, length-drop}
 use Rattle.std.proofs.lemmas.List.Sums.{prefix_len-le-length}
 use Rattle.laws.proofs.Tests.{all_append, all_drop, all_prefix, all_take, prefix_all}
-use Rattle.muck_model.specs.Bytes.{is_outside, fault_of, text_fault, text_most}
+use Rattle.muck_model.specs.Bytes.{is_outside, fault_of_bytes, text_fault, text_most}
 use Rattle.mpi.specs.Made.{Inside}
 
 abbrev pub is_inside : ℕ → Bool
@@ -27,7 +27,7 @@ made_is_text xs h le =
 pub text_inside : (xs : List ℕ) → text_fault xs ≡ None → Inside xs
 text_inside xs h =
     elim (cases_lt (position_or_len is_outside xs) (length xs)) [
-      | inl inside ↦ absurd (let e : fault_of (cond true (Some (position_or_len is_outside xs)) None) (length xs) ≡ None = rw (lt-ltb (position_or_len is_outside xs) (length xs) inside) at h in cc)
+      | inl inside ↦ absurd (let e : fault_of_bytes (cond true (Some (position_or_len is_outside xs)) None) (length xs) ≡ None = rw (lt-ltb (position_or_len is_outside xs) (length xs) inside) at h in cc)
       | inr past ↦ prefix_all is_inside xs (omega (arith, past, prefix_len-le-length is_inside xs))
     ]
 
@@ -36,7 +36,7 @@ text_short xs h =
     elim (cases_lt text_most (length xs)) [
       | inl long ↦ absurd (
           let e = all_prefix is_inside xs (text_inside xs h) in
-          let none : fault_of None (length xs) ≡ None = rw (le-ltb (position_or_len is_outside xs) (length xs) (omega (arith, e))) at h in
+          let none : fault_of_bytes None (length xs) ≡ None = rw (le-ltb (position_or_len is_outside xs) (length xs) (omega (arith, e))) at h in
           let some : Some text_most ≡ None = rw (lt-ltb text_most (length xs) long) at none in cc)
       | inr le ↦ le
     ]

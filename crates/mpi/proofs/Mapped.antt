@@ -6,7 +6,7 @@ use Rattle.std.proofs.lemmas.List.{get_or-map, take-map, drop-map, length-map}
 use Rattle.laws.proofs.Tests.{all_append, all_cons}
 use Rattle.muck_model.specs.Bytes.{text_fault}
 use Rattle.mpi.specs.Made.{is_text}
-use Rattle.mpi.specs.Values.{nth, above, cut}
+use Rattle.mpi.specs.Values.{nth, above_zero, part_between}
 use Rattle.mpi.proofs.Items.{text_there}
 
 -- each of a list whose texts all are
@@ -24,6 +24,6 @@ nth_past f (x ∷ xs) zero le = absurd (omega (arith, le))
 nth_past f (x ∷ xs) (suc i) le = nth_past f xs i (omega (arith, le))
 
 -- what stands from place p through place q
-pub cut_mapped : {A B : Type 0} (f : A → B) (p q : ℤ) (xs : List A) → map f (cut p q xs) ≡ cut p q (map f xs)
+pub cut_mapped : {A B : Type 0} (f : A → B) (p q : ℤ) (xs : List A) → map f (part_between p q xs) ≡ part_between p q (map f xs)
 cut_mapped f p q xs =
-    sym (take-map f (above q - (above p - 1)) (drop (above p - 1) xs)) ∙ ap (take (above q - (above p - 1))) (sym (drop-map f (above p - 1) xs))
+    sym (take-map f (above_zero q - (above_zero p - 1)) (drop (above_zero p - 1) xs)) ∙ ap (take (above_zero q - (above_zero p - 1))) (sym (drop-map f (above_zero p - 1) xs))

@@ -9,7 +9,7 @@ use Rattle.laws.proofs.Parts.{body_front, nine}
 use Rattle.laws.proofs.Places.{first_byte}
 use Rattle.laws.proofs.Texts.{same_word, size_word}
 use Rattle.muck_log.specs.Body.{Body, body_of, magic}
-use Rattle.muck_bodies.specs.Bodies.{bodies, bodies_of, body_numbered, number_of, generation_of}
+use Rattle.muck_bodies.specs.Bodies.{bodies_up_to, bodies_of, body_numbered, body_number, generation_of}
 use Rattle.muck_bodies.proofs.Firsts.{first_short, first_shut, first_cut, first_whole}
 use Rattle.muck_bodies.specs.declared.head.Head.{Head}
 use Rattle.muck_bodies.specs.inner.Heads.{IsHead, IsWhole}
@@ -19,8 +19,8 @@ record IsFront (front file : List ℕ) (left : ℕ) : Type 0 where
   size : length file ≡ left
   same : front ≡ take 34 file
 
-none_too : (file : List ℕ) → ((n : ℕ) → bodies (suc n) file ≡ []) → (n : ℕ) → bodies n file ≡ []
-unfolding bodies
+none_too : (file : List ℕ) → ((n : ℕ) → bodies_up_to (suc n) file ≡ []) → (n : ℕ) → bodies_up_to n file ≡ []
+unfolding bodies_up_to
 none_too file none zero = refl
 none_too file none (suc n) = none n
 
@@ -37,7 +37,7 @@ cut_head front file rest left size long same at is cut =
 
 -- what follows from a body that is there
 pub whole_head : (front file rest : List ℕ) (left size d : ℕ) → length file ≡ left → front ≡ take 34 file → rest ≡ drop 1 front → size ≡ from_be_bytes w64 (take 8 rest) → get_or front 0 d ≡ 1 → 9 ≤ length front → size ≤ left - 9
-    → (9 + size ≤ length file) × ((n : ℕ) → bodies (suc n) file ≡ take size (drop 9 file) ∷ bodies n (drop (9 + size) file))
+    → (9 + size ≤ length file) × ((n : ℕ) → bodies_up_to (suc n) file ≡ take size (drop 9 file) ∷ bodies_up_to n (drop (9 + size) file))
 whole_head front file rest left size d long same at is gate some fits =
     let s : size ≡ from_be_bytes w64 (take 8 (drop 1 file)) = is ∙ size_word front file rest same at in
     let enough : 9 ≤ length file = omega (arith, some, ap length same, length-take 34 file) in
@@ -45,8 +45,8 @@ whole_head front file rest left size d long same at is gate some fits =
     let room : from_be_bytes w64 (take 8 (drop 1 file)) ≤ length (drop 8 (drop 1 file)) = subst (λ n. n ≤ length (drop 8 (drop 1 file))) s (subst (λ l. size ≤ length l) (sym (nine file)) (omega (arith, fits, long, length-drop 9 file))) in (
       omega (arith, fits, long, enough),
       λ n. first_whole file d open_ enough room n
-          ∙ ap (λ m. take m (drop 8 (drop 1 file)) ∷ bodies n (drop m (drop 8 (drop 1 file)))) (sym s) ∙ ap (λ l. take size l ∷ bodies n (drop size l)) (nine file)
-          ∙ ap (λ l. take size (drop 9 file) ∷ bodies n l) (drop-drop size 9 file),
+          ∙ ap (λ m. take m (drop 8 (drop 1 file)) ∷ bodies_up_to n (drop m (drop 8 (drop 1 file)))) (sym s) ∙ ap (λ l. take size l ∷ bodies_up_to n (drop size l)) (nine file)
+          ∙ ap (λ l. take size (drop 9 file) ∷ bodies_up_to n l) (drop-drop size 9 file),
     )
 
 -- The generation and the number of a body stand in its first 25 bytes.
@@ -74,7 +74,7 @@ pub same_generation : (size : ℕ) (l : List ℕ) → 25 ≤ size → size ≤ l
 unfolding parsed
 same_generation size l big fits = same_front (λ (b : Body). b.generation) size l big fits (same_word 5 size l (omega arith) big)
 
-pub same_number : (size : ℕ) (l : List ℕ) → 25 ≤ size → size ≤ length l → number_of (take 25 l) ≡ number_of (take size l)
+pub same_number : (size : ℕ) (l : List ℕ) → 25 ≤ size → size ≤ length l → body_number (take 25 l) ≡ body_number (take size l)
 unfolding parsed
 same_number size l big fits = same_front (λ (b : Body). b.number) size l big fits (same_word 13 size l (omega arith) big)
 
@@ -85,7 +85,7 @@ small_mark f file size small =
     sym (ap (λ t. option_map_or f (if t && bytes_eq (take 5 bytes) magic then Some (parsed bytes) else None) 0) (lt-leb 25 (length bytes) (omega (arith, small, length-take size (drop 9 file)))))
 
 pub small_whole : (h : Head) (file : List ℕ) → h.generation ≡ 0 → h.number ≡ 0 → h.size < 25 → 9 + h.size ≤ length file
-    → ((n : ℕ) → bodies (suc n) file ≡ take h.size (drop 9 file) ∷ bodies n (drop (9 + h.size) file)) → IsWhole h file
+    → ((n : ℕ) → bodies_up_to (suc n) file ≡ take h.size (drop 9 file) ∷ bodies_up_to n (drop (9 + h.size) file)) → IsWhole h file
 small_whole h file generation number small fits first = record {
   fits = fits;
   number = number ∙ small_mark (λ (b : Body). b.number) file h.size small;
@@ -93,19 +93,19 @@ small_whole h file generation number small fits first = record {
   first = first;
 }
 
-pub large_whole : (h : Head) (front file body : List ℕ) → front ≡ take 34 file → body ≡ drop 9 front → h.generation ≡ generation_of body → h.number ≡ number_of body → 25 ≤ h.size → 9 + h.size ≤ length file
-    → ((n : ℕ) → bodies (suc n) file ≡ take h.size (drop 9 file) ∷ bodies n (drop (9 + h.size) file)) → IsWhole h file
+pub large_whole : (h : Head) (front file body : List ℕ) → front ≡ take 34 file → body ≡ drop 9 front → h.generation ≡ generation_of body → h.number ≡ body_number body → 25 ≤ h.size → 9 + h.size ≤ length file
+    → ((n : ℕ) → bodies_up_to (suc n) file ≡ take h.size (drop 9 file) ∷ bodies_up_to n (drop (9 + h.size) file)) → IsWhole h file
 large_whole h front file body same at generation number large fits first =
     let here = body_front front file body same at in
     let inside : h.size ≤ length (drop 9 file) = omega (arith, fits, length-drop 9 file) in record {
       fits = fits;
-      number = number ∙ ap (λ l. number_of l) here ∙ same_number h.size (drop 9 file) large inside;
+      number = number ∙ ap (λ l. body_number l) here ∙ same_number h.size (drop 9 file) large inside;
       generation = generation ∙ ap (λ l. generation_of l) here ∙ same_generation h.size (drop 9 file) large inside;
       first = first;
     }
 
-same_fuel : (n m : ℕ) (file : List ℕ) → length file ≤ n → length file ≤ m → bodies n file ≡ bodies m file
-unfolding bodies
+same_fuel : (n m : ℕ) (file : List ℕ) → length file ≤ n → length file ≤ m → bodies_up_to n file ≡ bodies_up_to m file
+unfolding bodies_up_to
 same_fuel zero zero [] a b = refl
 same_fuel zero (suc m) [] a b = refl
 same_fuel (suc n) zero [] a b = refl
@@ -119,30 +119,30 @@ same_fuel (suc n) (suc m) (g ∷ x ∷ rest) a b =
     (same_fuel n m (drop (8 + size) (x ∷ rest)) (omega (arith, a, length-drop (8 + size) (x ∷ rest))) (omega (arith, b, length-drop (8 + size) (x ∷ rest))))
 
 -- nor is there one in no bytes
-pub no_bodies : (file : List ℕ) → length file ≡ 0 → (n : ℕ) → bodies n file ≡ []
-unfolding bodies
+pub no_bodies : (file : List ℕ) → length file ≡ 0 → (n : ℕ) → bodies_up_to n file ≡ []
+unfolding bodies_up_to
 no_bodies [] e zero = refl
 no_bodies [] e (suc n) = refl
 no_bodies (x ∷ file) e n = absurd (omega (arith, e))
 
-pub found_none : (number : ℕ) (file : List ℕ) → ((n : ℕ) → bodies n file ≡ []) → body_numbered number (bodies_of file) ≡ None
+pub found_none : (number : ℕ) (file : List ℕ) → ((n : ℕ) → bodies_up_to n file ≡ []) → body_numbered number (bodies_of file) ≡ None
 unfolding body_numbered bodies_of
-found_none number file none = ap (find (λ b. eqb (number_of b) number)) (none (length file))
+found_none number file none = ap (find (λ b. eqb (body_number b) number)) (none (length file))
 
 pub found_end : (number at : ℕ) (file : List ℕ) → length file ≤ at → body_numbered number (bodies_of (drop at file)) ≡ None
-unfolding bodies
+unfolding bodies_up_to
 found_end number at file le = found_none number (drop at file) (nothing (drop at file) (omega (arith, le, length-drop at file)))
   where
-    nothing : (l : List ℕ) → length l ≤ 0 → (n : ℕ) → bodies n l ≡ []
+    nothing : (l : List ℕ) → length l ≤ 0 → (n : ℕ) → bodies_up_to n l ≡ []
     nothing l le n = same_fuel n 0 l (omega (arith, le)) le
 
-pub found_next : (number size n : ℕ) (file : List ℕ) (b : Bool) → 9 + size ≤ length file → n ≡ number_of (take size (drop 9 file))
-    → ((n : ℕ) → bodies (suc n) file ≡ take size (drop 9 file) ∷ bodies n (drop (9 + size) file)) → eqb n number ≡ b
+pub found_next : (number size n : ℕ) (file : List ℕ) (b : Bool) → 9 + size ≤ length file → n ≡ body_number (take size (drop 9 file))
+    → ((n : ℕ) → bodies_up_to (suc n) file ≡ take size (drop 9 file) ∷ bodies_up_to n (drop (9 + size) file)) → eqb n number ≡ b
     → body_numbered number (bodies_of file) ≡ (if b then Some (take size (drop 9 file)) else body_numbered number (bodies_of (drop (9 + size) file)))
 unfolding body_numbered bodies_of
 found_next number size n file b fits is first test =
     let rest = drop (9 + size) file in
     let k : length file ≡ suc (length file - 1) = omega (arith, fits) in
-    let shape : bodies (length file) file ≡ take size (drop 9 file) ∷ bodies (length rest) rest =
-    ap (λ m. bodies m file) k ∙ first (length file - 1) ∙ ap (λ l. take size (drop 9 file) ∷ l) (same_fuel (length file - 1) (length rest) rest (omega (arith, fits, length-drop (9 + size) file)) (omega arith)) in
-    ap (find (λ x. eqb (number_of x) number)) shape ∙ ap (λ t. if t then Some (take size (drop 9 file)) else find (λ x. eqb (number_of x) number) (bodies (length rest) rest)) (ap (λ m. eqb m number) (sym is) ∙ test)
+    let shape : bodies_up_to (length file) file ≡ take size (drop 9 file) ∷ bodies_up_to (length rest) rest =
+    ap (λ m. bodies_up_to m file) k ∙ first (length file - 1) ∙ ap (λ l. take size (drop 9 file) ∷ l) (same_fuel (length file - 1) (length rest) rest (omega (arith, fits, length-drop (9 + size) file)) (omega arith)) in
+    ap (find (λ x. eqb (body_number x) number)) shape ∙ ap (λ t. if t then Some (take size (drop 9 file)) else find (λ x. eqb (body_number x) number) (bodies_up_to (length rest) rest)) (ap (λ m. eqb m number) (sym is) ∙ test)

@@ -14,9 +14,9 @@ use Rattle.muck_model.specs.Parameters.{parameters, with_parameter, values_of, f
 use Rattle.muck_model.proofs.Parameters.{put_all, filled, taken_again, as_many}
 use Rattle.muck_codec.specs.declared.stored.Stored.{Stored}
 use Rattle.muck_codec.specs.declared.stored.Batch.{Batch}
-use Rattle.muck_codec.specs.Reading.{◌>>=◌, both, counted, mapped, several, number_at}
+use Rattle.muck_codec.specs.Reading.{◌>>=◌, both_read, count_then_items, mapped, several, number_at}
 use Rattle.muck_codec.specs.Records.{record_at}
-use Rattle.muck_codec.specs.Batches.{is_above, next_at, records_at, parameters_at, tune_at, batch_of, batch_at, whole_batch, tune_bytes, batch_bytes}
+use Rattle.muck_codec.specs.Batches.{is_above, next_record_at, records_at, parameters_at, tune_at, batch_of, batch_at, whole_batch, tune_bytes, batch_bytes}
 use Rattle.muck_codec.specs.Spelling.{spelling}
 use Rattle.muck_codec.specs.inner.Stored.{IsStored, Run, IsWord, AreWords, IsTune}
 use Rattle.muck_codec.proofs.Codes.{IsBytes, bind_ok, ok_is, Takes, Codes, both_codes, mapped_codes, several_take, several_again, counted_codes}
@@ -38,8 +38,8 @@ IsNextRecord before o = IsStored o × (is_above before o.dbref ≡ true)
 abbrev judged : Option Dbref → Stored × List ℕ → Result (Stored × List ℕ) ℕ
 judged before o = if is_above before o.0.dbref then Ok o else Err (suc (length o.1))
 
-next_takes : (before : Option Dbref) (bytes rest : List ℕ) (o : Stored) → IsBytes bytes → next_at 1 before bytes ≡ Ok (o, rest) → Takes bytes (spelling o) rest × IsNextRecord before o
-unfolding next_at
+next_takes : (before : Option Dbref) (bytes rest : List ℕ) (o : Stored) → IsBytes bytes → next_record_at 1 before bytes ≡ Ok (o, rest) → Takes bytes (spelling o) rest × IsNextRecord before o
+unfolding next_record_at
 next_takes before bytes rest o fits e =
     let made : Stored × List ℕ = (o, rest) in
     let a = bind_ok (record_at 1 bytes) (judged before) made e in
@@ -47,12 +47,12 @@ next_takes before bytes rest o fits e =
     let t = test_ok (is_above before a.0.0.dbref) (suc (length a.0.1)) a.0 made a.2 in
     subst (λ (y : Stored × List ℕ). Takes bytes (spelling y.0) y.1 × (IsStored y.0 × (is_above before y.0.dbref ≡ true))) t.1 (one.0, (one.1, t.0))
 
-next_again : (before : Option Dbref) (o : Stored) (rest : List ℕ) → IsNextRecord before o → next_at 1 before (spelling o ++ rest) ≡ Ok (o, rest)
-unfolding next_at
+next_again : (before : Option Dbref) (o : Stored) (rest : List ℕ) → IsNextRecord before o → next_record_at 1 before (spelling o ++ rest) ≡ Ok (o, rest)
+unfolding next_record_at
 next_again before o rest rule =
     ap (λ r. r >>= judged before) (record_codes.again o rest rule.0) ∙ cond-true (is_above before o.dbref) (Ok (o, rest)) (Err (suc (length rest))) rule.1
 
-next_codes : (before : Option Dbref) → Codes (next_at 1 before) spelling (IsNextRecord before)
+next_codes : (before : Option Dbref) → Codes (next_record_at 1 before) spelling (IsNextRecord before)
 next_codes before = record { takes = next_takes before; again = next_again before }
 
 abbrev pub dbref_key : Stored → Dbref
@@ -65,10 +65,10 @@ abbrev records_bytes : List Stored → List ℕ
 records_bytes records = to_be_bytes w32 (length records) ++ flat_map spelling records
 
 abbrev records_part : List ℕ → Result (List Stored × List ℕ) ℕ
-records_part bytes = counted (number_at w32) (records_at 1) bytes
+records_part bytes = count_then_items (number_at w32) (records_at 1) bytes
 
 records_codes : Codes records_part records_bytes AreRecords
-records_codes = counted_codes dbref_key (next_at 1) spelling IsNextRecord next_codes (number_at w32) (to_be_bytes w32) (λ n. n < 2 ^ 32) codes32
+records_codes = counted_codes dbref_key (next_record_at 1) spelling IsNextRecord next_codes (number_at w32) (to_be_bytes w32) (λ n. n < 2 ^ 32) codes32
 
 pub all_stored : (before : Option Dbref) (records : List Stored) → Run dbref_key IsNextRecord before records → All IsStored records
 all_stored before [] run = All-nil IsStored
@@ -132,7 +132,7 @@ spelled b = batch_bytes b.records b.tune
 
 batch_codes : Codes (batch_at 1) spelled IsWhole
 unfolding batch_at batch_bytes
-batch_codes = mapped_codes batch_of (both records_part tune_at) (λ x. records_bytes x.0 ++ tune_bytes x.1) spelled (λ x. AreRecords x.0 × IsTune x.1) IsWhole
+batch_codes = mapped_codes batch_of (both_read records_part tune_at) (λ x. records_bytes x.0 ++ tune_bytes x.1) spelled (λ x. AreRecords x.0 × IsTune x.1) IsWhole
     (λ x rule. sym (append_assoc (to_be_bytes w32 (length x.0)) (flat_map spelling x.0) (tune_bytes x.1))) (λ x rule. rule) (λ b rule. ((b.records, b.tune), refl, rule))
     (both_codes records_part tune_at records_bytes tune_bytes AreRecords IsTune records_codes tune_codes)
 

@@ -4,7 +4,7 @@ use Rattle.std.specs.List.{flat_map}
 use Rattle.std.proofs.lemmas.Bool.{cases_lt}
 use Rattle.std.proofs.lemmas.List.{length-take, get_or-drop, get_or-take, get_or_past}
 use Rattle.std.proofs.lemmas.List.Concat.{flat_map-cons}
-use Rattle.muck_codec.specs.Reading.{◌>>=◌, both, counted, mapped, several}
+use Rattle.muck_codec.specs.Reading.{◌>>=◌, both_read, count_then_items, mapped, several}
 use Rattle.muck_codec.specs.inner.Stored.{Run}
 
 abbrev pub IsBytes : List ℕ → Type 0
@@ -47,7 +47,7 @@ pub record Codes {A : Type 0} (part : List ℕ → Result (A × List ℕ) ℕ) (
   pub again : (x : A) (rest : List ℕ) → rule x → part (spell x ++ rest) ≡ Ok (x, rest)
 
 pub both_codes : {A B : Type 0} (p : List ℕ → Result (A × List ℕ) ℕ) (q : List ℕ → Result (B × List ℕ) ℕ) (s : A → List ℕ) (t : B → List ℕ) (F : A → Type 0) (G : B → Type 0)
-    → Codes p s F → Codes q t G → Codes (both p q) (λ x. s x.0 ++ t x.1) (λ x. F x.0 × G x.1)
+    → Codes p s F → Codes q t G → Codes (both_read p q) (λ x. s x.0 ++ t x.1) (λ x. F x.0 × G x.1)
 both_codes {A = A} {B = B} p q s t F G first second = record {
   takes = λ bytes rest x fits e.
       let a = bind_ok (p bytes) (λ u. q u.1 >>= λ v. Ok ((u.0, v.0), v.1)) (x, rest) e in
@@ -61,7 +61,7 @@ both_codes {A = A} {B = B} p q s t F G first second = record {
   again = λ x rest rule.
       let two : q (t x.1 ++ rest) ≡ Ok (x.1, rest) = second.again x.1 rest rule.1 in
       let one : p (s x.0 ++ (t x.1 ++ rest)) ≡ Ok (x.0, t x.1 ++ rest) = first.again x.0 (t x.1 ++ rest) rule.0 in
-      ap (both p q) (append_assoc (s x.0) (t x.1) rest) ∙ rw (one, two) refl;
+      ap (both_read p q) (append_assoc (s x.0) (t x.1) rest) ∙ rw (one, two) refl;
 }
 
 pub mapped_codes : {A B : Type 0} (f : A → B) (p : List ℕ → Result (A × List ℕ) ℕ) (s : A → List ℕ) (t : B → List ℕ) (F : A → Type 0) (G : B → Type 0)
@@ -110,7 +110,7 @@ module _ {A K : Type 0} (key : A → K) (part : Option K → List ℕ → Result
 
   -- behind their count
   pub counted_codes : (count : List ℕ → Result (ℕ × List ℕ) ℕ) (t : ℕ → List ℕ) (G : ℕ → Type 0) → Codes count t G
-      → Codes (counted count (several key part None)) (λ xs. t (length xs) ++ flat_map s xs) (λ xs. G (length xs) × Run key F None xs)
+      → Codes (count_then_items count (several key part None)) (λ xs. t (length xs) ++ flat_map s xs) (λ xs. G (length xs) × Run key F None xs)
   counted_codes count t G number = record {
     takes = λ bytes rest xs fits e.
         let a = bind_ok (count bytes) (λ n. several key part None n.0 n.1) (xs, rest) e in
@@ -118,7 +118,7 @@ module _ {A K : Type 0} (key : A → K) (part : Option K → List ℕ → Result
         let two = several_take None a.0.0 a.0.1 rest xs one.0.rest_fits a.2 in
         (subst (λ k. Takes bytes (t k ++ flat_map s xs) rest) (sym two.1.0) (takes_then bytes (t a.0.0) a.0.1 (flat_map s xs) rest one.0 two.0), (subst G (sym two.1.0) one.1, two.1.1));
     again = λ xs rest rule.
-        ap (counted count (several key part None)) (append_assoc (t (length xs)) (flat_map s xs) rest)
+        ap (count_then_items count (several key part None)) (append_assoc (t (length xs)) (flat_map s xs) rest)
         ∙ ap (λ r. r >>= λ n. several key part None n.0 n.1) (number.again (length xs) (flat_map s xs ++ rest) rule.0)
         ∙ several_again None xs rest rule.1;
   }

@@ -11,7 +11,7 @@ use Rattle.muck_codec.specs.declared.stored.Stored.{Stored}
 use Rattle.muck_codec.specs.declared.stored.Batch.{Batch}
 use Rattle.muck_codec.specs.declared.fault.CodecFault.{CodecFault}
 use Rattle.muck_codec.specs.declared.fault.CodecFault.TheVariants.{BadRecord, NoMemory}
-use Rattle.muck_codec.specs.Reading.{◌>>=◌, both, counted, mapped, several, number_at}
+use Rattle.muck_codec.specs.Reading.{◌>>=◌, both_read, count_then_items, mapped, several, number_at}
 use Rattle.muck_codec.specs.Records.{record_at}
 use Rattle.muck_codec.specs.Spelling.{spelling}
 
@@ -21,12 +21,12 @@ is_above None d = true
 is_above (Some before) d = int_lt before.0 d.0
 
 -- a record whose dbref is above the one before; one that is out of order is refused at its last byte
-unfoldable pub next_at : ℕ → Option Dbref → List ℕ → Result (Stored × List ℕ) ℕ
-next_at version before bytes = record_at version bytes >>= λ o. if is_above before o.0.dbref then Ok o else Err (suc (length o.1))
+unfoldable pub next_record_at : ℕ → Option Dbref → List ℕ → Result (Stored × List ℕ) ℕ
+next_record_at version before bytes = record_at version bytes >>= λ o. if is_above before o.0.dbref then Ok o else Err (suc (length o.1))
 
 -- so many records, by rising dbref
 abbrev pub records_at : ℕ → ℕ → List ℕ → Result (List Stored × List ℕ) ℕ
-records_at version n bytes = several (λ o. o.dbref) (next_at version) None n bytes
+records_at version n bytes = several (λ o. o.dbref) (next_record_at version) None n bytes
 
 -- the numbers of these parameters, one behind the other
 abbrev pub parameters_at : List Parameter → Tune → List ℕ → Result (Tune × List ℕ) ℕ
@@ -41,7 +41,7 @@ batch_of x = record { records = x.0; tune = x.1 }
 
 -- a batch, and the bytes behind it
 unfoldable pub batch_at : ℕ → List ℕ → Result (Batch × List ℕ) ℕ
-batch_at version bytes = mapped batch_of (both (counted (number_at w32) (records_at version)) tune_at) bytes
+batch_at version bytes = mapped batch_of (both_read (count_then_items (number_at w32) (records_at version)) tune_at) bytes
 
 -- bytes that are a batch to their end
 unfoldable pub whole_batch : ℕ → List ℕ → Result Batch ℕ

@@ -2,7 +2,7 @@
 ghost use Rattle.std.specs.Prelude.{◌≡◌, ◌≤◌, ◌<◌, length, Ok, Err, Some, None, All, IfOk};
 ghost use Rattle.muck_codec.specs.inner.Stored.{IsStored};
 ghost use Rattle.muck_codec.specs.Reading.{Gives, last_key};
-ghost use Rattle.muck_codec.specs.Batches.{is_above, next_at, records_at, tune_at, batch_at, whole_batch, IsBatch};
+ghost use Rattle.muck_codec.specs.Batches.{is_above, next_record_at, records_at, tune_at, batch_at, whole_batch, IsBatch};
 
 use crate::fault::{CodecFault, Unread};
 use crate::reading::u32_at;
@@ -20,14 +20,14 @@ fn is_above(before: Option<Dbref>, dbref: Dbref) -> bool
     }
 }
 
-#[tactic(auto, unfolding(crate::specs::Batches::next_at))]
+#[tactic(auto, unfolding(crate::specs::Batches::next_record_at))]
 fn next_at(
     alloc: Global,
     version: u8,
     before: Option<Dbref>,
     bytes: &[u8],
 ) -> Result<(Stored, &[u8]), Unread>
-    ensures { Gives (λ x. (x.0, x.1.now)) result (next_at version before bytes.now) }
+    ensures { Gives (λ x. (x.0, x.1.now)) result (next_record_at version before bytes.now) }
 {
     let (stored, rest) = record_at(alloc, version, bytes)?;
     if !is_above(before, stored.dbref) {

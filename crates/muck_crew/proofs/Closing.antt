@@ -7,7 +7,7 @@ use mathlib.Core.Option.{some, some-ne-none, some-injective}
 use lib.ListN.{get_elem?}
 use Rattle.laws.proofs.Places.{got_index}
 use Rattle.atomic_table.specs.Seated.{TableId}
-use Rattle.turn_lock.specs.Histories.{StartsWith, kept, own_of, Has}
+use Rattle.turn_lock.specs.Histories.{StartsWith, entry_kept, own_of, Has}
 use Rattle.turn_lock.specs.declared.view.Taken.{Taken}
 use Rattle.turn_lock.specs.declared.view.Place.TheVariants.{Idle}
 use Rattle.turn_lock.specs.inner.Turns.{kept_of, left_after, newcomer}
@@ -33,7 +33,7 @@ use Rattle.muck_dumping.specs.inner.Between.{IsReady as HasLog, Knows}
 use Rattle.muck_dumper.specs.inner.Dumping.{history_from, history_seen}
 use Rattle.muck_porter.specs.inner.Porter.{PorterReady}
 use Rattle.muck_crew.specs.declared.seats.Part.{Part}
-use Rattle.muck_crew.specs.Shared.{done_by}
+use Rattle.muck_crew.specs.Shared.{events_done_by}
 use Rattle.muck_crew.specs.inner.Parts.{IsAble, given_to, IsDealt, AreDealt, all_in, IsReady, IsDone, AreDone}
 use Rattle.muck_crew.specs.inner.Runs.{IsFresh}
 
@@ -44,7 +44,7 @@ events_entries [] = refl
 events_entries (l ∷ ls) = ap (λ (es : List Event). l.entry.event ∷ es) (events_entries ls)
 
 -- what a party did are the events of its own items
-pub done_own : (p : ℕ) (h : History) → done_by p h.entries ≡ events_of (own_of logged_by p (logged h))
+pub done_own : (p : ℕ) (h : History) → events_done_by p h.entries ≡ events_of (own_of logged_by p (logged h))
 done_own p h =
     ap (λ (es : List Entry). map (λ (e : Entry). e.event) (own_of party_of p es)) (sym (entries_logged h))
     ∙ ap (λ (es : List Entry). map (λ (e : Entry). e.event) es) (sym (own_entries_of p (logged h)))
@@ -54,7 +54,7 @@ pub own_has : (p : ℕ) (ls : List Logged) (l : Logged) → Has (own_of logged_b
 own_has p [] l h = h
 own_has p (x ∷ xs) l h = from (own_has p xs l) (x.entry.party == p) h
   where
-    from : (Has (own_of logged_by p xs) l → Has xs l) → (b : Bool) → Has (kept b x (own_of logged_by p xs)) l → Has (x ∷ xs) l
+    from : (Has (own_of logged_by p xs) l → Has xs l) → (b : Bool) → Has (entry_kept b x (own_of logged_by p xs)) l → Has (x ∷ xs) l
     from ih true (zero, at) = (0, at)
     from ih true (suc i, at) = let r = ih (i, at) in (suc r.0, r.1)
     from ih false r = let q = ih r in (suc q.0, q.1)

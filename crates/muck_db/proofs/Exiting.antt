@@ -8,7 +8,7 @@ use Rattle.laws.proofs.Places.{get_ext}
 use Rattle.laws.proofs.Truths.{whether}
 use Rattle.muck_model.specs.declared.dbref.Kind.TheVariants.{Garbage}
 use Rattle.spec_live.specs.declared.object.Object.{Object}
-use Rattle.spec_live.specs.Chain.{walk, IsChain, Ends, Member, IsApart, without}
+use Rattle.spec_live.specs.Chain.{walk, IsChain, Ends, Member, IsApart, without_number}
 use Rattle.spec_live.specs.Objects.{Entry, changed_at, list_in}
 use Rattle.spec_live.specs.Recycling.{is_exit_of}
 use Rattle.spec_live.specs.Consistent.{StandsIn}
@@ -27,7 +27,7 @@ pub lists_exits : (d : ℕ) (old mid : List Slot) → HasOrder old → IsUnlinke
 lists_exits d old mid s u =
     let es : List Entry = entries_of old in
     record {
-      ends = ends_from (length mid) (next_at mid) (first_at true mid d) (without d (list_at true old d)) (u.chains true d);
+      ends = ends_from (length mid) (next_at mid) (first_at true mid d) (without_number d (list_at true old d)) (u.chains true d);
       listed = λ k h.
           let is : exit_at d old k ≡ true = sym (exit_same d k old mid u) ∙ h in
           let stands : StandsIn es true d k = exit_stands_in d k es (exit_bridge d k old ∙ is) in
@@ -35,7 +35,7 @@ lists_exits d old mid s u =
           let other : k ≡ d → ⊥ =
           λ e. let own : StandsIn es true d d = subst (λ (z : ℕ). StandsIn es true d z) e stands in
           false≢true (sym (sym (exit_bridge d d old) ∙ place_stays d d d es s.ordered own.place) ∙ subst (λ (z : ℕ). exit_at d old z ≡ true) e is) in
-          subst (Member k) (sym (list_is true mid d (without d (list_at true old d)) (u.chains true d))) (member_without d k (list_at true old d) other here);
+          subst (Member k) (sym (list_is true mid d (without_number d (list_at true old d)) (u.chains true d))) (member_without d k (list_at true old d) other here);
     }
 
 -- a walk over the exits of d: what is still before it is as it was, and everything else is done

@@ -12,14 +12,14 @@ use Rattle.spec_live.specs.Objects.{Entry, index_of, list_in, object_in}
 use Rattle.muck_codec.specs.declared.stored.Stored.{Stored}
 use Rattle.muck_codec.specs.declared.stored.Property.{Property}
 use Rattle.muck_store.specs.inner.Changes.{IsKept, LeavesOut, none, takes, leaves}
-use Rattle.muck_store.specs.Forms.{property_of, properties_of, first_of, link_of, next_in, stored_of, stored_from, persist}
+use Rattle.muck_store.specs.Forms.{property_of, properties_of, first_in_list, link_to_number, next_in, stored_of, stored_from, persist}
 use Rattle.muck_db.specs.inner.Kept.{stored_at, HasFields, HasLinks, HasTexts}
 use Rattle.muck_db.proofs.Cutting.{stored_with, record_is}
 
 -- A record that has everything is what is stored.
 
 same_stored : (es : List Entry) (k : ℕ) (o : Object) (s : Stored) → HasFields o s → HasLinks es k s → HasTexts o s
-    → s ≡ stored_with k o (first_of (list_in false es k)) (first_of (list_in true es k)) (link_of (next_in es k))
+    → s ≡ stored_with k o (first_in_list (list_in false es k)) (first_in_list (list_in true es k)) (link_to_number (next_in es k))
 same_stored es k o s f l t =
     rw (← l.dbref, ← f.kind, ← f.flags, ← f.level, ← f.owner, ← f.place, ← f.link, ← f.home, ← l.content, ← l.exit, ← l.next, ← t.name, ← t.props, ← t.lines, ← t.digest) refl
 

@@ -17,9 +17,9 @@ use Rattle.spec_live.specs.declared.object.Object.{Object}
 use Rattle.spec_live.specs.declared.mark.Mark.TheVariants.{Gone}
 use Rattle.spec_live.specs.declared.saving.Saving.{Saving}
 use Rattle.spec_live.specs.declared.saving.Saving.TheVariants.{Due}
-use Rattle.spec_live.specs.Chain.{walk, IsChain, Ends, Member, follower, without}
-use Rattle.spec_live.specs.Objects.{Entry, dbref_of, index_of, same, is_exit, is_player, may_stand, changed_at, garbage, list_of, object_in, list_in, mark_in, kind_in, place_in, fits_in, is_vehicle_in}
-use Rattle.spec_live.specs.Saving.{front, next_in, links_in, saving_in}
+use Rattle.spec_live.specs.Chain.{walk, IsChain, Ends, Member, follower, without_number}
+use Rattle.spec_live.specs.Objects.{Entry, dbref_of, index_of, same, is_exit, is_player, may_stand, changed_at, garbage, entry_list, object_in, list_in, mark_in, kind_in, place_in, fits_in, is_vehicle_in}
+use Rattle.spec_live.specs.Saving.{first_of_list, next_in, links_in, saving_in}
 use Rattle.spec_live.specs.Moving.{left_out, moved, Does}
 use Rattle.spec_live.specs.Recycling.{untie, untied, way_home, sent_home, gone_entry, is_exit_of, exit_gone, without_exits, exits_gone, vanished, taken_away, recycled, recycle_check}
 use Rattle.spec_live.specs.Consistent.{StandsIn, IsOrdered, IsConsistent, MayMove}
@@ -216,7 +216,7 @@ unfolding exit_at
 exit_same d k old mid u = ap (λ (o : Option Object). option_map_or (is_exit_of d) o false) (u.same_objects k)
 
 -- a list that isn't of d holds no exit of d
-others_stay : (v : Bool) (d p y : ℕ) (old mid : List Slot) → HasOrder old → IsUnlinked d old mid → (p ≡ d → ⊥) → Member y (without d (list_at v old p)) → exit_at d mid y ≡ false
+others_stay : (v : Bool) (d p y : ℕ) (old mid : List Slot) → HasOrder old → IsUnlinked d old mid → (p ≡ d → ⊥) → Member y (without_number d (list_at v old p)) → exit_at d mid y ≡ false
 others_stay v d p y old mid s u ne m = whether (exit_at d mid y) (exit_at d mid y ≡ false)
     (λ h. let t : Stands old v p y = (order_chains old s).stands v p y (without_member d y (list_at v old p) m) in
     let place : place_at old y ≡ Some d = exit_place d y old (sym (exit_same d y old mid u) ∙ h) in
@@ -224,7 +224,7 @@ others_stay v d p y old mid s u ne m = whether (exit_at d mid y) (exit_at d mid 
     (λ h. h)
 
 unfoldable left_list : ℕ → List Slot → Bool → ℕ → List ℕ
-left_list d old v p = cond (exit_at d old p) [] (without d (list_at v old p))
+left_list d old v p = cond (exit_at d old p) [] (without_number d (list_at v old p))
 
 chain_empty : (n : ℕ) (f : ℕ → Option ℕ) (s : Option ℕ) → s ≡ None → IsChain n f s []
 unfolding IsChain
@@ -236,11 +236,11 @@ unfolding left_list
 chain_left v d p old mid left new s u l n ne =
     let first : first_at v new p ≡ cond (exit_at d mid p) None (first_at v mid p) = first_kept_at v d p mid left new ne l n in
     let same_length : length new ≡ length mid = ap (λ (z : List Slot). length z) n ∙ length_changed left d wiped ∙ length_wiped d mid left l in
-    whether (exit_at d old p) (IsChain (length new) (next_at new) (first_at v new p) (cond (exit_at d old p) [] (without d (list_at v old p))))
+    whether (exit_at d old p) (IsChain (length new) (next_at new) (first_at v new p) (cond (exit_at d old p) [] (without_number d (list_at v old p))))
     (λ h. rw h (chain_empty (length new) (next_at new) (first_at v new p) (first ∙ ap (λ b. cond b None (first_at v mid p)) (exit_same d p old mid u ∙ h))))
-    (λ h. rw h (chain_over (length mid) (length new) (next_at mid) (next_at new) (first_at v mid p) (first_at v new p) (without d (list_at v old p)) (without d (list_at v old p)) same_length
+    (λ h. rw h (chain_over (length mid) (length new) (next_at mid) (next_at new) (first_at v mid p) (first_at v new p) (without_number d (list_at v old p)) (without_number d (list_at v old p)) same_length
     (first ∙ ap (λ b. cond b None (first_at v mid p)) (exit_same d p old mid u ∙ h)) refl
-    (λ y m. next_kept_at d y mid left new (λ e. without_gone d (list_at v old p) (let M : ℕ → Type 0 = λ z. Member z (without d (list_at v old p)) in subst M e m)) (others_stay v d p y old mid s u ne m) l n)
+    (λ y m. next_kept_at d y mid left new (λ e. without_gone d (list_at v old p) (let M : ℕ → Type 0 = λ z. Member z (without_number d (list_at v old p)) in subst M e m)) (others_stay v d p y old mid s u ne m) l n)
     (u.chains v p)))
 
 first_here : (v : Bool) (d : ℕ) (mid left new : List Slot) → d < length mid → left ≡ map (exit_wiped d) mid → new ≡ changed_at d wiped left → first_at v new d ≡ None
@@ -290,12 +290,12 @@ unfolding gone_entry
 gone_mark d e true h = ap (λ (z : Entry). z.mark) (gone_is d e h)
 gone_mark d e false h = ap (λ (z : Entry). z.mark) (stays_is d e h)
 
-gone_list : (v : Bool) (d : ℕ) (e : Entry) (b : Bool) → is_exit_of d e.object ≡ b → list_of v (left_out d (exit_gone d e)) ≡ cond b [] (without d (list_of v e))
-unfolding gone_entry without
-gone_list true d e true h = ap (λ (z : Entry). list_of true (left_out d z)) (gone_is d e h)
-gone_list false d e true h = ap (λ (z : Entry). list_of false (left_out d z)) (gone_is d e h)
-gone_list true d e false h = ap (λ (z : Entry). list_of true (left_out d z)) (stays_is d e h)
-gone_list false d e false h = ap (λ (z : Entry). list_of false (left_out d z)) (stays_is d e h)
+gone_list : (v : Bool) (d : ℕ) (e : Entry) (b : Bool) → is_exit_of d e.object ≡ b → entry_list v (left_out d (exit_gone d e)) ≡ cond b [] (without_number d (entry_list v e))
+unfolding gone_entry without_number
+gone_list true d e true h = ap (λ (z : Entry). entry_list true (left_out d z)) (gone_is d e h)
+gone_list false d e true h = ap (λ (z : Entry). entry_list false (left_out d z)) (gone_is d e h)
+gone_list true d e false h = ap (λ (z : Entry). entry_list true (left_out d z)) (stays_is d e h)
+gone_list false d e false h = ap (λ (z : Entry). entry_list false (left_out d z)) (stays_is d e h)
 
 unfoldable pub exit_in : ℕ → List Entry → ℕ → Bool
 exit_in d es k = option_map_or (is_exit_of d) (object_in es k) false
@@ -316,15 +316,15 @@ mark_left_in d k es ne = ap (λ (o : Option Entry). option_and_then (λ (e : Ent
     by_cases None = refl
     by_cases (Some e) = gone_mark d e (is_exit_of d e.object) refl
 
-without_none : (d : ℕ) → without d [] ≡ []
-unfolding without
+without_none : (d : ℕ) → without_number d [] ≡ []
+unfolding without_number
 without_none d = refl
 
-list_left_in : (v : Bool) (d k : ℕ) (es : List Entry) → (k ≡ d → ⊥) → list_in v (vanished d (exits_gone d es)) k ≡ cond (exit_in d es k) [] (without d (list_in v es k))
+list_left_in : (v : Bool) (d k : ℕ) (es : List Entry) → (k ≡ d → ⊥) → list_in v (vanished d (exits_gone d es)) k ≡ cond (exit_in d es k) [] (without_number d (list_in v es k))
 unfolding list_in exit_in object_in
-list_left_in v d k es ne = ap (λ (o : Option Entry). option_map_or (list_of v) o []) (get_left d k es ne) ∙ by_cases (slice_get es k)
+list_left_in v d k es ne = ap (λ (o : Option Entry). option_map_or (entry_list v) o []) (get_left d k es ne) ∙ by_cases (slice_get es k)
   where
-    by_cases : (o : Option Entry) → option_map_or (list_of v) (option_map (left_out d) (option_map (exit_gone d) o)) [] ≡ cond (option_map_or (is_exit_of d) (option_map (λ (e : Entry). e.object) o) false) [] (without d (option_map_or (list_of v) o []))
+    by_cases : (o : Option Entry) → option_map_or (entry_list v) (option_map (left_out d) (option_map (exit_gone d) o)) [] ≡ cond (option_map_or (is_exit_of d) (option_map (λ (e : Entry). e.object) o) false) [] (without_number d (option_map_or (entry_list v) o []))
     by_cases None = sym (without_none d)
     by_cases (Some e) = gone_list v d e (is_exit_of d e.object) refl
 
@@ -335,9 +335,9 @@ exit_bridge d k slots = ap (λ (o : Option Object). option_map_or (is_exit_of d)
 
 gone_here : (d : ℕ) (es : List Entry) → d < length es → (object_in (vanished d (exits_gone d es)) d ≡ Some garbage) × (mark_in (vanished d (exits_gone d es)) d ≡ Some Gone) × ((v : Bool) → list_in v (vanished d (exits_gone d es)) d ≡ [])
 unfolding object_in mark_in list_in gone_entry
-gone_here d es lt = (ap (λ (o : Option Entry). option_map (λ (e : Entry). e.object) o) (get_gone d es lt).1, ap (λ (o : Option Entry). option_and_then (λ (e : Entry). e.mark) o) (get_gone d es lt).1, λ v. ap (λ (o : Option Entry). option_map_or (list_of v) o []) (get_gone d es lt).1 ∙ none v)
+gone_here d es lt = (ap (λ (o : Option Entry). option_map (λ (e : Entry). e.object) o) (get_gone d es lt).1, ap (λ (o : Option Entry). option_and_then (λ (e : Entry). e.mark) o) (get_gone d es lt).1, λ v. ap (λ (o : Option Entry). option_map_or (entry_list v) o []) (get_gone d es lt).1 ∙ none v)
   where
-    none : (v : Bool) → list_of v (gone_entry (get_gone d es lt).0) ≡ []
+    none : (v : Bool) → entry_list v (gone_entry (get_gone d es lt).0) ≡ []
     none true = refl
     none false = refl
 
@@ -400,8 +400,8 @@ object_stays_in : (d k : ℕ) (es : List Entry) → (k ≡ d → ⊥) → exit_i
 unfolding exit_in
 object_stays_in d k es ne stays = object_left_in d k es ne ∙ left_object_same d (object_in es k) stays
 
-list_stays_in : (v : Bool) (d k : ℕ) (es : List Entry) → (k ≡ d → ⊥) → exit_in d es k ≡ false → list_in v (vanished d (exits_gone d es)) k ≡ without d (list_in v es k)
-list_stays_in v d k es ne stays = list_left_in v d k es ne ∙ ap (λ b. cond b [] (without d (list_in v es k))) stays
+list_stays_in : (v : Bool) (d k : ℕ) (es : List Entry) → (k ≡ d → ⊥) → exit_in d es k ≡ false → list_in v (vanished d (exits_gone d es)) k ≡ without_number d (list_in v es k)
+list_stays_in v d k es ne stays = list_left_in v d k es ne ∙ ap (λ b. cond b [] (without_number d (list_in v es k))) stays
 
 next_left : (d k : ℕ) (es : List Entry) → IsOrdered es → list_in false es d ≡ [] → (k ≡ d → ⊥) → exit_in d es k ≡ false → next_in (vanished d (exits_gone d es)) k ≡ next_without d es k
 unfolding next_in next_without
@@ -411,14 +411,14 @@ next_left d k es c empty ne stays =
     rw (place_alike es fs k same, kind_alike es fs k same) (by_cases (place_in es k) refl)
   where
     by_cases : (o : Option ℕ) → place_in es k ≡ o
-        → option_and_then (λ p. follower k (list_in (is_exit (kind_in es k)) (vanished d (exits_gone d es)) p)) o ≡ option_and_then (λ p. follower k (without d (list_in (is_exit (kind_in es k)) es p))) o
+        → option_and_then (λ p. follower k (list_in (is_exit (kind_in es k)) (vanished d (exits_gone d es)) p)) o ≡ option_and_then (λ p. follower k (without_number d (list_in (is_exit (kind_in es k)) es p))) o
     by_cases None e = refl
     by_cases (Some p) e = ap (λ l. follower k l) (list_stays_in (is_exit (kind_in es k)) d p es (place_other d k p es c empty stays e) (place_stays d k p es c e))
 
 left_without : (d k : ℕ) (es : List Entry) → IsOrdered es → list_in false es d ≡ [] → (k ≡ d → ⊥) → exit_in d es k ≡ false → IsWithout d es (vanished d (exits_gone d es)) k
 left_without d k es c empty ne stays = record {
   other = ne;
-  fronts = λ v. ap front (list_stays_in v d k es ne stays);
+  fronts = λ v. ap first_of_list (list_stays_in v d k es ne stays);
   next = next_left d k es c empty ne stays;
 }
 
@@ -485,8 +485,8 @@ entries_vanished d old mid left new s empty lt u l n =
     (λ v k. list_in-entries_of v new k ∙ (elim (cases_eq k d) [
       | inl e ↦ ap (λ z. list_at v new z) e ∙ list_is v new d [] (chain_empty (length new) (next_at new) (first_at v new d) (first_here v d mid left new within l n)) ∙ sym (gone.2 v) ∙ ap (λ z. list_in v (vanished d (exits_gone d es)) z) (sym e)
       | inr ne ↦ list_is v new k (left_list d old v k) (chain_left v d k old mid left new s u l n ne)
-          ∙ ap (λ b. cond b [] (without d (list_at v old k))) (sym (exit_bridge d k old))
-          ∙ ap (λ z. cond (exit_in d es k) [] (without d z)) (sym (list_in-entries_of v old k))
+          ∙ ap (λ b. cond b [] (without_number d (list_at v old k))) (sym (exit_bridge d k old))
+          ∙ ap (λ z. cond (exit_in d es k) [] (without_number d z)) (sym (list_in-entries_of v old k))
           ∙ sym (list_left_in v d k es ne)
     ]) ∙ sym (list_taken v es d k))
     (λ k. mark_in-entries_of new k ∙ (elim (cases_eq k d) [

@@ -17,8 +17,8 @@ use Rattle.spec_live.specs.declared.mark.Mark.{Mark}
 use Rattle.spec_live.specs.declared.saving.Saving.{Saving}
 use Rattle.spec_live.specs.Objects.{Entry, changed_at, on_object, with_object, garbage, object_in, object_at, number_in, kind_in, is_exit, is_program, is_player}
 use Rattle.spec_live.specs.Moving.{left_out, put_first, with_place, set_down, moved}
-use Rattle.spec_live.specs.Making.{blank_entry, grown, new_object, created}
-use Rattle.spec_live.specs.Marks.{unmarked, marked_from, change_told}
+use Rattle.spec_live.specs.Making.{blank_entry, objects_grown, new_object, created}
+use Rattle.spec_live.specs.Marks.{entry_unmarked, marked_from, change_told}
 use Rattle.spec_live.specs.Password.{salt_bytes, first_salt, first_password}
 use Rattle.spec_live.specs.Stood.{still, stilled}
 use Rattle.spec_live.specs.Recycling.{without_ties, untie, untied, way_home, sent_home, gone_entry, is_exit_of, exit_gone, without_exits, exits_gone, vanished, taken_away, recycled}
@@ -162,7 +162,7 @@ limits_moved d to es h = limits_relinked es (set_down d to es) (limits_down d to
 
 -- Creation.
 
-limits_grown : (n : ℕ) (es : List Entry) → IsWithinLimits es → IsWithinLimits (grown n es)
+limits_grown : (n : ℕ) (es : List Entry) → IsWithinLimits es → IsWithinLimits (objects_grown n es)
 limits_grown n es h = elim (cases_eq n (length es)) [
   | inl next ↦ subst IsWithinLimits (sym (grown_more n es next)) (limits_more es h)
   | inr there ↦ subst IsWithinLimits (sym (grown_same n es there)) h
@@ -176,7 +176,7 @@ pub limits_created : (n : ℕ) (kind : Kind) (name : List ℕ) (owner : Dbref) (
 unfolding created
 limits_created n kind name owner to es some short h =
     let o : Object = new_object n kind name owner in
-    limits_moved n to (changed_at n (with_object o) (grown n es)) (limits_at n (with_object o) (grown n es) (λ e l. new_fits n kind name owner some short) (limits_grown n es h))
+    limits_moved n to (changed_at n (with_object o) (objects_grown n es)) (limits_at n (with_object o) (objects_grown n es) (λ e l. new_fits n kind name owner some short) (limits_grown n es h))
 
 -- Recycling.
 
@@ -222,9 +222,9 @@ pub limits_told : (es : List Entry) → IsWithinLimits es → IsWithinLimits (ch
 unfolding change_told
 limits_told es h = by_cases (marked_from 0 es)
   where
-    by_cases : (o : Option (ℕ × Mark)) → IsWithinLimits (option_map_or (λ p. changed_at p.0 unmarked es) o es)
+    by_cases : (o : Option (ℕ × Mark)) → IsWithinLimits (option_map_or (λ p. changed_at p.0 entry_unmarked es) o es)
     by_cases None = h
-    by_cases (Some p) = limits_at p.0 unmarked es (λ e l. l) h
+    by_cases (Some p) = limits_at p.0 entry_unmarked es (λ e l. l) h
 
 zero_fits : FitsLimits room_zero
 unfolding room_zero

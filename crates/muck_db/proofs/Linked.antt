@@ -4,9 +4,9 @@ use Rattle.std.proofs.lemmas.Bool.{cases_eq, ne_eqb, eq-eqb}
 use Rattle.std.specs.Option.{option_and_then}
 use Rattle.laws.proofs.Numbers.{same_place}
 use Rattle.spec_live.specs.declared.saving.Saving.TheVariants.{Due}
-use Rattle.spec_live.specs.Chain.{IsChain, Ends, Member, IsApart, follower, without, put_at}
+use Rattle.spec_live.specs.Chain.{IsChain, Ends, Member, IsApart, follower, without_number, put_at}
 use Rattle.spec_live.specs.Objects.{Entry, changed_at, is_exit, kind_in, place_in, list_in}
-use Rattle.spec_live.specs.Saving.{front, next_in, links_in}
+use Rattle.spec_live.specs.Saving.{first_of_list, next_in, links_in}
 use Rattle.spec_live.proofs.Chains.{chain_frame, chain_below, chain_apart, chain_without_first, chain_without, without_same}
 use Rattle.spec_live.proofs.Lists.{put_same, put_other, length_changed}
 use Rattle.muck_db.specs.declared.slot.Slot.{Slot}
@@ -87,7 +87,7 @@ next_standing slots h w p i m =
 -- a list of k begins with d
 record Begins (slots : List Slot) (d k : ℕ) : Type 0 where
   which : Bool
-  leads : front (list_at which slots k) ≡ Some d
+  leads : first_of_list (list_at which slots k) ≡ Some d
 
 -- k stands before d
 record Precedes (slots : List Slot) (d k : ℕ) : Type 0 where
@@ -95,8 +95,8 @@ record Precedes (slots : List Slot) (d k : ℕ) : Type 0 where
   place : ℕ
   leads : follower k (list_at which slots place) ≡ Some d
 
-front_by : (v : Bool) (slots : List Slot) (k d : ℕ) → front (list_in v (entries_of slots) k) ≡ Some d → front (list_at v slots k) ≡ Some d
-front_by v slots k d h = ap front (sym (list_in-entries_of v slots k)) ∙ h
+front_by : (v : Bool) (slots : List Slot) (k d : ℕ) → first_of_list (list_in v (entries_of slots) k) ≡ Some d → first_of_list (list_at v slots k) ≡ Some d
+front_by v slots k d h = ap first_of_list (sym (list_in-entries_of v slots k)) ∙ h
 
 next_by : (slots : List Slot) (k d : ℕ) → next_in (entries_of slots) k ≡ Some d → Precedes slots d k
 unfolding next_in
@@ -125,25 +125,25 @@ led_from slots d k h = elim (led_by slots d k h) [
   | inr b ↦ (b.which, b.place, follower_member k d (list_at b.which slots b.place) b.leads)
 ]
 
-chain_begins : (n : ℕ) (f : ℕ → Option ℕ) (s : Option ℕ) (xs : List ℕ) → IsChain n f s xs → front xs ≡ s
+chain_begins : (n : ℕ) (f : ℕ → Option ℕ) (s : Option ℕ) (xs : List ℕ) → IsChain n f s xs → first_of_list xs ≡ s
 unfolding IsChain
 chain_begins n f s [] h = sym h
 chain_begins n f s (x ∷ xs) h = sym h.0
 
-list_begins : (slots : List Slot) → HasChains slots → (w : Bool) (p : ℕ) → front (list_at w slots p) ≡ first_at w slots p
+list_begins : (slots : List Slot) → HasChains slots → (w : Bool) (p : ℕ) → first_of_list (list_at w slots p) ≡ first_at w slots p
 list_begins slots h w p = chain_begins (length slots) (next_at slots) (first_at w slots p) (list_at w slots p) (chain_at slots h w p)
 
-leads_first : (slots : List Slot) (w : Bool) (p d : ℕ) → front (list_at w slots p) ≡ Some d → LeadsTo d (links_in (entries_of slots) p)
+leads_first : (slots : List Slot) (w : Bool) (p d : ℕ) → first_of_list (list_at w slots p) ≡ Some d → LeadsTo d (links_in (entries_of slots) p)
 unfolding links_in
-leads_first slots true p d h = inr (inl (ap front (list_in-entries_of true slots p) ∙ h))
-leads_first slots false p d h = inl (ap front (list_in-entries_of false slots p) ∙ h)
+leads_first slots true p d h = inr (inl (ap first_of_list (list_in-entries_of true slots p) ∙ h))
+leads_first slots false p d h = inl (ap first_of_list (list_in-entries_of false slots p) ∙ h)
 
 leads_next : (slots : List Slot) (i d : ℕ) → next_in (entries_of slots) i ≡ Some d → LeadsTo d (links_in (entries_of slots) i)
 unfolding links_in
 leads_next slots i d h = inr (inr h)
 
 -- where d is the first, only its place leads to it
-first_leads : (slots : List Slot) → HasChains slots → (w : Bool) (p d k : ℕ) → Member d (list_at w slots p) → front (list_at w slots p) ≡ Some d → LeadsTo d (links_in (entries_of slots) k) → k ≡ p
+first_leads : (slots : List Slot) → HasChains slots → (w : Bool) (p d k : ℕ) → Member d (list_at w slots p) → first_of_list (list_at w slots p) ≡ Some d → LeadsTo d (links_in (entries_of slots) k) → k ≡ p
 first_leads slots h w p d k here first leads = elim (led_by slots d k leads) [
   | inl b ↦ (same_list slots h b.which w k p d here (front_member d (list_at b.which slots k) b.leads)).place
   | inr b ↦
@@ -152,7 +152,7 @@ first_leads slots h w p d k here first leads = elim (led_by slots d k leads) [
 ]
 
 -- where it isn't, only the one before it does
-later_leads : (slots : List Slot) → HasChains slots → (w : Bool) (p d i k : ℕ) → Member d (list_at w slots p) → (front (list_at w slots p) ≡ Some d → ⊥) → follower i (list_at w slots p) ≡ Some d → LeadsTo d (links_in (entries_of slots) k) → k ≡ i
+later_leads : (slots : List Slot) → HasChains slots → (w : Bool) (p d i k : ℕ) → Member d (list_at w slots p) → (first_of_list (list_at w slots p) ≡ Some d → ⊥) → follower i (list_at w slots p) ≡ Some d → LeadsTo d (links_in (entries_of slots) k) → k ≡ i
 later_leads slots h w p d i k here later before leads = elim (led_by slots d k leads) [
   | inl b ↦
       let e : IsIn slots b.which w k p = same_list slots h b.which w k p d here (front_member d (list_at b.which slots k) b.leads) in
@@ -184,7 +184,7 @@ unlinked_first w p d old h here lt first = record {
   chains = λ v q. elim (same_place v w q p) [
     | inl e ↦
         let P : Option ℕ → Type 0 = λ z. IsChain (length old) (next_at old) z (list_at w old p) in
-        let V : Bool → ℕ → Type 0 = λ y z. IsChain (length (changed_at p (with_first w (next_at old d)) old)) (next_at (changed_at p (with_first w (next_at old d)) old)) (first_at y (changed_at p (with_first w (next_at old d)) old) z) (without d (list_at y old z)) in
+        let V : Bool → ℕ → Type 0 = λ y z. IsChain (length (changed_at p (with_first w (next_at old d)) old)) (next_at (changed_at p (with_first w (next_at old d)) old)) (first_at y (changed_at p (with_first w (next_at old d)) old) z) (without_number d (list_at y old z)) in
         let at_place : V w p = chain_over _ _ _ _ _ _ _ _ (length_changed old p (with_first w (next_at old d))) (first-with_first_same w old p (next_at old d) lt) refl (λ x m. next-with_first w old p x (next_at old d))
         (chain_without_first (length old) (next_at old) d (list_at w old p) (subst P first (chain_at old h w p))) in
         let A : Bool → Type 0 = λ y. V y q in
@@ -207,7 +207,7 @@ unlinked_later w p d i old h here before leads first = record {
   same_savings = λ k. led_same d i k old (changed_at i (with_next (next_at old d)) old) (leads_next old i d (next_standing old h w p i before ∙ leads)) (saving_other old i k (with_next (next_at old d)));
   chains = λ v q. elim (same_place v w q p) [
     | inl e ↦
-        let V : Bool → ℕ → Type 0 = λ y z. IsChain (length (changed_at i (with_next (next_at old d)) old)) (next_at (changed_at i (with_next (next_at old d)) old)) (first_at y (changed_at i (with_next (next_at old d)) old) z) (without d (list_at y old z)) in
+        let V : Bool → ℕ → Type 0 = λ y z. IsChain (length (changed_at i (with_next (next_at old d)) old)) (next_at (changed_at i (with_next (next_at old d)) old)) (first_at y (changed_at i (with_next (next_at old d)) old) z) (without_number d (list_at y old z)) in
         let at_place : V w p = chain_over _ _ _ _ _ _ _ _ (length_changed old i (with_next (next_at old d))) (first-with_next w old i p (next_at old d)) refl (λ x m. refl)
         (chain_without (length old) (next_at old) (next_at (changed_at i (with_next (next_at old d)) old)) i d (first_at w old p) (list_at w old p) leads
         (next-with_next_same old i (next_at old d) (member_below old h w p i before)) (λ x ne. next-with_next_other old i x (next_at old d) ne) before first (chain_at old h w p)) in

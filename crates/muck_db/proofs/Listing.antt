@@ -5,7 +5,7 @@ use Rattle.std.proofs.lemmas.Option.{slice_get_within}
 use Rattle.std.specs.Prelude.{slice_get}
 use Rattle.std.specs.Option.{option_map, option_map_or, option_and_then}
 use Rattle.laws.proofs.Places.{get_still, got_last}
-use Rattle.muck_model.specs.Numbers.{numbered}
+use Rattle.muck_model.specs.Numbers.{dbref_numbered}
 use Rattle.muck_model.specs.declared.dbref.Kind.TheVariants.{Garbage}
 use Rattle.spec_live.specs.declared.object.Object.{Object}
 use Rattle.spec_live.specs.Objects.{Entry, is_player, is_garbage, kind_in, object_in, number_in, object_at as seen_at}
@@ -32,7 +32,7 @@ player_known slots k h = at (slice_get slots k) refl h
     at (Some s) e h = slice_get_within slots k s e
 
 -- who is seen as a player is one
-player_seen : (es : List Entry) (n : ℕ) → sees (λ s. is_player s.kind) (scenery_of es) (numbered (pos n)) ≡ true → is_player (kind_in es n) ≡ true
+player_seen : (es : List Entry) (n : ℕ) → sees (λ s. is_player s.kind) (scenery_of es) (dbref_numbered (pos n)) ≡ true → is_player (kind_in es n) ≡ true
 unfolding scenery_of number_in kind_in seen_at
 player_seen es n h = by_life (is_garbage (kind_in es n)) h
   where

@@ -9,7 +9,7 @@ use Rattle.spec_live.specs.declared.object.Object.{Object}
 use Rattle.spec_live.specs.declared.saving.Saving.TheVariants.{Due}
 use Rattle.spec_live.specs.Chain.{walk}
 use Rattle.spec_live.specs.Flags.{no_flags}
-use Rattle.spec_live.specs.Objects.{Entry, index_of, is_exit, object_in, list_of, list_in, place_in, kind_in, flags_in, home_in, owner_in, mark_in}
+use Rattle.spec_live.specs.Objects.{Entry, index_of, is_exit, object_in, entry_list, list_in, place_in, kind_in, flags_in, home_in, owner_in, mark_in}
 use Rattle.spec_live.specs.Saving.{saving_in}
 use Rattle.spec_live.specs.Stood.{stood_in}
 use Rattle.spec_live.proofs.Chains.{walk_none}
@@ -29,7 +29,7 @@ pub object_in-entries_of : (slots : List Slot) (k : ℕ) → object_in (entries_
 unfolding object_in object_at entries_of
 object_in-entries_of slots k = ap (λ (o : Option Entry). option_map (λ (e : Entry). e.object) o) (slice_get-map (entry_of slots) slots k) ∙ object_by slots (slice_get slots k)
 
-list_by : (v : Bool) (slots : List Slot) (o : Option Slot) → option_map_or (list_of v) (option_map (entry_of slots) o) [] ≡ walk (length slots) (next_at slots) (option_and_then (first_of v) o)
+list_by : (v : Bool) (slots : List Slot) (o : Option Slot) → option_map_or (entry_list v) (option_map (entry_of slots) o) [] ≡ walk (length slots) (next_at slots) (option_and_then (first_of v) o)
 unfolding entry_of
 list_by v slots None = sym (walk_none (length slots) (next_at slots))
 list_by true slots (Some s) = refl
@@ -37,7 +37,7 @@ list_by false slots (Some s) = refl
 
 pub list_in-entries_of : (v : Bool) (slots : List Slot) (k : ℕ) → list_in v (entries_of slots) k ≡ list_at v slots k
 unfolding list_in list_at first_at entries_of
-list_in-entries_of v slots k = ap (λ (o : Option Entry). option_map_or (list_of v) o []) (slice_get-map (entry_of slots) slots k) ∙ list_by v slots (slice_get slots k)
+list_in-entries_of v slots k = ap (λ (o : Option Entry). option_map_or (entry_list v) o []) (slice_get-map (entry_of slots) slots k) ∙ list_by v slots (slice_get slots k)
 
 pub place_in-entries_of : (slots : List Slot) (k : ℕ) → place_in (entries_of slots) k ≡ place_at slots k
 unfolding place_in place_at

@@ -14,7 +14,7 @@ use Rattle.laws.proofs.Places.{take_next}
 use Rattle.muck_prop.specs.declared.value.PropValue.{PropValue}
 use Rattle.muck_prop.specs.declared.value.PropValue.TheVariants.{Text, Number}
 use Rattle.muck_prop.specs.Order.{path_cmp, path_cmp_total}
-use Rattle.muck_prop.specs.Store.{PropMap, is_nothing, stored}
+use Rattle.muck_prop.specs.Store.{PropMap, is_nothing, value_stored}
 use Rattle.muck_prop.proofs.Maps.{path_cmp_same}
 use Rattle.muck_codec.specs.declared.stored.Property.{Property}
 use Rattle.muck_codec.specs.inner.Stored.{IsValue, IsProperty, Run, AreProperties}
@@ -55,12 +55,12 @@ value_at before [] i p run at = absurd (cc at)
 value_at before (x ∷ ps) zero p run at = let same : x ≡ p = cc at in subst (λ (y : Property). IsValue y.value) same run.0.1
 value_at before (x ∷ ps) (suc i) p run at = value_at (Some x.path) ps i p run.1 at
 
-stored_new : (path : List (List ℕ)) (v : PropValue) (m : PropMap) → is_nothing v ≡ false → stored path v m ≡ insert m path v
+stored_new : (path : List (List ℕ)) (v : PropValue) (m : PropMap) → is_nothing v ≡ false → value_stored path v m ≡ insert m path v
 stored_new path v m h = ap (λ (b : Bool). cond b (remove m path) (insert m path v)) h
 
 -- the map of the properties so far, with the next one stored
 stored_next : (ps : List Property) (i : ℕ) (p : Property) → AreProperties ps → slice_get ps i ≡ Some p
-    → stored p.path p.value (from_entries {R = path_cmp} (map entry_at (take i ps))) ≡ from_entries {R = path_cmp} (map entry_at (take (suc i) ps))
+    → value_stored p.path p.value (from_entries {R = path_cmp} (map entry_at (take i ps))) ≡ from_entries {R = path_cmp} (map entry_at (take (suc i) ps))
 stored_next ps i p h at =
     stored_new p.path p.value (from_entries {R = path_cmp} (map entry_at (take i ps))) (something p.value (value_at None ps i p h.1 at))
     ∙ sym (from_entries_push path_cmp_total path_cmp_same (map entry_at (take i ps)) p.path p.value (new_path None ps i p h.1 at))
@@ -68,7 +68,7 @@ stored_next ps i p h at =
     ∙ ap (λ (qs : List Property). from_entries {R = path_cmp} (map entry_at qs)) (sym (take_next ps i p at))
 
 pub put_next : (ps : List Property) (i : ℕ) (p : Property) (path : List (List ℕ)) (value : PropValue) (old new : PropMap) → AreProperties ps → i < length ps → p ≡ get_or ps i p
-    → path ≡ p.path → value ≡ p.value → old ≡ from_entries (map entry_at (take i ps)) → new ≡ stored path value old → new ≡ from_entries (map entry_at (take (i + 1) ps))
+    → path ≡ p.path → value ≡ p.value → old ≡ from_entries (map entry_at (take i ps)) → new ≡ value_stored path value old → new ≡ from_entries (map entry_at (take (i + 1) ps))
 put_next ps i p path value old new h lt is is_path is_value is_old is_new =
-    is_new ∙ (λ j. stored (is_path j) (is_value j) (is_old j)) ∙ stored_next ps i p h (slice_get_read ps (length ps) i p refl lt is)
+    is_new ∙ (λ j. value_stored (is_path j) (is_value j) (is_old j)) ∙ stored_next ps i p h (slice_get_read ps (length ps) i p refl lt is)
     ∙ ap (λ (n : ℕ). from_entries {R = path_cmp} (map entry_at (take n ps))) (sym (add-one i))

@@ -12,7 +12,7 @@ use Rattle.spec_live.specs.declared.mark.Mark.{Mark}
 use Rattle.spec_live.specs.declared.saving.Saving.TheVariants.{Due}
 use Rattle.spec_live.specs.Chain.{walk, IsChain, Ends}
 use Rattle.spec_live.specs.Objects.{Entry, changed_at, is_garbage, garbage, on_object, with_object, object_in, mark_in}
-use Rattle.spec_live.specs.Making.{blank_entry, grown}
+use Rattle.spec_live.specs.Making.{blank_entry, objects_grown}
 use Rattle.spec_live.specs.Saving.{saving_in}
 use Rattle.spec_live.proofs.Chains.{ends_from}
 use Rattle.spec_live.proofs.Lists.{length_changed, get_changed_same, get_changed_other, read_kept}
@@ -208,7 +208,7 @@ put_same n o slots ne = rw (ne_eqb n (length slots) ne) refl
 
 -- an object that is put at a number of garbage or at the next one
 pub entries_put : (n : ℕ) (o : Object) (slots : List Slot) → ((v : Bool) (p : ℕ) → Ends (length slots) (next_at slots) (first_at v slots p))
-    → entries_of (object_put n o slots) ≡ changed_at n (with_object o) (grown n (entries_of slots))
+    → entries_of (object_put n o slots) ≡ changed_at n (with_object o) (objects_grown n (entries_of slots))
 entries_put n o slots ends =
     let es : List Entry = entries_of slots in
     elim (cases_eq n (length slots)) [

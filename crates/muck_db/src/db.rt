@@ -6,21 +6,21 @@ ghost use Rattle.spec_live.specs.Objects.{object_at};
 ghost use Rattle.spec_live.specs.Making.{create_check, Creates};
 ghost use Rattle.spec_live.specs.Start.{first_objects};
 ghost use Rattle.spec_live.specs.Moving.{move_check, Moves, Does};
-ghost use Rattle.spec_live.specs.Setting.{any, checked, set_at, Tries, owner_check, link_check, home_check, flags_check, level_check, lines_check, password_check, lines_set, with_name, with_owner, with_link, with_home, with_flags, with_level, with_prop, without_prop, with_password};
+ghost use Rattle.spec_live.specs.Setting.{every_number, checked, set_at, Tries, owner_check, link_check, home_check, flags_check, level_check, lines_check, password_check, lines_set, with_name, with_owner, with_link, with_home, with_flags, with_level, with_prop, without_prop, with_password};
 ghost use Rattle.spec_live.specs.Recycling.{recycle_check, recycled};
 ghost use Rattle.spec_live.specs.Marks.{next_change, change_told};
 ghost use Rattle.spec_live.specs.Consistent.{IsConsistent};
-ghost use Rattle.spec_live.specs.Saving.{all_saving, pending, done, due_again};
+ghost use Rattle.spec_live.specs.Saving.{all_saving, pending, saving_done, due_again};
 ghost use Rattle.spec_live.specs.Stood.{stilled, moves_from};
 ghost use Rattle.spec_live.specs.Seen.{listed_in, places_of, scenery_of};
-ghost use Rattle.muck_match.specs.Naming.{found, player_named};
+ghost use Rattle.muck_match.specs.Naming.{thing_found, player_named};
 ghost use Rattle.muck_match.specs.Scenery.{chain, upward};
 ghost use Rattle.muck_lock.specs.inner.Chain.{IsChain};
 ghost use Rattle.muck_codec.specs.inner.Stored.{AreProperties, IsStored};
 ghost use Rattle.muck_store.specs.inner.Changes.{KeepsUndue, LeavesOut};
 ghost use Rattle.muck_store.specs.Forms.{loaded, persist};
-ghost use Rattle.muck_store.specs.Limits.{fits};
-ghost use Rattle.muck_store.specs.Whole.{is_whole};
+ghost use Rattle.muck_store.specs.Limits.{record_fits};
+ghost use Rattle.muck_store.specs.Whole.{is_whole_store};
 ghost use Rattle.muck_db.specs.inner.Limits.{FitsLimits, IsWithinLimits};
 ghost use Rattle.muck_db.specs.inner.Settings.{MaySet, with_setting};
 ghost use Rattle.muck_db.specs.inner.Shown.{is_there, after_in, first_in, next_in, Knows};
@@ -115,8 +115,8 @@ impl Db {
     /// The objects that the records of a whole world stand for. No record may be outside the limits.
     pub fn load(alloc: Global, records: &[Stored]) -> Result<Db, NoMemory>
         requires few { length records.now ≤ 100000 }
-        requires whole { is_whole records.now ≡ true }
-        requires fits { list_all fits records.now ≡ true }
+        requires whole { is_whole_store records.now ≡ true }
+        requires fits { list_all record_fits records.now ≡ true }
         requires props { All (λ s. AreProperties s.props) records.now }
         ensures { IfOk result (λ db. db ≡ loaded records.now) }
     {
@@ -192,7 +192,7 @@ impl Db {
 
     /// What a text names for the player, as matching finds it. For `*player` it looks at the players alone.
     pub fn find(&self, player: Dbref, text: &Line) -> Found
-        ensures { result ≡ found (scenery_of self.now) player text.now }
+        ensures { result ≡ thing_found (scenery_of self.now) player text.now }
     {
         find_among(self, &self.players, player, text)
     }
@@ -252,7 +252,7 @@ impl Db {
 
     /// The dump that was cut last was stored: what was pending is done, unless it changed since. It takes no memory.
     pub fn stored(&mut self)
-        ensures { self.new ≡ all_saving done self.old }
+        ensures { self.new ≡ all_saving saving_done self.old }
     {
         pass(&mut self.slots, Moment::Kept);
     }
@@ -330,7 +330,7 @@ impl Db {
     pub fn set_name(&mut self, d: Dbref, name: Line) -> Result<(), DbFault>
         requires some { 1 ≤ length name }
         requires short { length name ≤ 80 }
-        ensures { Does (set_at (with_name name)) (checked any d self.old) self.old self.new result }
+        ensures { Does (set_at (with_name name)) (checked every_number d self.old) self.old self.new result }
     {
         let checked = check_any(&self.slots, d);
         self.set(checked, Setting::Name(name))
@@ -398,7 +398,7 @@ impl Db {
     /// Stores a value at a path of an object, where an empty text or 0 removes the property. `NoSuchObject` comes where
     /// the object isn't there; nothing has changed then, and after `NoMemory`.
     pub fn put_prop(&mut self, d: Dbref, path: Path, value: PropValue) -> Result<(), DbFault>
-        ensures { Tries (set_at (with_prop path value)) (checked any d self.old) self.old self.new result }
+        ensures { Tries (set_at (with_prop path value)) (checked every_number d self.old) self.old self.new result }
     {
         let k = check_any(&self.slots, d)?;
         put_prop(&mut self.slots, k, path, value)?;
@@ -408,7 +408,7 @@ impl Db {
     /// Removes a property of an object, which need not have it. `NoSuchObject` comes exactly where the object isn't
     /// there; nothing has changed then.
     pub fn remove_prop(&mut self, d: Dbref, path: &Path) -> Result<(), DbFault>
-        ensures { Does (set_at (without_prop path.now)) (checked any d self.old) self.old self.new result }
+        ensures { Does (set_at (without_prop path.now)) (checked every_number d self.old) self.old self.new result }
     {
         let k = check_any(&self.slots, d)?;
         remove_prop(&mut self.slots, k, path);

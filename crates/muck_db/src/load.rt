@@ -2,7 +2,7 @@
 ghost use Rattle.std.specs.Prelude.{◌≡◌, IfOk, All, map};
 ghost use Rattle.std.specs.FinMap.{from_entries};
 ghost use Rattle.muck_codec.specs.inner.Stored.{AreProperties};
-ghost use Rattle.muck_store.specs.Forms.{entry_at, object_of};
+ghost use Rattle.muck_store.specs.Forms.{entry_at, stored_object};
 ghost use Rattle.muck_db.specs.inner.Loading.{object_kept, slot_of, slots_of};
 
 use crate::links::index_of;
@@ -42,7 +42,7 @@ fn props_of(alloc: Global, properties: &[Property]) -> Result<Props, NoMemory>
 // The object of a record.
 fn object_of(alloc: Global, record: &Stored) -> Result<Object, NoMemory>
     requires { AreProperties record.now.props }
-    ensures { IfOk result (λ object. object ≡ object_of record.now) }
+    ensures { IfOk result (λ object. object ≡ stored_object record.now) }
 {
     Ok(Object {
         kind: record.kind,

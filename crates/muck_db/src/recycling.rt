@@ -3,7 +3,7 @@ ghost use Rattle.std.specs.Prelude.{◌≡◌, ◌≢◌, ◌<◌, ◌≤◌, �
 ghost use Rattle.spec_live.specs.declared.mark.Mark.TheVariants.{Gone};
 ghost use Rattle.spec_live.specs.Chain.{Ends};
 ghost use Rattle.spec_live.specs.Objects.{dbref_of, is_garbage, nothing, same, kind_in, list_in, changed_at};
-ghost use Rattle.spec_live.specs.Recycling.{is_tied, untied, wished_home, may_go, way_home, sent_home, is_exit_of, taken_away, recycle_check};
+ghost use Rattle.spec_live.specs.Recycling.{is_tied_to_number, untied, wished_home, may_go, way_home, sent_home, is_exit_of, taken_away, recycle_check};
 ghost use Rattle.std.specs.BTreeSet.{contains};
 ghost use Rattle.std.specs.Ordering.{nat_cmp};
 ghost use Rattle.muck_db.specs.inner.Exits.{ListsExits};
@@ -50,7 +50,7 @@ fn link_without(link: Dbref, gone: Dbref) -> Dbref
 #[tactic(auto, unfolding(spec_live::specs::Objects::garbage))]
 fn is_tied(slot: &Slot, d: u32) -> bool
     requires { d < 2 ^ 31 }
-    ensures { result ≡ is_tied d (shown slot.now) }
+    ensures { result ≡ is_tied_to_number d (shown slot.now) }
 {
     let gone = dbref_of(d);
     match &slot.object {

@@ -49,7 +49,7 @@ fn value_is(value: &PropValue, text: &[u8]) -> bool
 }
 
 // Whether the property of that path of an object has that text, or that number in decimal.
-#[tactic(auto, unfolding(spec_live::specs::Worth::has_value, spec_live::specs::Worth::value_at))]
+#[tactic(auto, unfolding(spec_live::specs::Worth::has_value, spec_live::specs::Worth::value_at_path))]
 fn has_value(db: &Db, d: Dbref, path: &[u8], value: &[u8]) -> bool
     ensures { result ≡ has_value db.now d path.now value.now }
 {

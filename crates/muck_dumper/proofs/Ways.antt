@@ -7,7 +7,7 @@ use Rattle.muck_log.specs.Store.{LogState}
 use Rattle.spec_events.specs.declared.logged.Logged.{Logged}
 use Rattle.spec_events.specs.Histories.{History, now, entered}
 use Rattle.spec_events.specs.Logged.{is_dump, events_of, NoCounts}
-use Rattle.spec_events.specs.Own.{Stage, next, stage_of, died_next}
+use Rattle.spec_events.specs.Own.{Stage, next_stage, stage_of, died_next}
 use Rattle.spec_events.proofs.Owning.{well_formed}
 use Rattle.spec_dumps.specs.Survival.{IsSafe}
 use Rattle.spec_dumps.specs.inner.Holding.{Quietly, Keeps, Rests as HasRests}
@@ -319,7 +319,7 @@ stops_before tells moment images faults f s fault from P Q y z leads t = record 
 }
 
 -- how a dump that runs may end
-ends_next : (n : ℕ) (b : Bool) → next 9 (Stage.dumping n) (ending_event n b) ≡ Some Stage.unbound
+ends_next : (n : ℕ) (b : Bool) → next_stage 9 (Stage.dumping n) (ending_event n b) ≡ Some Stage.unbound
 ends_next n true = ap (λ b. cond {A = Option Stage} b (Some Stage.unbound) None) (eq-eqb n n refl)
 ends_next n false = ap (λ b. cond {A = Option Stage} b (Some Stage.unbound) None) (eq-eqb n n refl)
 

@@ -1,8 +1,8 @@
 -- What the log answers to a batch that makes a whole world.
 use Rattle.std.proofs.Common.{◌≡◌, ◌⊎◌, inl, inr, ℕ, ◌+◌, ◌≤◌, List, [], ◌∷◌, length, sym, ap, subst, ◌∙◌, arith, Option, Some, None, Result, Ok, Err}
 use Rattle.muck_codec.specs.declared.stored.Batch.{Batch}
-use Rattle.muck_log.specs.World.{World as Kept, laid}
-use Rattle.muck_log.specs.Store.{Chosen, LogState, LeavesBoth, IsMounted, target, after_batch, stored}
+use Rattle.muck_log.specs.World.{StoredWorld as Kept, laid}
+use Rattle.muck_log.specs.Store.{Chosen, LogState, LeavesBoth, IsMounted, target, after_batch, store_of}
 use Rattle.muck_log.specs.Append.{IsAppended, IsNext, IsTouching, LoadsEither, more_of, payload_of}
 use Rattle.muck_log.specs.declared.fault.LogFault.{LogFault}
 use Rattle.muck_log.specs.declared.fault.LogFault.TheVariants.{NoMemory, DiskFault, Damaged, StoreFull, Stale}
@@ -36,8 +36,8 @@ module _ {D : Type 0} (seen : D → List ℕ) (moment : D → ℕ) (images : D �
       at_second : (t : ℕ) (c : List ℕ) → moment s ≤ t → t ≤ moment s → images s t c → images s (moment s) c
       at_second t c low high left = let same : t ≡ moment s = omega arith in rw (← same) left
 
-      loads : (c d : List ℕ) → images f (moment f) c → images s (moment s) d → stored c d ≡ Ok log.chosen
-      loads c d left_c left_d = ap (λ x. stored x d) (m.first_durable c left_c) ∙ ap (λ y. stored (seen f) y) (m.second_durable d left_d) ∙ m.load
+      loads : (c d : List ℕ) → images f (moment f) c → images s (moment s) d → store_of c d ≡ Ok log.chosen
+      loads c d left_c left_d = ap (λ x. store_of x d) (m.first_durable c left_c) ∙ ap (λ y. store_of (seen f) y) (m.second_durable d left_d) ∙ m.load
 
   stays_as : (log : LogState) (f s f' s' : D) (x : Chosen) → IsMounted seen moment images log f s → f' ≡ f → s' ≡ s → LeavesBoth moment images f s f' s' (LoadsEither log.chosen x)
   stays_as log f s f' s' x m e g =

@@ -20,13 +20,13 @@ use Rattle.spec_live.proofs.Resaved.{consistent_resaved}
 use Rattle.muck_store.specs.inner.Changes.{LeavesOut, KeepsUndue}
 use Rattle.muck_store.specs.Forms.{persist}
 use Rattle.muck_store.proofs.Undue.{persist_resaved}
-use Rattle.muck_log.specs.World.{World as Kept, laid}
+use Rattle.muck_log.specs.World.{StoredWorld as Kept, laid}
 use Rattle.muck_log.specs.Store.{LogState, opens_new, target}
 use Rattle.muck_log.specs.Append.{IsNext, base_of, payload_of}
 use Rattle.spec_events.specs.World.{World}
 use Rattle.spec_events.specs.Histories.{History, now, after, entered, noted}
 use Rattle.spec_events.specs.Logged.{is_cut}
-use Rattle.spec_dumps.specs.Fronts.{cut_behind, last_cut, at_cut}
+use Rattle.spec_dumps.specs.Fronts.{front_behind_cut, last_cut, at_cut}
 use Rattle.spec_dumps.specs.inner.Holding.{Quietly}
 use Rattle.spec_dumps.proofs.Fronts.{last_cut_short, at_cut_quiet}
 use Rattle.spec_dumps.proofs.Undue.{kept_undue}
@@ -100,7 +100,7 @@ appended_holds marks o log new p es tune is b covers whole next = λ on x same.
 last_cut_past : (h : List Entry) (e : Entry) → is_cut e.event ≡ false → last_cut (h ++ e ∷ []) ≡ last_cut h
 unfolding last_cut
 last_cut_past [] e other = ap (λ b. if b then 1 else 0) other
-last_cut_past (x ∷ h) e other = ap (λ n. cut_behind n (is_cut x.event)) (last_cut_past h e other)
+last_cut_past (x ∷ h) e other = ap (λ n. front_behind_cut n (is_cut x.event)) (last_cut_past h e other)
 
 pub at_cut_past : (w : World) (h : List Entry) (e : Entry) → is_cut e.event ≡ false → at_cut w (h ++ e ∷ []) ≡ at_cut w h
 at_cut_past w h e other = ap (λ n. after w (take n (h ++ e ∷ []))) (last_cut_past h e other) ∙ ap (after w) (take-append-le (last_cut h) h (e ∷ []) (last_cut_short h))

@@ -7,7 +7,7 @@ use Rattle.muck_model.specs.Parameters.{tune_fits}
 use Rattle.muck_model.proofs.Parameters.{fits_in_range}
 use Rattle.spec_live.specs.Objects.{Entry as Object}
 use Rattle.muck_store.specs.inner.Changes.{LeavesOut}
-use Rattle.muck_log.specs.World.{World as Kept}
+use Rattle.muck_log.specs.World.{StoredWorld as Kept}
 use Rattle.muck_log.specs.Store.{Chosen, LogState, LeavesBoth, after_batch}
 use Rattle.muck_log.specs.Append.{LoadsEither, base_of, more_of, payload_of}
 use Rattle.muck_log.specs.declared.fault.LogFault.{LogFault}

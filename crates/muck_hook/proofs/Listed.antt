@@ -8,7 +8,7 @@ use Rattle.laws.proofs.Parts.{one_longer}
 use Rattle.muck_model.specs.declared.dbref.Dbref.{Dbref}
 use Rattle.muck_prop.specs.declared.value.PropValue.{PropValue}
 use Rattle.muck_prop.specs.Order.{is_below}
-use Rattle.muck_prop.specs.Store.{PropMap, behind, listed_below}
+use Rattle.muck_prop.specs.Store.{PropMap, path_behind, listed_below}
 use Rattle.spec_live.specs.Objects.{Entry}
 use Rattle.spec_live.specs.Seen.{places_of}
 use Rattle.spec_rights.specs.Levels.{is_player_at}
@@ -27,16 +27,16 @@ unfolding listed_below
 fired_below es cause carrier dir m = by_entries (entries m)
   where
     step : (p : List (List ℕ) × PropValue) (b c : Bool) (ps : List (List (List ℕ) × PropValue)) (vs : List PropValue) → eqb (length (drop (length dir) p.0)) 1 ≡ c →
-        flat_map (fired_listed es cause carrier) (map (behind (length dir)) ps) ≡ filter_map (fired es cause carrier) vs →
-        flat_map (fired_listed es cause carrier) (map (behind (length dir)) (cond b (p ∷ ps) ps)) ≡ filter_map (fired es cause carrier) (cons_option (cond (b && c) (Some p.1) None) vs)
+        flat_map (fired_listed es cause carrier) (map (path_behind (length dir)) ps) ≡ filter_map (fired es cause carrier) vs →
+        flat_map (fired_listed es cause carrier) (map (path_behind (length dir)) (cond b (p ∷ ps) ps)) ≡ filter_map (fired es cause carrier) (cons_option (cond (b && c) (Some p.1) None) vs)
     step p false c ps vs e rest = rest
     step p true true ps vs e rest =
-        ap (λ x. cond x (cons_option (fired es cause carrier p.1) []) [] ++ flat_map (fired_listed es cause carrier) (map (behind (length dir)) ps)) e
-        ∙ joined (fired es cause carrier p.1) (flat_map (fired_listed es cause carrier) (map (behind (length dir)) ps)) ∙ ap (λ fs. cons_option (fired es cause carrier p.1) fs) rest
+        ap (λ x. cond x (cons_option (fired es cause carrier p.1) []) [] ++ flat_map (fired_listed es cause carrier) (map (path_behind (length dir)) ps)) e
+        ∙ joined (fired es cause carrier p.1) (flat_map (fired_listed es cause carrier) (map (path_behind (length dir)) ps)) ∙ ap (λ fs. cons_option (fired es cause carrier p.1) fs) rest
     step p true false ps vs e rest =
-        ap (λ x. cond x (cons_option (fired es cause carrier p.1) []) [] ++ flat_map (fired_listed es cause carrier) (map (behind (length dir)) ps)) e ∙ rest
+        ap (λ x. cond x (cons_option (fired es cause carrier p.1) []) [] ++ flat_map (fired_listed es cause carrier) (map (path_behind (length dir)) ps)) e ∙ rest
 
-    by_entries : (ps : List (List (List ℕ) × PropValue)) → flat_map (fired_listed es cause carrier) (map (behind (length dir)) (filter (λ p. is_below dir p.0) ps)) ≡ filter_map (fired es cause carrier) (filter_map (direct dir) ps)
+    by_entries : (ps : List (List (List ℕ) × PropValue)) → flat_map (fired_listed es cause carrier) (map (path_behind (length dir)) (filter (λ p. is_below dir p.0) ps)) ≡ filter_map (fired es cause carrier) (filter_map (direct dir) ps)
     by_entries [] = refl
     by_entries (p ∷ ps) = step p (is_below dir p.0) (eqb (length p.0) (length dir + 1)) (filter (λ q. is_below dir q.0) ps) (filter_map (direct dir) ps) (one_longer (length dir) p.0) (by_entries ps)
 

@@ -16,7 +16,7 @@ use spec_hooks::{Cause, Fire};
 use std::alloc::Global;
 
 // The next of the places upward.
-#[tactic(auto, unfolding(spec_live::specs::Seen::scenery_of, muck_match::specs::Scenery::upward, muck_match::specs::Scenery::is_there))]
+#[tactic(auto, unfolding(spec_live::specs::Seen::scenery_of, muck_match::specs::Scenery::upward, muck_match::specs::Scenery::is_in_scenery))]
 fn place_above(db: &Db, object: Dbref) -> Option<Dbref>
     ensures { MatchOption result (places_of db.now object ≡ []) (λ up. places_of db.now object ≡ up ∷ places_of db.now up) }
 {

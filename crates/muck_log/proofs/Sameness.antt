@@ -7,7 +7,7 @@ use Rattle.muck_codec.specs.declared.record.Ties.{Ties}
 use Rattle.muck_codec.specs.declared.record.Lists.{Lists}
 use Rattle.muck_codec.specs.declared.record.Texts.{Texts}
 use Rattle.muck_codec.specs.declared.stored.Stored.{Stored}
-use Rattle.muck_codec.specs.Records.{stored_of}
+use Rattle.muck_codec.specs.Records.{stored_from_parts}
 use Rattle.muck_log.specs.inner.Same.{HasSameHead, HasSameTies, HasSameLists, HasSameTexts}
 
 abbrev parts_of : Stored → Head × (Ties × (Lists × Texts))
@@ -20,7 +20,7 @@ parts_of o = (
 )
 
 same_all : (a b : Stored) → HasSameHead a b → HasSameTies a b → HasSameLists a b → HasSameTexts a b → a ≡ b
-same_all a b head ties lists texts = ap stored_of parts
+same_all a b head ties lists texts = ap stored_from_parts parts
   where
     parts : parts_of a ≡ parts_of b
     parts = cc

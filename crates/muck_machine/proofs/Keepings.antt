@@ -17,8 +17,8 @@ use Rattle.muck_model.specs.declared.tune.Tune.{Tune}
 use Rattle.spec_live.specs.Objects.{Entry as Kept, mark_in, object_in}
 use Rattle.spec_live.specs.Start.{first_objects, room_zero, player_one}
 use Rattle.spec_live.specs.Stood.{stood_in, stands_in, IsStill}
-use Rattle.spec_events.specs.World.{World, booted}
-use Rattle.spec_events.specs.Steps.{is_free, happened, hooked_by, effect, is_died, is_lawful, is_allowed, next_ready, next_process}
+use Rattle.spec_events.specs.World.{World, world_booted}
+use Rattle.spec_events.specs.Steps.{has_line_to_do, happened, hooked_by, effect, is_died, is_lawful, is_allowed, next_ready, next_process}
 use Rattle.spec_events.specs.Histories.{History, after, now, AllLawful}
 use Rattle.spec_events.specs.Logged.{ArePlaced, IsCountPlaced, IsPlaced}
 use Rattle.spec_commands.specs.inner.Rising.{IsRising}
@@ -155,8 +155,8 @@ lawful_as p allowed state h e k v alive is =
     is ∙ ap (λ w. is_allowed w e.party e.event) (k.lives alive ∙ ap now v) ∙ sym (cond-false _ _ _ (dead_seen p state h k v ∙ alive))
 
 -- of the objects of which a world is booted, where nothing is to be told of them; and of the first ones nothing is
-pub told_begun : (objects : List Kept) (tune : Tune) (moment start : ℕ) → AreTold objects → AreTold (booted objects tune moment start).live.objects
-unfolding booted
+pub told_begun : (objects : List Kept) (tune : Tune) (moment start : ℕ) → AreTold objects → AreTold (world_booted objects tune moment start).live.objects
+unfolding world_booted
 told_begun objects tune moment start h = h
 
 pub told_first : AreTold first_objects
@@ -166,8 +166,8 @@ told_first (suc zero) = refl
 told_first (suc (suc n)) = refl
 
 -- nor has any of them moved
-pub still_begun : (objects : List Kept) (tune : Tune) (moment start : ℕ) → IsStill objects → IsStill (booted objects tune moment start).live.objects
-unfolding booted
+pub still_begun : (objects : List Kept) (tune : Tune) (moment start : ℕ) → IsStill objects → IsStill (world_booted objects tune moment start).live.objects
+unfolding world_booted
 still_begun objects tune moment start h = h
 
 pub still_first : IsStill first_objects
@@ -225,13 +225,13 @@ next_dead w e = sym (cond-true _ _ _ (ap (λ b. b || w.stopping) e))
 
 -- where a world isn't dead the state chooses
 abbrev pub line_chosen : World → Option ℕ
-line_chosen w = cond w.stopping None (option_map (λ c. c.number) (find (is_free w) w.live.board.connections))
+line_chosen w = cond w.stopping None (option_map (λ c. c.number) (find (has_line_to_do w) w.live.board.connections))
 
 pub next_seen : (p : Past) (state : World) (h : History) (found : Option ℕ) → Keeps p state → history p ≡ h → p.dead ≡ false → found ≡ line_chosen state → found ≡ next_ready (now h)
 unfolding next_ready
 next_seen p state h found k v alive is =
     let e = dead_seen p state h k v ∙ alive in
-    reads line_chosen found p state h k v is e ∙ sym (ap (λ b. cond (b || (now h).stopping) None (option_map (λ c. c.number) (find (is_free (now h)) (now h).live.board.connections))) e)
+    reads line_chosen found p state h k v is e ∙ sym (ap (λ b. cond (b || (now h).stopping) None (option_map (λ c. c.number) (find (has_line_to_do (now h)) (now h).live.board.connections))) e)
 
 -- the choice of the next process
 pub process_dead : (w : World) → w.dead ≡ true → None ≡ next_process w

@@ -2,15 +2,15 @@
 ghost use Rattle.std.specs.Prelude.{◌≡◌, ◌≤◌, IfOk, IfSome, OnOk, OnErr, MatchOption, length, take, min, true, false, if◌then◌else◌, nat_lt, is_some, option_copied, [], List, ℕ, None};
 ghost use Rattle.std.specs.Option.{option_map_or};
 ghost use Rattle.muck_model.specs.declared.event.Event.{Event};
-ghost use Rattle.muck_queue.specs.Queues.{is_tied};
+ghost use Rattle.muck_queue.specs.Queues.{has_process_tied};
 ghost use Rattle.muck_model.specs.Parameters.{IsInRange};
 ghost use Rattle.spec_live.specs.Stood.{IsStill};
-ghost use Rattle.spec_events.specs.World.{starting, booted, connection, queue_of, is_leaving};
-ghost use Rattle.spec_events.specs.Steps.{is_lawful, has_claim, is_there, next_ready, next_process};
+ghost use Rattle.spec_events.specs.World.{starting_world, world_booted, connection, queue_of, is_leaving};
+ghost use Rattle.spec_events.specs.Steps.{is_lawful, has_claim, is_process_there, next_ready, next_process};
 ghost use Rattle.spec_events.specs.Histories.{now, entered, by_porter, AllLawful, EntryLicensed};
 ghost use Rattle.spec_events.specs.Logged.{IsPlaced};
 ghost use Rattle.spec_events.specs.Sections.{IsWhole};
-ghost use Rattle.spec_events.specs.Slices.{awake, units_of};
+ghost use Rattle.spec_events.specs.Slices.{process_awake, units_of};
 ghost use Rattle.muck_machine.specs.declared.world.Sliced.TheVariants.{Ran, Lost};
 ghost use Rattle.muck_machine.specs.inner.Claims.{slice_event};
 ghost use Rattle.muck_turns.specs.inner.Hooks.{AreTold};
@@ -75,7 +75,7 @@ impl World {
         requires tune { IsInRange from.tune }
         requires told { AreTold from.db }
         requires still { IsStill from.db }
-        ensures { IfOk result (λ w. w ≡ record { start = booted from.db from.tune moment start; entries = []; notes = []; counted = None }) }
+        ensures { IfOk result (λ w. w ≡ record { start = world_booted from.db from.tune moment start; entries = []; notes = []; counted = None }) }
     {
         let Persisted { db, tune } = from;
         let begun = Begun {
@@ -107,9 +107,9 @@ impl World {
     }
 
     /// Room Zero and One as they are at first, and nobody connected: nothing has happened yet.
-    #[tactic(auto, unfolding(spec_events::specs::World::starting), using(crate::proofs::Keepings::told_first, crate::proofs::Keepings::still_first))]
+    #[tactic(auto, unfolding(spec_events::specs::World::starting_world), using(crate::proofs::Keepings::told_first, crate::proofs::Keepings::still_first))]
     pub fn starting(alloc: Global) -> Result<Self, NoMemory>
-        ensures { IfOk result (λ w. w ≡ record { start = starting; entries = []; notes = []; counted = None }) }
+        ensures { IfOk result (λ w. w ≡ record { start = starting_world; entries = []; notes = []; counted = None }) }
     {
         let db = Db::starting(alloc)?;
         World::boot(
@@ -314,10 +314,10 @@ impl World {
     pub fn slice(&mut self, party: u8, pid: i32) -> Result<Sliced, NoMemory>
         requires alive { (now self.old).dead ≡ false }
         requires claim { has_claim party pid (now self.old) ≡ true }
-        ensures ran { IfOk result (λ sliced. sliced ≡ (if is_there pid (now self.old) then Ran else Lost)) }
+        ensures ran { IfOk result (λ sliced. sliced ≡ (if is_process_there pid (now self.old) then Ran else Lost)) }
         ensures step { IfOk result (λ sliced. self.new ≡ entered self.old (record { party = party; event = slice_event pid sliced })) }
         ensures licensed { IfOk result (λ sliced. EntryLicensed (record { party = party; event = slice_event pid sliced }) (now self.old) (now self.new)) }
-        ensures whole { IfOk result (λ sliced. sliced ≡ Ran → IsWhole (now self.old).live.board.tune pid (awake pid (now self.old)) (units_of pid (now self.old))) }
+        ensures whole { IfOk result (λ sliced. sliced ≡ Ran → IsWhole (now self.old).live.board.tune pid (process_awake pid (now self.old)) (units_of pid (now self.old))) }
         ensures died { OnErr result (self.new ≡ entered self.old (record { party = party; event = Event.Died })) }
     {
         if !self.has_process(pid) {
@@ -340,7 +340,7 @@ impl World {
 
     // Whether the process is there. On a dead world nothing is said of the answer.
     fn has_process(&self, pid: i32) -> bool
-        ensures { (now self.now).dead ≡ false → result ≡ is_there pid (now self.now) }
+        ensures { (now self.now).dead ≡ false → result ≡ is_process_there pid (now self.now) }
     {
         let state = &self.state;
         state.queue.get(pid).is_some()
@@ -443,7 +443,7 @@ impl World {
 
     /// Whether a process is tied to the connection. On a dead world nothing is said of the answer.
     pub fn tied(&self, d: u32) -> bool
-        ensures { (now self.now).dead ≡ false → result ≡ is_tied d (now self.now).queue }
+        ensures { (now self.now).dead ≡ false → result ≡ has_process_tied d (now self.now).queue }
     {
         let state = &self.state;
         state.queue.is_tied(d)

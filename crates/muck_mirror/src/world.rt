@@ -3,9 +3,9 @@ ghost use Rattle.std.specs.Prelude.{◌≡◌, ◌≤◌, ◌<◌, ℕ, All, IfO
 ghost use Rattle.spec_live.specs.Objects.{index_of};
 ghost use Rattle.std.specs.List.{list_all};
 ghost use Rattle.muck_codec.specs.inner.Stored.{IsStored};
-ghost use Rattle.muck_log.specs.World.{start, is_fine, placed, all_placed};
+ghost use Rattle.muck_log.specs.World.{start, is_fine, record_placed, all_placed};
 ghost use Rattle.muck_log.specs.inner.Head.{IsPlaced, ArePlaced};
-ghost use Rattle.muck_store.specs.Limits.{fits};
+ghost use Rattle.muck_store.specs.Limits.{record_fits};
 ghost use Rattle.muck_mirror.specs.Laying.{IsSound, laid_in};
 ghost use Rattle.muck_mirror.specs.inner.Undoing.{put_back, undone, undone_world, AreLaid, IsLaid, IsUndone};
 
@@ -26,7 +26,7 @@ pub struct World {
 }
 
 impl Model for World {
-    ghost use Rattle.muck_log.specs.World.{World as Held};
+    ghost use Rattle.muck_log.specs.World.{StoredWorld as Held};
 
     ghost Value = { Held };
 
@@ -49,7 +49,7 @@ pub struct Undo {
 }
 
 fn all_fit(objects: &[Stored]) -> bool
-    ensures { result ≡ list_all fits objects.now }
+    ensures { result ≡ list_all record_fits objects.now }
 {
     objects.iter().all(|object| fits(object))
 }

@@ -2,7 +2,7 @@
 use Rattle.std.proofs.Common.{◌≡◌, ℕ, ◌≤◌, Bool, true, false, List, [], ◌∷◌, take, drop, length, refl, sym, ap, ◌∙◌, subst, arith}
 use Rattle.std.specs.Prelude.{if◌then◌else◌, not, ◌&&◌, is_some}
 use Rattle.muck_links.specs.inner.Cutting.{Cut, Rest, fed}
-use Rattle.muck_links.specs.Sessions.{Told, on_session, with_read, with_end, with_fault, with_written, with_refusal}
+use Rattle.muck_links.specs.Sessions.{LinksTold, on_session, with_read, with_end, with_fault, with_written, with_refusal}
 use Rattle.muck_model.specs.declared.event.Event.TheVariants.{Input, Closed, Take}
 use Rattle.spec_live.specs.Connections.{is_ready}
 use Rattle.spec_events.specs.World.{World, queue_of}
@@ -18,34 +18,34 @@ use Rattle.muck_peer.specs.Moves.{LinkStep, LinkLoss, PeerStep, IsWorkedOff, Has
 
 -- Calls of the links.
 
-pub link_same : (counted : LinksNote) (p : Peer) (k k' : Told) → k' ≡ on_session p.number (λ s. s) k → LinkStep counted p p k k'
+pub link_same : (counted : LinksNote) (p : Peer) (k k' : LinksTold) → k' ≡ on_session p.number (λ s. s) k → LinkStep counted p p k k'
 link_same counted p k k' is = record { change = λ s. s; told = is; link = λ s. refl; refuses = λ s. omega arith; number = refl; keeps = λ t s h. h }
 
-pub link_read : (counted : LinksNote) (v p p' : Peer) (k k' : Told) (bytes : List ℕ) (c : Cut) → v ≡ p → k' ≡ on_session v.number (with_read bytes) k → c ≡ fed v.cut bytes → p' ≡ record v { cut = c }
+pub link_read : (counted : LinksNote) (v p p' : Peer) (k k' : LinksTold) (bytes : List ℕ) (c : Cut) → v ≡ p → k' ≡ on_session v.number (with_read bytes) k → c ≡ fed v.cut bytes → p' ≡ record v { cut = c }
     → LinkStep counted p p' k k'
 link_read counted v p p' k k' bytes c view is cut same = subst (λ (q : Peer). LinkStep counted q p' k k') view (subst (λ (q : Peer). LinkStep counted v q k k') (sym same)
     (record { change = with_read bytes; told = is; link = λ s. refl; refuses = λ s. omega arith; number = refl; keeps = λ t s h. keeps_read counted v t s bytes c cut h }))
 
-pub link_end : (counted : LinksNote) (v p p' : Peer) (k k' : Told) → v ≡ p → k' ≡ on_session v.number with_end k → p' ≡ record v { ended = true } → LinkStep counted p p' k k'
+pub link_end : (counted : LinksNote) (v p p' : Peer) (k k' : LinksTold) → v ≡ p → k' ≡ on_session v.number with_end k → p' ≡ record v { ended = true } → LinkStep counted p p' k k'
 link_end counted v p p' k k' view is same = subst (λ (q : Peer). LinkStep counted q p' k k') view (subst (λ (q : Peer). LinkStep counted v q k k') (sym same)
     (record { change = with_end; told = is; link = λ s. refl; refuses = λ s. omega arith; number = refl; keeps = λ t s h. keeps_end counted v t s h }))
 
-pub link_fault : (counted : LinksNote) (v p p' : Peer) (k k' : Told) → v ≡ p → k' ≡ on_session v.number with_fault k → p' ≡ record v { faulted = true } → LinkStep counted p p' k k'
+pub link_fault : (counted : LinksNote) (v p p' : Peer) (k k' : LinksTold) → v ≡ p → k' ≡ on_session v.number with_fault k → p' ≡ record v { faulted = true } → LinkStep counted p p' k k'
 link_fault counted v p p' k k' view is same = subst (λ (q : Peer). LinkStep counted q p' k k') view (subst (λ (q : Peer). LinkStep counted v q k k') (sym same)
     (record { change = with_fault; told = is; link = λ s. refl; refuses = λ s. omega arith; number = refl; keeps = λ t s h. keeps_fault counted v t s h }))
 
-pub link_written : (counted : LinksNote) (v p p' : Peer) (k k' : Told) (n : ℕ) → v ≡ p → k' ≡ on_session v.number (with_written (take n v.unsent)) k → p' ≡ record v { unsent = drop n v.unsent }
+pub link_written : (counted : LinksNote) (v p p' : Peer) (k k' : LinksTold) (n : ℕ) → v ≡ p → k' ≡ on_session v.number (with_written (take n v.unsent)) k → p' ≡ record v { unsent = drop n v.unsent }
     → LinkStep counted p p' k k'
 link_written counted v p p' k k' n view is same = subst (λ (q : Peer). LinkStep counted q p' k k') view (subst (λ (q : Peer). LinkStep counted v q k k') (sym same)
     (record { change = with_written (take n v.unsent); told = is; link = λ s. refl; refuses = λ s. omega arith; number = refl; keeps = λ t s h. keeps_written counted v t s n h }))
 
-pub link_refused : (counted : LinksNote) (noted : Bool) (v p p' : Peer) (k k' : Told) → is_some counted ≡ noted → v ≡ p → k' ≡ on_session v.number with_refusal k
+pub link_refused : (counted : LinksNote) (noted : Bool) (v p p' : Peer) (k k' : LinksTold) → is_some counted ≡ noted → v ≡ p → k' ≡ on_session v.number with_refusal k
     → p' ≡ record v { refused = v.ended; stalled = noted } → LinkStep counted p p' k k'
 link_refused counted noted v p p' k k' marks view is same =
     subst (λ (q : Peer). LinkStep counted q p' k k') view (subst (λ (q : Peer). LinkStep counted v q k k') (sym (same ∙ ap (λ (b : Bool). let q : Peer = record v { refused = v.ended; stalled = b } in q) (sym marks)))
     (record { change = with_refusal; told = is; link = λ s. refl; refuses = λ s. omega arith; number = refl; keeps = λ t s h. keeps_refusal counted v t s h }))
 
-pub link_lost : (counted : LinksNote) (v p : Peer) (k k' : Told) (bytes : List ℕ) → v ≡ p → k' ≡ on_session v.number (with_read bytes) k → LinkLoss counted p k k'
+pub link_lost : (counted : LinksNote) (v p : Peer) (k k' : LinksTold) (bytes : List ℕ) → v ≡ p → k' ≡ on_session v.number (with_read bytes) k → LinkLoss counted p k k'
 link_lost counted v p k k' bytes view is = subst (λ (q : Peer). LinkLoss counted q k k') view (record { change = with_read bytes; told = is; link = λ s. refl; refuses = λ s. omega arith; agrees = λ t s h. agrees_read counted v t s bytes h })
 
 -- Bytes that are kept.

@@ -7,7 +7,7 @@ use mathlib.Core.Option.{some}
 use lib.ListN.{get_elem?}
 use Rattle.laws.proofs.Places.{set_same}
 use Rattle.turn_lock.specs.Histories.{StartsWith, own_of}
-use Rattle.muck_links.specs.Sessions.{Told, on_session, shut}
+use Rattle.muck_links.specs.Sessions.{LinksTold, on_session, shut}
 use Rattle.muck_model.specs.declared.event.Entry.{Entry}
 use Rattle.muck_model.specs.declared.event.Event.{Event}
 use Rattle.muck_model.specs.declared.event.Event.TheVariants.{Opened, Input, Closed, Moment, Take, Halt, StopSeen, Died}
@@ -69,7 +69,7 @@ pub record Placed (w u : World) (seen h : List Entry) : Type 0 where
   pub world : w ≡ after u h
   pub nobody : u.live.board.connections ≡ []
 
-module _ (noted noted' : Bool) (k : Told) (v v' : Sight) (w : World) (event : Event) (turn : PorterTurn noted noted' k v v' w event) where
+module _ (noted noted' : Bool) (k : LinksTold) (v v' : Sight) (w : World) (event : Event) (turn : PorterTurn noted noted' k v v' w event) where
   -- what the seat's own items say of the note of the links
   note_after : note_in v'.own ≡ first_note (note_in v.own) turn.item.counted
   note_after = ap note_in turn.own ∙ note_append v.own (turn.item ∷ []) ∙ ap (first_note (note_in v.own)) (first_none turn.item.counted)
@@ -184,12 +184,12 @@ module _ (noted noted' : Bool) (k : Told) (v v' : Sight) (w : World) (event : Ev
         (carries_quiet b n peers coming (subst IsQuiet (sym is) (quiet_moment t)) bk)
 
     -- a connection is closed, and then its link
-    pub carries_closed : (b : Tally) (n : ℕ) (k' : Told) (peers : List Peer) (coming : Option ℕ) (i : ℕ) (p : Peer) → get_elem? peers i ≡ some p → event ≡ Closed p.number → HasCause p w
+    pub carries_closed : (b : Tally) (n : ℕ) (k' : LinksTold) (peers : List Peer) (coming : Option ℕ) (i : ℕ) (p : Peer) → get_elem? peers i ≡ some p → event ≡ Closed p.number → HasCause p w
         → k' ≡ on_session p.number shut k → BooksAt b v (tally k n) peers coming → BooksAt b v' (tally k' n) (remove peers i) coming
     carries_closed b n k' peers coming i p at is cause told bk =
         turn_books b n (tally k' n) peers (remove peers i) coming coming (omega arith)
         (λ l u seen h pl x. same_event b (tally k n) (tally k' n) peers (remove peers i) coming coming u h (Closed p.number) is
-        (subst (λ (x : Told). BooksOf (note_in v'.own) b u (h ++ by_porter (Closed p.number) ∷ []) (tally x n) (remove peers i) coming) (sym told)
+        (subst (λ (x : LinksTold). BooksOf (note_in v'.own) b u (h ++ by_porter (Closed p.number) ∷ []) (tally x n) (remove peers i) coming) (sym told)
         (turn_closed u seen h pl.lawful pl.more pl.own (note_in v'.own) b (tally k n) peers coming i p at
         (λ t s y. subst (λ (z : World). Cause (note_in v'.own) z t s) pl.world (cause (note_in v'.own) t s y)) x))) bk
 

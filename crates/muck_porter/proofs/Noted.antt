@@ -6,8 +6,8 @@ use Rattle.std.proofs.lemmas.Bool.Decides.{nat_tests}
 use Rattle.laws.proofs.Numbers.{is_zero}
 use Rattle.laws.proofs.Truths.{all_true, is_due, none_due, not_all, or_false}
 use Rattle.atomic_table.proofs.Lists.{at_longer}
-use Rattle.turn_lock.specs.Histories.{StartsWith, own_of, kept}
-use Rattle.muck_links.specs.Sessions.{Told}
+use Rattle.turn_lock.specs.Histories.{StartsWith, own_of, entry_kept}
+use Rattle.muck_links.specs.Sessions.{LinksTold}
 use Rattle.muck_model.specs.declared.event.Entry.{Entry}
 use Rattle.muck_model.specs.declared.note.Counted.{Counted}
 use Rattle.spec_events.specs.declared.logged.Logged.{Logged}
@@ -30,7 +30,7 @@ note_own (l ∷ ls) all = from (l.entry.party == 0) refl (note_own ls (λ i x at
     other : (n : ℕ) → (n == 0) ≡ false → ¬ (n ≡ 0)
     other n is same = grind (arith, nat_tests)
 
-    from : (t : Bool) → (l.entry.party == 0) ≡ t → note_in ls ≡ note_in (own_of logged_by 0 ls) → first_note l.counted (note_in ls) ≡ note_in (kept t l (own_of logged_by 0 ls))
+    from : (t : Bool) → (l.entry.party == 0) ≡ t → note_in ls ≡ note_in (own_of logged_by 0 ls) → first_note l.counted (note_in ls) ≡ note_in (entry_kept t l (own_of logged_by 0 ls))
     from true is ih = ap (first_note l.counted) ih
     from false is ih = ap (λ (o : LinksNote). first_note o (note_in ls)) ((all 0 l refl).counted (other l.entry.party is)) ∙ ih
 
@@ -54,7 +54,7 @@ not_first l ls none = from (l.entry.party == 0) refl none
     other : (n : ℕ) → (n == 0) ≡ false → ¬ (n ≡ 0)
     other n is same = grind (arith, nat_tests)
 
-    from : (t : Bool) → (l.entry.party == 0) ≡ t → kept t l (own_of logged_by 0 ls) ≡ [] → (¬ (l.entry.party ≡ 0)) × (own_of logged_by 0 ls ≡ [])
+    from : (t : Bool) → (l.entry.party == 0) ≡ t → entry_kept t l (own_of logged_by 0 ls) ≡ [] → (¬ (l.entry.party ≡ 0)) × (own_of logged_by 0 ls ≡ [])
     from true is e = absurd (none_or_more l (own_of logged_by 0 ls) e)
     from false is e = (other l.entry.party is, e)
 
@@ -78,11 +78,11 @@ noted_same w front ls all (rest, is) own n =
 
 -- An item that the porter makes.
 
-marked_so : (noted noted' : Bool) (k : Told) (w : World) (counted : LinksNote) → Marked noted noted' k w counted → is_some counted ≡ (not noted && (w.stopping && not w.dead))
+marked_so : (noted noted' : Bool) (k : LinksTold) (w : World) (counted : LinksNote) → Marked noted noted' k w counted → is_some counted ≡ (not noted && (w.stopping && not w.dead))
 marked_so noted noted' k w counted (Marked.kept same none free) = ap is_some none ∙ sym (none_due noted w.stopping w.dead free)
 marked_so noted noted' k w counted (Marked.made was now_is stopping alive is) = ap is_some is ∙ sym (is_due noted w.stopping w.dead was stopping alive)
 
-pub noted_turned : (noted noted' : Bool) (k : Told) (w : World) (ls : List Logged) (l : Logged) → AllNoted false w ls → noted ≡ is_some (note_in ls) → (l.entry.party == 0) ≡ true
+pub noted_turned : (noted noted' : Bool) (k : LinksTold) (w : World) (ls : List Logged) (l : Logged) → AllNoted false w ls → noted ≡ is_some (note_in ls) → (l.entry.party == 0) ≡ true
     → Marked noted noted' k (after w (entries_of ls)) l.counted → AllNoted false w (ls ++ l ∷ [])
 noted_turned noted noted' k w ls l n known mine marked =
     let v = after w (entries_of ls) in

@@ -6,7 +6,7 @@ use Rattle.std.proofs.lemmas.List.Edits.{length-remove}
 use mathlib.Core.Option.{some}
 use lib.ListN.{get_elem?}
 use Rattle.laws.proofs.Places.{at_below, set_same, set_there}
-use Rattle.muck_links.specs.Sessions.{Told}
+use Rattle.muck_links.specs.Sessions.{LinksTold}
 use Rattle.muck_model.specs.declared.event.Event.{Event}
 use Rattle.muck_model.specs.declared.event.Event.TheVariants.{Input, Closed, Take, Moment}
 use Rattle.spec_events.specs.declared.logged.Logged.{Logged}
@@ -72,14 +72,14 @@ closed_nearer served i from ps ps1 ps2 w event is s place gone =
     let f : from ≤ i = subst (ServedFrom from) is place in
     omega arith
 
-module _ (noted noted' : Bool) (k : Told) (me me' : Chair) (w : World) (event : Event) (r : Rests 0 me') (turn : PorterTurn noted noted' k me.0 me'.0 w event) (ready : Ready noted me)
+module _ (noted noted' : Bool) (k : LinksTold) (me me' : Chair) (w : World) (event : Event) (r : Rests 0 me') (turn : PorterTurn noted noted' k me.0 me'.0 w event) (ready : Ready noted me)
     (served : Served) (ps ps1 : List Peer) (did : ServedAs served ps ps1 w event) where
   pub went_ready : (i : ℕ) → served ≡ ServedOne i → Ready noted' me'
   went_ready i is =
       let x : ServedAs (ServedOne i) ps ps1 w event = subst (λ (y : Served). ServedAs y ps ps1 w event) is did in
       record { resting = turn_resting noted noted' k me me' w event r turn ready.resting.known; free = peer_free me.0.own me'.0.own turn.item x.0 x.1 w event turn.own turn.entry ready.free x.4 }
 
-  pub went_carries : (i : ℕ) (k' : Told) (n : ℕ) (ps2 : List Peer) → served ≡ ServedOne i → WroteAt i noted' k k' ps1 ps2 → CarriesOn me.0 me'.0 (tally k n) (tally k' n) ps ps2
+  pub went_carries : (i : ℕ) (k' : LinksTold) (n : ℕ) (ps2 : List Peer) → served ≡ ServedOne i → WroteAt i noted' k k' ps1 ps2 → CarriesOn me.0 me'.0 (tally k n) (tally k' n) ps ps2
   went_carries i k' n ps2 is wrote coming b bk =
       let x : ServedAs (ServedOne i) ps ps1 w event = subst (λ (y : Served). ServedAs y ps ps1 w event) is did in
       let there : get_elem? ps1 i ≡ some x.1 = ap (λ (l : List Peer). get_elem? l i) x.3 ∙ set_there ps i x.0 x.1 x.2 in
@@ -97,7 +97,7 @@ module _ (noted noted' : Bool) (k : Told) (me me' : Chair) (w : World) (event : 
         free = IsFree.unbound (stage_free me.0.own me'.0.own turn.item turn.own (Closed x.0.number) Stage.unbound (turn.entry ∙ ap by_porter x.3) ready.free refl refl);
       }
 
-  pub closed_carries : (i : ℕ) (k' : Told) (n : ℕ) (ps2 : List Peer) → served ≡ ClosedOne i → ClosedAt i k k' ps1 → ps2 ≡ remove ps1 i → CarriesOn me.0 me'.0 (tally k n) (tally k' n) ps ps2
+  pub closed_carries : (i : ℕ) (k' : LinksTold) (n : ℕ) (ps2 : List Peer) → served ≡ ClosedOne i → ClosedAt i k k' ps1 → ps2 ≡ remove ps1 i → CarriesOn me.0 me'.0 (tally k n) (tally k' n) ps ps2
   closed_carries i k' n ps2 is told gone coming b bk =
       let x : ServedAs (ClosedOne i) ps ps1 w event = subst (λ (y : Served). ServedAs y ps ps1 w event) is did in
       let same : ps1 ≡ ps = x.2 ∙ set_same ps i x.0 x.1 in

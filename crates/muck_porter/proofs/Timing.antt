@@ -5,7 +5,7 @@ use Rattle.std.proofs.lemmas.Bool.{and_parts}
 use Rattle.std.proofs.lemmas.List.{append-nil}
 use Rattle.laws.proofs.Truths.{allowed_one, opposed}
 use Rattle.turn_lock.specs.Histories.{own_of, StartsWith}
-use Rattle.muck_links.specs.Sessions.{Told}
+use Rattle.muck_links.specs.Sessions.{LinksTold}
 use Rattle.muck_model.specs.declared.event.Entry.{Entry}
 use Rattle.muck_model.specs.declared.event.Event.{Event}
 use Rattle.muck_model.specs.declared.event.Event.TheVariants.{Moment}
@@ -70,7 +70,7 @@ timed_waited a v v' waited before t =
     record { front = t.front; seen = (more.0, waited.0.1 ∙ more.1); own = waited.1 ∙ t.own; timely = λ w m root. t.timely w m (sym waited.5 ∙ root); noted = λ w m root. t.noted w m (sym waited.5 ∙ root) }
 
 -- and at one that had its turn
-pub timed_turned : (noted noted' : Bool) (k : Told) (a a' : Option (List ℕ)) (me me' : Chair) (w : World) (event : Event) → Resting noted me → Rests 0 me' → PorterTurn noted noted' k me.0 me'.0 w event → Clocked a a' w event
+pub timed_turned : (noted noted' : Bool) (k : LinksTold) (a a' : Option (List ℕ)) (me me' : Chair) (w : World) (event : Event) → Resting noted me → Rests 0 me' → PorterTurn noted noted' k me.0 me'.0 w event → Clocked a a' w event
     → ByClock me.0 me'.0 a a'
 timed_turned noted noted' k a a' me me' w event r r' turn clocked before t = record {
   front = me'.0.seen;

@@ -15,7 +15,7 @@ use Rattle.muck_prop.specs.declared.path.PropFault.{PropFault}
 use Rattle.muck_prop.specs.Order.{path_cmp, path_eq, path_ties}
 use Rattle.muck_prop.specs.Store.{IsKept}
 use Rattle.muck_prop.proofs.Maps.{path_cmp_same, turned, get_is}
-use Rattle.muck_prop.specs.Paths.{is_slash, is_filled, is_barred, segments_of, path_text, path_fault, fault_of, with_part, IsPath}
+use Rattle.muck_prop.specs.Paths.{is_slash, is_filled, is_barred, segments_of, path_text, path_fault, fault_of_path, with_part, IsPath}
 
 behind : List ℕ → List (List ℕ)
 behind [] = []
@@ -85,7 +85,7 @@ found_by p q es found e same = e ∙ lookup_at p es ∙ ap (λ r. lookup (λ pat
 lookup_get : (q : List (List ℕ)) (es : List (List (List ℕ) × PropValue)) → lookup (λ path. path_eq path q) es ≡ get (from_entries {R = path_cmp} es) q
 lookup_get q es = sym (lookup_at q es) ∙ sym (get_is q es)
 
-no_fault_of : (text : List ℕ) (q : List (List ℕ)) → list_any is_barred text ≡ false → IsPath q → fault_of text q ≡ None
+no_fault_of : (text : List ℕ) (q : List (List ℕ)) → list_any is_barred text ≡ false → IsPath q → fault_of_path text q ≡ None
 no_fault_of text q free path =
     let some : eqb (length q) 0 ≡ false = ne_eqb (length q) 0 (λ e. omega (arith, e, path.some)) in
     let short : nat_lt 128 (length (path_text q)) ≡ false = le-ltb 128 (length (path_text q)) path.short in

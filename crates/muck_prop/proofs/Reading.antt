@@ -9,7 +9,7 @@ use Rattle.laws.proofs.Texts.{onto_first_part}
 use Rattle.laws.proofs.Truths.{none_of_three}
 use Rattle.muck_model.specs.Bytes.{is_outside, text_fault, text_most}
 use Rattle.muck_model.specs.Bytes as model
-use Rattle.muck_prop.specs.Paths.{is_slash, is_filled, is_barred, segments_of, path_text, is_bad_path, fault_of, IsSegmentByte, IsSegment, IsPath}
+use Rattle.muck_prop.specs.Paths.{is_slash, is_filled, is_barred, segments_of, path_text, is_bad_path, fault_of_path, IsSegmentByte, IsSegment, IsPath}
 use Rattle.muck_prop.specs.declared.path.PropFault.TheVariants.{BadPath, TooDeep}
 
 pub lowered_byte : (b : ℕ) → is_outside b ≡ false → is_barred b ≡ false → is_slash b ≡ false → IsSegmentByte (to_ascii_lowercase b)
@@ -54,7 +54,7 @@ segments (s ∷ parts) h =
 
 -- ---- a text without a fault
 
-no_fault_place : (place : Option ℕ) (n : ℕ) → model.fault_of place n ≡ None → place ≡ None
+no_fault_place : (place : Option ℕ) (n : ℕ) → model.fault_of_bytes place n ≡ None → place ≡ None
 no_fault_place None n h = refl
 no_fault_place (Some at) n h = cc
 
@@ -66,7 +66,7 @@ no_fault true deep h = cc
 no_fault false true h = cc
 no_fault false false h = (refl, refl)
 
-pub read_is_path : (bs : List ℕ) (path : List (List ℕ)) → path ≡ segments_of bs → text_fault bs ≡ None → fault_of bs path ≡ None → IsPath path
+pub read_is_path : (bs : List ℕ) (path : List (List ℕ)) → path ≡ segments_of bs → text_fault bs ≡ None → fault_of_path bs path ≡ None → IsPath path
 read_is_path bs path is fine sound =
     let parts = no_fault (is_bad_path bs path) (nat_lt 16 (length path)) sound in
     let none = none_of_three (list_any is_barred bs) (length path == 0) (nat_lt 128 (length (path_text path))) parts.0 in

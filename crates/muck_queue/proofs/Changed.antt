@@ -6,7 +6,7 @@ use Rattle.std.specs.Ordering.{int_eq}
 use Rattle.std.proofs.lemmas.Bool.{cond-true, cond-false}
 use Rattle.laws.proofs.Numbers.{other_number}
 use Rattle.muck_queue.specs.declared.process.Process.{Process}
-use Rattle.muck_queue.specs.Queues.{Queue, has_pid, changed_first, without_first, with_processes, process, on_process, without}
+use Rattle.muck_queue.specs.Queues.{Queue, has_pid, changed_first, without_first, with_processes, process, on_process, without_process}
 
 -- a change leaves each process its number
 abbrev pub KeepsNumber : (Process → Process) → Type 0
@@ -96,8 +96,8 @@ unfolding on_process
 changed_twice pid f g k q = ap (λ ps. with_processes ps q) (twice_first pid f g k q.processes)
 
 -- a process that ends may have been changed
-pub without_changed : (pid : ℤ) (f : Process → Process) → KeepsNumber f → (q : Queue) → without pid (on_process pid f q) ≡ without pid q
-unfolding on_process without
+pub without_changed : (pid : ℤ) (f : Process → Process) → KeepsNumber f → (q : Queue) → without_process pid (on_process pid f q) ≡ without_process pid q
+unfolding on_process without_process
 without_changed pid f k q = ap (λ ps. with_processes ps q) (taken_first pid f k q.processes)
 
 -- a change that gives the process back changes nothing

@@ -16,7 +16,7 @@ use Rattle.muck_queue.specs.declared.mode.Mode.{Mode}
 use Rattle.muck_queue.specs.declared.mode.Wait.{Wait}
 use Rattle.muck_queue.specs.declared.mode.Wait.TheVariants.{Nothing, ForLine, ForEvent}
 use Rattle.muck_queue.specs.declared.process.Process.{Process}
-use Rattle.muck_queue.specs.Queues.{Queue, changed_first, earlier, earliest, has_pid, has_trigger, in_mode, is_awaiting, is_claimed, is_due, is_for_event, is_reading, is_tied_to, keeps_busy, next_due, numbered, reads_from, told_event, woken, without_all, without_event, without_first, without_trigger}
+use Rattle.muck_queue.specs.Queues.{Queue, changed_first, earlier, earliest, has_pid, has_trigger, process_in_mode, is_awaiting, is_claimed, is_process_due, is_for_event, is_reading, is_tied_to, keeps_busy, next_due, process_numbered, reads_from, told_event, woken, without_all, without_event, without_first, without_trigger}
 use Rattle.muck_queue.specs.inner.Known.{Knows, fits_second, fits_ties, has_connection, is_timed}
 use Rattle.muck_queue.proofs.Woken.{woken_due, woken_descr}
 use Rattle.muck_queue.proofs.Tested.{Gives, Bars, all_changed, all_without, all_kept, all_mapped, all_added, none_any, none_found, none_filtered, none_taken}
@@ -36,9 +36,9 @@ pub second_waiting : (s : ℕ) (p : Process) → is_timed p ≡ false → fits_s
 second_waiting s p h = waiting_of (is_reading p) (is_awaiting p) (nat_le s p.due) h
 
 -- before that second none goes on
-none_soon : (cs : List Claim) (tied : Bool) (s m : ℕ) (ps : List Process) → Knows tied s ps → m < s → earliest (is_due m cs) ps ≡ None
+none_soon : (cs : List Claim) (tied : Bool) (s m : ℕ) (ps : List Process) → Knows tied s ps → m < s → earliest (is_process_due m cs) ps ≡ None
 none_soon cs tied s m ps k l =
-    ap (reduce earlier) (none_filtered (fits_second s) (is_due m cs) (λ p h. not_due (is_reading p) (is_awaiting p) (not (is_claimed p.number cs)) s m p.due l h) ps k.seconds)
+    ap (reduce earlier) (none_filtered (fits_second s) (is_process_due m cs) (λ p h. not_due (is_reading p) (is_awaiting p) (not (is_claimed p.number cs)) s m p.due l h) ps k.seconds)
 
 pub none_next : (q : Queue) (tied : Bool) (s m : ℕ) → Knows tied s q.processes → m < s → None ≡ next_due m q
 unfolding next_due
@@ -104,11 +104,11 @@ module _ (tied : Bool) (s : ℕ) where
       })
 
   pub knows_added : (p : Process) (now : Bool) (less : ℕ) (next : ℤ) (ps new : List Process) → Knows tied s ps → now ≡ (tied || has_connection p) → less ≤ s → less ≤ p.due →
-      new ≡ ps ++ numbered next p ∷ [] → Knows now less new
+      new ≡ ps ++ process_numbered next p ∷ [] → Knows now less new
   knows_added p now less next ps new k t l d e =
       rw e (record {
-        ties = all_added (fits_ties tied) (fits_ties now) (λ q h. more_ties tied (has_connection p) now (not (has_connection q)) t h) (numbered next p) (own_ties tied (has_connection p) now t) ps k.ties;
-        seconds = all_added (fits_second s) (fits_second less) (second_lower less s l) (numbered next p) (second_due less (numbered next p) d) ps k.seconds;
+        ties = all_added (fits_ties tied) (fits_ties now) (λ q h. more_ties tied (has_connection p) now (not (has_connection q)) t h) (process_numbered next p) (own_ties tied (has_connection p) now t) ps k.ties;
+        seconds = all_added (fits_second s) (fits_second less) (second_lower less s l) (process_numbered next p) (second_due less (process_numbered next p) d) ps k.seconds;
       }) where
         more_ties : (a b c r : Bool) → c ≡ (a || b) → (a || r) ≡ true → (c || r) ≡ true
         more_ties true b c r e h = ap (λ x. x || r) e
@@ -130,9 +130,9 @@ module _ (tied : Bool) (s : ℕ) where
     knows_kept test ps new k e f =
         record { ties = ties_found new now (λ h. f ∙ h); seconds = subst (λ (qs : List Process). list_all (fits_second s) qs ≡ true) (sym e) (all_kept (fits_second s) (λ p. not (test p)) ps k.seconds) }
 
-    pub knows_mode : (pid : ℤ) (mode : Mode) (ps new : List Process) → Knows tied s ps → new ≡ changed_first (has_pid pid) (in_mode mode) ps → now ≡ list_any has_connection new → Knows now s new
+    pub knows_mode : (pid : ℤ) (mode : Mode) (ps new : List Process) → Knows tied s ps → new ≡ changed_first (has_pid pid) (process_in_mode mode) ps → now ≡ list_any has_connection new → Knows now s new
     knows_mode pid mode ps new k e f =
-        record { ties = ties_found new now (λ h. f ∙ h); seconds = subst (λ (qs : List Process). list_all (fits_second s) qs ≡ true) (sym e) (all_changed (fits_second s) (fits_second s) (has_pid pid) (in_mode mode) (λ p h. h) (λ p h. h) ps k.seconds) }
+        record { ties = ties_found new now (λ h. f ∙ h); seconds = subst (λ (qs : List Process). list_all (fits_second s) qs ≡ true) (sym e) (all_changed (fits_second s) (fits_second s) (has_pid pid) (process_in_mode mode) (λ p h. h) (λ p h. h) ps k.seconds) }
 
 -- Changes of one process.
 

@@ -3,7 +3,7 @@ use Rattle.std.proofs.Common.{◌≡◌, ℕ, zero, suc, ◌<◌, Bool, true, fa
 use Rattle.std.specs.Prelude.{◌==◌, map, slice_get, is_some}
 use Rattle.std.proofs.lemmas.Option.{none-some, same_Some}
 use Rattle.laws.proofs.Truths.{opposed}
-use Rattle.turn_lock.specs.Histories.{kept, own_of}
+use Rattle.turn_lock.specs.Histories.{entry_kept, own_of}
 use Rattle.muck_model.specs.declared.event.Entry.{Entry}
 use Rattle.muck_model.specs.declared.event.Event.{Event}
 use Rattle.muck_model.specs.declared.event.Event.TheVariants.{Halt, StopSeen, Died}
@@ -16,7 +16,7 @@ use Rattle.spec_talks.specs.Parties.{party_of}
 use Rattle.spec_serve.specs.Marks.{ActsStopping, IsLinksNote}
 use Rattle.spec_serve.proofs.Longer.{links_note_longer, stop_noted}
 use Rattle.muck_dumping.specs.inner.Dumps.{by}
-use Rattle.muck_crew.specs.Shared.{done_by, EndsStopped}
+use Rattle.muck_crew.specs.Shared.{events_done_by, EndsStopped}
 
 -- What a party did last stands in the tale.
 
@@ -36,15 +36,15 @@ StandsBy p event tale = (front : List Entry) × (rest : List Entry) × (tale ≡
 behind_one : (p : ℕ) (event : Event) (e : Entry) (es : List Entry) → StandsBy p event es → StandsBy p event (e ∷ es)
 behind_one p event e es (front, rest, is) = (e ∷ front, rest, ap (λ (l : List Entry). e ∷ l) is)
 
-stands_by : (p : ℕ) (tale : List Entry) (own : List Event) (event : Event) → done_by p tale ≡ own ++ event ∷ [] → StandsBy p event tale
+stands_by : (p : ℕ) (tale : List Entry) (own : List Event) (event : Event) → events_done_by p tale ≡ own ++ event ∷ [] → StandsBy p event tale
 stands_by p [] own event is = absurd (none_last own event is)
-stands_by p (e ∷ es) own event is = from (λ (o : List Event) (i : done_by p es ≡ o ++ event ∷ []). stands_by p es o event i) (e.party == p) refl is
+stands_by p (e ∷ es) own event is = from (λ (o : List Event) (i : events_done_by p es ≡ o ++ event ∷ []). stands_by p es o event i) (e.party == p) refl is
   where
-    here : ((o : List Event) → done_by p es ≡ o ++ event ∷ [] → StandsBy p event es) → e.party ≡ p → (o : List Event) → e.event ∷ done_by p es ≡ o ++ event ∷ [] → StandsBy p event (e ∷ es)
+    here : ((o : List Event) → events_done_by p es ≡ o ++ event ∷ [] → StandsBy p event es) → e.party ≡ p → (o : List Event) → e.event ∷ events_done_by p es ≡ o ++ event ∷ [] → StandsBy p event (e ∷ es)
     here ih mine [] is = ([], es, ap (λ (x : Entry). x ∷ es) (ap (λ (n : ℕ). by n e.event) mine ∙ ap (λ (v : Event). by p v) (first_event is)))
     here ih mine (x ∷ xs) is = behind_one p event e es (ih xs (later_events is))
 
-    from : ((o : List Event) → done_by p es ≡ o ++ event ∷ [] → StandsBy p event es) → (b : Bool) → (e.party == p) ≡ b → map (λ (x : Entry). x.event) (kept b e (own_of party_of p es)) ≡ own ++ event ∷ [] → StandsBy p event (e ∷ es)
+    from : ((o : List Event) → events_done_by p es ≡ o ++ event ∷ [] → StandsBy p event es) → (b : Bool) → (e.party == p) ≡ b → map (λ (x : Entry). x.event) (entry_kept b e (own_of party_of p es)) ≡ own ++ event ∷ [] → StandsBy p event (e ∷ es)
     from ih true q is = here ih (eqb-true e.party p q) own is
     from ih false q is = behind_one p event e es (ih own is)
 

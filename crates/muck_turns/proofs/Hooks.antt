@@ -29,7 +29,7 @@ use Rattle.spec_events.specs.declared.starting.Manner.{Manner}
 use Rattle.spec_events.specs.World.{World, connection}
 use Rattle.spec_events.specs.Hooked.{calls_of, is_limit, started_all, hooked}
 use Rattle.spec_events.specs.Lines.{spoken}
-use Rattle.spec_events.specs.Starting.{by_hook, begun}
+use Rattle.spec_events.specs.Starting.{by_hook, program_begun}
 use Rattle.spec_events.specs.Steps.{happened, hooked_by, rested}
 use Rattle.spec_events.proofs.Turning.{turns_exec, turns_slice, turns_closed}
 use Rattle.muck_turns.specs.declared.state.deeds.DeedFault.{DeedFault}
@@ -54,22 +54,22 @@ goes_on r v (Err Wanted) (Ok more) h k = absurd k
 goes_on r v (Err Wanted) (Err e) h k = tt
 
 -- one is started
-pub one_started : (m n : Manner) (k c : Call) (w v : World) (answer : Result ℤ DeedFault) (result : Result Bool NoMemory) → m ≡ n → k ≡ c → Begins (begun m k w) v answer → MoreIs answer result → IfOk result (λ more. GoesOn (begun n c w) v more)
+pub one_started : (m n : Manner) (k c : Call) (w v : World) (answer : Result ℤ DeedFault) (result : Result Bool NoMemory) → m ≡ n → k ≡ c → Begins (program_begun m k w) v answer → MoreIs answer result → IfOk result (λ more. GoesOn (program_begun n c w) v more)
 one_started m n k c w v answer result e f h more =
-    goes_on (begun n c w) v answer result (subst (λ (x : Call). Begins (begun n x w) v answer) f (subst (λ (x : Manner). Begins (begun x k w) v answer) e h)) more
+    goes_on (program_begun n c w) v answer result (subst (λ (x : Call). Begins (program_begun n x w) v answer) f (subst (λ (x : Manner). Begins (program_begun x k w) v answer) e h)) more
 
 -- those that are left, where it is the first of them
 left_here : (cs : List Call) (i : ℕ) (c : Call) → i < length cs → c ≡ get_or cs i c → drop i cs ≡ c ∷ drop (i + 1) cs
 left_here cs i c lt is = drop_more cs i c lt ∙ ap (λ (x : Call). x ∷ drop (i + 1) cs) (sym is)
 
 -- and others may be behind it
-pub start_next : (cs : List Call) (i : ℕ) (c : Call) (w v : World) (more : Bool) → i < length cs → c ≡ get_or cs i c → GoesOn (begun (by_hook w) c w) v more → more ≡ true → started_all (drop i cs) w ≡ started_all (drop (i + 1) cs) v
+pub start_next : (cs : List Call) (i : ℕ) (c : Call) (w v : World) (more : Bool) → i < length cs → c ≡ get_or cs i c → GoesOn (program_begun (by_hook w) c w) v more → more ≡ true → started_all (drop i cs) w ≡ started_all (drop (i + 1) cs) v
 unfolding started_all
 start_next cs i c w v more lt is goes yes =
     ap (λ l. started_all l w) (left_here cs i c lt is) ∙ goes (started_all (drop (i + 1) cs)) ∙ ap (λ b. cond b (started_all (drop (i + 1) cs) v) v) yes
 
 -- a limit refuses it
-pub start_stop : (cs : List Call) (i : ℕ) (c : Call) (w v : World) (more : Bool) → i < length cs → c ≡ get_or cs i c → GoesOn (begun (by_hook w) c w) v more → more ≡ false → started_all (drop i cs) w ≡ v
+pub start_stop : (cs : List Call) (i : ℕ) (c : Call) (w v : World) (more : Bool) → i < length cs → c ≡ get_or cs i c → GoesOn (program_begun (by_hook w) c w) v more → more ≡ false → started_all (drop i cs) w ≡ v
 unfolding started_all
 start_stop cs i c w v more lt is goes no =
     ap (λ l. started_all l w) (left_here cs i c lt is) ∙ goes (started_all (drop (i + 1) cs)) ∙ ap (λ b. cond b (started_all (drop (i + 1) cs) v) v) no

@@ -17,7 +17,7 @@ use Rattle.muf_compile.specs.declared.control.Control.TheVariants as control
 use Rattle.muf_compile.specs.declared.names.Meaning.{Meaning}
 use Rattle.muf_compile.specs.declared.names.Meaning.TheVariants as meaning
 use Rattle.muf_compile.specs.Names.{control_words, control_of, standing_of}
-use Rattle.muf_compile.specs.Reading.{Known, item_of, word_of, number_in, number_of, is_unfit, name_fault}
+use Rattle.muf_compile.specs.Reading.{Known, item_of, item_named, word_number_in, word_number, is_unfit, new_name_fault}
 use Rattle.muf_compile.specs.inner.Grammar.{Scope, IsNth, process_names, Names, of_word, of_process, of_program, of_local, of_primitive, IsFree}
 
 -- ---- lists and tables
@@ -176,8 +176,8 @@ module _ (k : Known) (ws vs ls : List (List ℕ)) (entered : Entered k.names ws 
   word_in a b c d = option_or (option_map item.Variable a) (option_or (option_map item_of b) (option_or (option_map item.Variable c) (option_map item.Primitive d)))
 
   -- a word that has a meaning names it
-  pub named_by : (w : Word) → word_of name k ≡ Some w → Names (record { words = ws; variables = vs; locals = ls }) name w
-  unfolding word_of scope word_in
+  pub named_by : (w : Word) → item_named name k ≡ Some w → Names (record { words = ws; variables = vs; locals = ls }) name w
+  unfolding item_named scope word_in
   named_by w e = by (lookup (bytes_eq name) k.locals) (lookup (bytes_eq name) k.names) (standing_of name) (named_in_any_case name) refl refl refl refl e
     where
       by : (a : Option VarId) (b : Option Meaning) (c : Option VarId) (d : Option Primitive) → lookup (bytes_eq name) k.locals ≡ a → lookup (bytes_eq name) k.names ≡ b → standing_of name ≡ c → named_in_any_case name ≡ d → word_in a b c d ≡ Some w → Names scope name w
@@ -194,8 +194,8 @@ module _ (k : Known) (ws vs ls : List (List ℕ)) (entered : Entered k.names ws 
       by None None None None ha hb hc hd e = cc
 
   -- a name that can be declared is found nowhere, and names nothing
-  free_by : name_fault name k ≡ None → (lookup (bytes_eq name) k.locals ≡ None) × (lookup (bytes_eq name) k.names ≡ None) × IsFree (record { words = ws; variables = vs; locals = ls }) name
-  unfolding name_fault word_of scope word_in
+  free_by : new_name_fault name k ≡ None → (lookup (bytes_eq name) k.locals ≡ None) × (lookup (bytes_eq name) k.names ≡ None) × IsFree (record { words = ws; variables = vs; locals = ls }) name
+  unfolding new_name_fault item_named scope word_in
   free_by e = by (is_unfit name) (lookup (bytes_eq name) k.locals) (lookup (bytes_eq name) k.names) (standing_of name) (named_in_any_case name) refl refl refl refl refl e
     where
       none_named : lookup (bytes_eq name) k.locals ≡ None → lookup (bytes_eq name) k.names ≡ None → standing_of name ≡ None → named_in_any_case name ≡ None → (w : Word) → Names scope name w → ⊥
@@ -215,20 +215,20 @@ module _ (k : Known) (ws vs ls : List (List ℕ)) (entered : Entered k.names ws 
       by false None None (Some v) d hu ha hb hc hd e = cc
       by false None None None (Some p) hu ha hb hc hd e = cc
 
-  pub free : name_fault name k ≡ None → IsFree (record { words = ws; variables = vs; locals = ls }) name
+  pub free : new_name_fault name k ≡ None → IsFree (record { words = ws; variables = vs; locals = ls }) name
   free e = (free_by e).2
 
   -- it goes last
-  pub entered_last : name_fault name k ≡ None → (m : Meaning) → insert_entry bytes_eq k.names name m ≡ k.names ++ (name, m) ∷ []
+  pub entered_last : new_name_fault name k ≡ None → (m : Meaning) → insert_entry bytes_eq k.names name m ≡ k.names ++ (name, m) ∷ []
   entered_last e m = inserted k.names name m (free_by e).1
 
-  pub owned_last : name_fault name k ≡ None → (v : VarId) → insert_entry bytes_eq k.locals name v ≡ k.locals ++ (name, v) ∷ []
+  pub owned_last : new_name_fault name k ≡ None → (v : VarId) → insert_entry bytes_eq k.locals name v ≡ k.locals ++ (name, v) ∷ []
   owned_last e v = inserted k.locals name v (free_by e).0
 
-  pub numbered_by : (n : ℕ) → number_of name k ≡ Some n → IsNth n ws name
+  pub numbered_by : (n : ℕ) → word_number name k ≡ Some n → IsNth n ws name
   numbered_by n e = by (lookup (bytes_eq name) k.names) refl e
     where
-      by : (m : Option Meaning) → lookup (bytes_eq name) k.names ≡ m → number_in m ≡ Some n → IsNth n ws name
+      by : (m : Option Meaning) → lookup (bytes_eq name) k.names ≡ m → word_number_in m ≡ Some n → IsNth n ws name
       by (Some (meaning.Word i)) h e = let j : i ≡ n = cc in subst (λ x. IsNth x ws name) j (numbered entered name i h)
       by (Some (meaning.Variable v)) h e = cc
       by None h e = cc

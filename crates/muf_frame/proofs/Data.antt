@@ -8,13 +8,13 @@ use Rattle.muf_model.specs.declared.value.Value.{Value}
 use Rattle.muf_model.specs.Datum.{Datum, int}
 use Rattle.muf_model.specs.Source.{zeros, fitted}
 use Rattle.muf_model.specs.inner.View.{view}
-use Rattle.muf_model.specs.Unit.{lowest}
+use Rattle.muf_model.specs.Unit.{lowest_items}
 use Rattle.muf_frame.specs.declared.mark.Mark.{Mark}
 use Rattle.muf_frame.specs.declared.mark.Mark.TheVariants.{Loop, Guard, Back, Leave}
 use Rattle.muf_frame.specs.inner.Shown.{Shown, flat, flat_mark, left}
 use Rattle.muf_frame.specs.inner.Moves.{behind}
 
-pub lowest_data : (n : ℕ) (s : Shown) → map view (drop (length s.stack - n) s.stack) ≡ lowest n (flat s).stack
+pub lowest_data : (n : ℕ) (s : Shown) → map view (drop (length s.stack - n) s.stack) ≡ lowest_items n (flat s).stack
 lowest_data n s =
     map_drop view (length s.stack - n) s.stack ∙ ap (λ k. drop (k - n) (map view s.stack)) (sym (length-map s.stack view))
 

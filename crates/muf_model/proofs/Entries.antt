@@ -18,7 +18,7 @@ use Rattle.muf_model.specs.declared.value.Value.{Value}
 use Rattle.muf_model.specs.Datum.{Datum}
 use Rattle.muf_model.specs.inner.View.{view, pair_view}
 use Rattle.muf_model.specs.Measures.{key_below, text_below}
-use Rattle.muf_model.specs.Entries.{key_same, entry_of, with_entry, entry_place, has_key, IsAhead, Rising}
+use Rattle.muf_model.specs.Entries.{key_same, value_of_key, with_entry, entry_place, has_key, IsAhead, Rising}
 
 pub same_is : (k l : MapKey) → key_same k l ≡ true → k ≡ l
 same_is (Number m) (Number n) e = ap Number ((Decides-int_eq m n).0 e)
@@ -42,29 +42,29 @@ above (Number m) (Name t) h l = search (rules, l)
 above (Name s) (Number n) h l = refl
 above (Name s) (Name t) h l = text_above s t (slice_cmp nat_cmp s t) refl h l
 
-found_first : (k : MapKey) (x : Datum) (es : List (MapKey × Datum)) (b : Bool) → b ≡ true → (if b then Some x else entry_of k es) ≡ Some x
+found_first : (k : MapKey) (x : Datum) (es : List (MapKey × Datum)) (b : Bool) → b ≡ true → (if b then Some x else value_of_key k es) ≡ Some x
 found_first k x es true e = refl
 found_first k x es false e = search (rules, e)
 
-found_cases : (k l : MapKey) (x y : Datum) (es : List (MapKey × Datum)) (b c : Bool) → key_same k l ≡ b → entry_of k (with_entry k x es) ≡ Some x → entry_of k (if b then (k, x) ∷ es else (if c then (k, x) ∷ (l, y) ∷ es else (l, y) ∷ with_entry k x es)) ≡ Some x
+found_cases : (k l : MapKey) (x y : Datum) (es : List (MapKey × Datum)) (b c : Bool) → key_same k l ≡ b → value_of_key k (with_entry k x es) ≡ Some x → value_of_key k (if b then (k, x) ∷ es else (if c then (k, x) ∷ (l, y) ∷ es else (l, y) ∷ with_entry k x es)) ≡ Some x
 found_cases k l x y es true c e h = found_first k x es (key_same k k) (same_itself k)
 found_cases k l x y es false true e h = found_first k x ((l, y) ∷ es) (key_same k k) (same_itself k)
-found_cases k l x y es false false e h = ap (λ b. if b then Some y else entry_of k (with_entry k x es)) e ∙ h
+found_cases k l x y es false false e h = ap (λ b. if b then Some y else value_of_key k (with_entry k x es)) e ∙ h
 
 -- the key that was put has the value
-pub found : (k : MapKey) (x : Datum) (es : List (MapKey × Datum)) → entry_of k (with_entry k x es) ≡ Some x
+pub found : (k : MapKey) (x : Datum) (es : List (MapKey × Datum)) → value_of_key k (with_entry k x es) ≡ Some x
 found k x [] = found_first k x [] (key_same k k) (same_itself k)
 found k x ((l, y) ∷ es) = found_cases k l x y es (key_same k l) (key_below k l) refl (found k x es)
 
-others_cases : (m k l : MapKey) (x y : Datum) (es : List (MapKey × Datum)) (b c : Bool) → key_same k l ≡ b → key_same m k ≡ false → entry_of m (with_entry k x es) ≡ entry_of m es → entry_of m (if b then (k, x) ∷ es else (if c then (k, x) ∷ (l, y) ∷ es else (l, y) ∷ with_entry k x es)) ≡ entry_of m ((l, y) ∷ es)
+others_cases : (m k l : MapKey) (x y : Datum) (es : List (MapKey × Datum)) (b c : Bool) → key_same k l ≡ b → key_same m k ≡ false → value_of_key m (with_entry k x es) ≡ value_of_key m es → value_of_key m (if b then (k, x) ∷ es else (if c then (k, x) ∷ (l, y) ∷ es else (l, y) ∷ with_entry k x es)) ≡ value_of_key m ((l, y) ∷ es)
 others_cases m k l x y es true c e h i =
-    ap (λ b. if b then Some x else entry_of m es) h
-    ∙ sym (ap (λ b. if b then Some y else entry_of m es) (ap (key_same m) (sym (same_is k l e)) ∙ h))
-others_cases m k l x y es false true e h i = ap (λ b. if b then Some x else entry_of m ((l, y) ∷ es)) h
+    ap (λ b. if b then Some x else value_of_key m es) h
+    ∙ sym (ap (λ b. if b then Some y else value_of_key m es) (ap (key_same m) (sym (same_is k l e)) ∙ h))
+others_cases m k l x y es false true e h i = ap (λ b. if b then Some x else value_of_key m ((l, y) ∷ es)) h
 others_cases m k l x y es false false e h i = ap (λ r. if key_same m l then Some y else r) i
 
 -- and each other key what it had
-pub others : (m k : MapKey) (x : Datum) (es : List (MapKey × Datum)) → key_same m k ≡ false → entry_of m (with_entry k x es) ≡ entry_of m es
+pub others : (m k : MapKey) (x : Datum) (es : List (MapKey × Datum)) → key_same m k ≡ false → value_of_key m (with_entry k x es) ≡ value_of_key m es
 others m k x [] h = ap (λ b. if b then Some x else None) h
 others m k x ((l, y) ∷ es) h = others_cases m k l x y es (key_same k l) (key_below k l) refl h (others m k x es h)
 

@@ -13,7 +13,7 @@ use Rattle.muf_model.specs.inner.View.{view, pair_view, value_view}
 use Rattle.muf_model.specs.Measures.{weight, data_weight, pairs_weight, nesting, data_nesting, pairs_nesting, key_below}
 use Rattle.muf_model.specs.Entries.{key_same, with_entry, entry_place, has_key, Rising}
 use Rattle.muf_model.proofs.Entries.{rising, replaced, inserted}
-use Rattle.muf_model.specs.Values.{fits, size_fits, KeysRise, RiseInData, RiseInPairs, IsValue, IsSized}
+use Rattle.muf_model.specs.Values.{value_fits, size_fits, KeysRise, RiseInData, RiseInPairs, IsValue, IsSized}
 
 -- ---- what fits
 
@@ -153,7 +153,7 @@ part_fits i ds d s t h e z v w n f =
       rise_part (suc i) (x ∷ ds) d h e r k = let j : suc i + 1 ≡ suc (i + 1) = omega arith in rw j (r.0, rise_part i ds d (omega arith) e r.1 k)
 
 pub part_unfit : (i : ℕ) (ds : List Datum) (d : Datum) (s t : Size) → i < length ds → d ≡ get_or ds i d → IsSized (items (data_of (take i ds))) s → t.weight ≡ s.weight + weight d → t.nesting ≡ max s.nesting (nesting d) → size_fits t ≡ false →
-    fits (items (data_of ds)) ≡ false
+    value_fits (items (data_of ds)) ≡ false
 part_unfit i ds d s t h e z w n f =
     beyond (data_weight (data_of ds)) (data_nesting (data_of ds)) t.weight t.nesting (omega (arith, part_weight (i + 1) ds, weight_part i ds d h e, z.weighs, w)) (omega (arith, part_nesting (i + 1) ds, nesting_part i ds d h e, z.nests, n)) f
 

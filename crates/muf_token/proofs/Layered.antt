@@ -10,7 +10,7 @@ use Rattle.muf_token.specs.declared.includes.Definition.{Definition}
 use Rattle.muf_token.specs.declared.piece.Piece.{Piece}
 use Rattle.muf_token.specs.declared.layers.Lent.{Lent}
 use Rattle.muf_token.specs.declared.layers.Entry.{Entry}
-use Rattle.muf_token.specs.Pieces.{lowered, pieces}
+use Rattle.muf_token.specs.Pieces.{lowered, source_pieces}
 use Rattle.muf_token.specs.inner.Layers.{Timed, at_time, newest, mean_of, with_meaning, told_in, lents_of, of_object, time_of}
 use Rattle.muf_token.proofs.Takings.{given}
 
@@ -79,8 +79,8 @@ unknown : (s : List (ℤ × ℕ)) (d : ℤ) (list : List Definition) (q : List �
 unknown s d [] q b h = refl
 unknown s d (x ∷ list) q b h = by (unknown s d list q b h) (bytes_eq (lowered x.name) q)
   where
-    by : newest s (lents_of d list q) b ≡ b → (c : Bool) → newest s (cond c (record { object = d; body = pieces x.text } ∷ lents_of d list q) (lents_of d list q)) b ≡ b
-    by ih true = ap (λ o. newest s (lents_of d list q) (at_time o (pieces x.text) b)) h ∙ ih
+    by : newest s (lents_of d list q) b ≡ b → (c : Bool) → newest s (cond c (record { object = d; body = source_pieces x.text } ∷ lents_of d list q) (lents_of d list q)) b ≡ b
+    by ih true = ap (λ o. newest s (lents_of d list q) (at_time o (source_pieces x.text) b)) h ∙ ih
     by ih false = ih
 
 pub same_behind : (s : List (ℤ × ℕ)) (d : ℤ) (list : List Definition) (q : List ℕ) (ls : List Lent) (b : Timed) → lookup (int_eq d) s ≡ None → newest s (ls ++ lents_of d list q) b ≡ newest s ls b
@@ -97,8 +97,8 @@ pub last_given : (d : ℤ) (list : List Definition) (q : List ℕ) (o : Option (
 last_given d [] q o = refl
 last_given d (x ∷ list) q o = by (last_given d list q) (bytes_eq (lowered x.name) q)
   where
-    by : ((o : Option (List Piece)) → last_of (lents_of d list q) o ≡ given list q o) → (c : Bool) → last_of (cond c (record { object = d; body = pieces x.text } ∷ lents_of d list q) (lents_of d list q)) o ≡ given list q (cond c (Some (pieces x.text)) o)
-    by ih true = ih (Some (pieces x.text))
+    by : ((o : Option (List Piece)) → last_of (lents_of d list q) o ≡ given list q o) → (c : Bool) → last_of (cond c (record { object = d; body = source_pieces x.text } ∷ lents_of d list q) (lents_of d list q)) o ≡ given list q (cond c (Some (source_pieces x.text)) o)
+    by ih true = ih (Some (source_pieces x.text))
     by ih false = ih o
 
 module _ (s n : List (ℤ × ℕ)) (d : ℤ) (c : ℕ) (at : (k : ℤ) → lookup (int_eq k) n ≡ cond (int_eq d k) (Some c) (lookup (int_eq k) s)) (times : (k : ℤ) → time_of (lookup (int_eq k) s) < c) where
@@ -135,7 +135,7 @@ of_own d [] q = refl
 of_own d (x ∷ list) q = by (of_own d list q) (bytes_eq (lowered x.name) q)
   where
     here : Lent
-    here = record { object = d; body = pieces x.text }
+    here = record { object = d; body = source_pieces x.text }
 
     by : of_object d (lents_of d list q) ≡ lents_of d list q → (b : Bool) → of_object d (cond b (here ∷ lents_of d list q) (lents_of d list q)) ≡ cond b (here ∷ lents_of d list q) (lents_of d list q)
     by ih true = ap (λ c. cond c (here ∷ of_object d (lents_of d list q)) (of_object d (lents_of d list q))) (int_equal_itself d) ∙ ap (λ z. here ∷ z) ih
@@ -146,7 +146,7 @@ of_other k d [] q h = refl
 of_other k d (x ∷ list) q h = by (of_other k d list q h) (bytes_eq (lowered x.name) q)
   where
     here : Lent
-    here = record { object = d; body = pieces x.text }
+    here = record { object = d; body = source_pieces x.text }
 
     by : of_object k (lents_of d list q) ≡ [] → (b : Bool) → of_object k (cond b (here ∷ lents_of d list q) (lents_of d list q)) ≡ []
     by ih true = ap (λ c. cond c (here ∷ of_object k (lents_of d list q)) (of_object k (lents_of d list q))) h ∙ ih

@@ -8,7 +8,7 @@ use Rattle.laws.proofs.Texts.{bytes_equivalence}
 use Rattle.indexmap.specs.IndexMap.{insert_entry}
 use Rattle.muf_token.specs.declared.includes.Definition.{Definition}
 use Rattle.muf_token.specs.declared.piece.Piece.{Piece}
-use Rattle.muf_token.specs.Pieces.{lowered, pieces}
+use Rattle.muf_token.specs.Pieces.{lowered, source_pieces}
 use Rattle.muf_token.specs.Expansion.{Definitions}
 use Rattle.muf_token.specs.Source.{with_all}
 
@@ -102,4 +102,4 @@ same_removed a b name h = record {
 
 pub same_with_all : (list : List Definition) (a b : Definitions) → AreSame a b → AreSame (with_all list a) (with_all list b)
 same_with_all [] a b h = h
-same_with_all (d ∷ list) a b h = same_with_all list _ _ (same_defined a b (lowered d.name) (pieces d.text) h)
+same_with_all (d ∷ list) a b h = same_with_all list _ _ (same_defined a b (lowered d.name) (source_pieces d.text) h)

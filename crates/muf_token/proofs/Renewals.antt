@@ -14,10 +14,10 @@ use Rattle.muf_token.specs.declared.place.Place.{Place}
 use Rattle.muf_token.specs.declared.reader.Reader.{Reader}
 use Rattle.muf_token.specs.declared.layers.Entry.{Entry}
 use Rattle.muf_token.specs.declared.layers.Layers.{Layers}
-use Rattle.muf_token.specs.Numbers.{kind_of}
+use Rattle.muf_token.specs.Numbers.{token_kind}
 use Rattle.muf_token.specs.Output.{and_then}
-use Rattle.muf_token.specs.Directives.{Spot, Name, name_at}
-use Rattle.muf_token.specs.Source.{State, with_definition, undef_at, object_of, with_all, included, include_at}
+use Rattle.muf_token.specs.Directives.{Spot, Name, name_behind}
+use Rattle.muf_token.specs.Source.{SourceState, with_definition, undef_at, included_object, with_all, included, include_at}
 use Rattle.muf_token.specs.inner.Spots.{spot_of}
 use Rattle.muf_token.specs.inner.Readers.{state_of, LeadsOn, SayTheSame}
 use Rattle.muf_token.specs.inner.Layers.{newest, lent_to, own_of, mean_of, entry_at, own, lents, stamp_at, meant, told, lents_of, of_object, time_of, IsTimed, HasAll, HasBy, AreTaken, LendsOn, IsReady}
@@ -92,12 +92,12 @@ pub defined_by : {E : Type 0} (old new : Reader) (name : List ℕ) (body : List 
 defined_by old new name body (Ok x) h mean kept branches out = defined_alike old new name body h kept.timed mean branches out
 defined_by old new name body (Err e) h mean kept branches out = tt
 
-pub undone : (line : ℕ) (old new : Reader) (spot : Spot) (n : Name) (place : Place) → name_at line spot ≡ Ok n → spot_of place ≡ n.behind → IsTimed old.definitions → IsTimed new.definitions
+pub undone : (line : ℕ) (old new : Reader) (spot : Spot) (n : Name) (place : Place) → name_behind line spot ≡ Ok n → spot_of place ≡ n.behind → IsTimed old.definitions → IsTimed new.definitions
     → ((q : List ℕ) → meant new.definitions q ≡ cond (bytes_eq n.name q) None (meant old.definitions q)) → new.branches ≡ old.branches → new.out ≡ old.out
     → LeadsOn (undef_at line (state_of old) spot) (Ok place) (state_of new)
 undone line old new spot n place at behind h k mean branches out =
-    let s : State = state_of old in
-    let after : State = record s { definitions = remove_entry (bytes_eq n.name) s.definitions } in (
+    let s : SourceState = state_of old in
+    let after : SourceState = record s { definitions = remove_entry (bytes_eq n.name) s.definitions } in (
       after,
       ap (λ r. and_then r (λ m. Ok (record s { definitions = remove_entry (bytes_eq m.name) s.definitions }, m.behind))) at ∙ ap (λ b. Ok (after, b)) (sym behind),
       λ lent there. words_alike lent after (state_of new) there (record {
@@ -214,13 +214,13 @@ module _ (lent : Dbref → Option (List Definition)) (d : Dbref) (old mid new : 
       ∙ ap (given ready.all.0 q) (ready.mean q)
 
 -- `$include`
-pub included_on : (lent : Dbref → Option (List Definition)) (line : ℕ) (old new : Reader) (mid : Layers) (spot : Spot) (n : Name) (d : Dbref) (place : Place) → name_at line spot ≡ Ok n → spot_of place ≡ n.behind
-    → object_of line n (kind_of n.name) ≡ Ok d → AreTaken lent old.definitions → IsReady lent d old.definitions mid → IsRenewed d.0 mid new.definitions → new.branches ≡ old.branches → new.out ≡ old.out
+pub included_on : (lent : Dbref → Option (List Definition)) (line : ℕ) (old new : Reader) (mid : Layers) (spot : Spot) (n : Name) (d : Dbref) (place : Place) → name_behind line spot ≡ Ok n → spot_of place ≡ n.behind
+    → included_object line n (token_kind n.name) ≡ Ok d → AreTaken lent old.definitions → IsReady lent d old.definitions mid → IsRenewed d.0 mid new.definitions → new.branches ≡ old.branches → new.out ≡ old.out
     → LeadsOn (include_at lent line (state_of old) spot) (Ok place) (state_of new)
 included_on lent line old new mid spot n d place at behind object h ready now branches out =
-    let s : State = state_of old in
+    let s : SourceState = state_of old in
     let list : List Definition = ready.all.0 in
-    let after : State = record s { definitions = with_all list s.definitions } in
+    let after : SourceState = record s { definitions = with_all list s.definitions } in
     let timed : IsTimed new.definitions = renewed_timed lent d old.definitions mid new.definitions ready now in (
       after,
       include_is lent line s after spot n d at object (ap (included line s) ready.all.1) ∙ ap (λ b. Ok (after, b)) (sym behind),

@@ -4,7 +4,7 @@ use Rattle.std.proofs.lemmas.Bool.{and_parts, and_from}
 use Rattle.std.proofs.lemmas.Bool.Decides.{nat_tests}
 use Rattle.std.specs.List.{position_or_len}
 use Rattle.laws.proofs.Numbers.{inside_step}
-use Rattle.muck_model.specs.Bytes.{is_outside, text_fault, fault_of, text_most}
+use Rattle.muck_model.specs.Bytes.{is_outside, text_fault, fault_of_bytes, text_most}
 use Rattle.muf_token.specs.inner.Bytes.{are_inside}
 
 -- what stands behind the first byte
@@ -28,7 +28,7 @@ passed_all (b ∷ bytes) h =
     let rest = passed_all bytes (inside_tail b bytes h) in
     rw (here, rest) (omega arith)
 
-not_fault : (v : Bool) (at n : ℕ) → fault_of (cond v (Some at) None) n ≡ None → v ≡ false
+not_fault : (v : Bool) (at n : ℕ) → fault_of_bytes (cond v (Some at) None) n ≡ None → v ≡ false
 not_fault true at n h = cc
 not_fault false at n h = refl
 

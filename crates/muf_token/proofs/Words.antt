@@ -9,7 +9,7 @@ use Rattle.std.specs.Char.{to_ascii_lowercase}
 use Rattle.muck_model.specs.Bytes.{is_outside}
 use Rattle.muf_token.specs.inner.Bytes.{are_inside}
 use Rattle.muf_token.specs.declared.piece.Piece.TheVariants.{Word}
-use Rattle.muf_token.specs.Pieces.{is_blank, lowered, below, found, word_found}
+use Rattle.muf_token.specs.Pieces.{is_blank_byte, lowered, lines_below, found, word_found}
 use Rattle.muf_token.proofs.Texts.{inside_head, inside_tail, inside_cons, inside_take, inside_drop}
 
 lower_inside : (b : ℕ) → not (is_outside b) ≡ true → not (is_outside (to_ascii_lowercase b)) ≡ true
@@ -25,17 +25,17 @@ length_lowered word = length-map word to_ascii_lowercase
 pub ruleset lower_texts = (inside_lowered, length_lowered)
 
 -- a word ends where its line ends
-pub word_in_line : (here : List ℕ) (lines : List (List ℕ)) → position_or_len is_blank (here ++ below lines) ≡ position_or_len is_blank here
+pub word_in_line : (here : List ℕ) (lines : List (List ℕ)) → position_or_len is_blank_byte (here ++ lines_below lines) ≡ position_or_len is_blank_byte here
 word_in_line [] [] = refl
 word_in_line [] (line ∷ lines) = refl
-word_in_line (b ∷ here) lines = ap (λ n. cond (not (is_blank b)) (1 + n) 0) (word_in_line here lines)
+word_in_line (b ∷ here) lines = ap (λ n. cond (not (is_blank_byte b)) (1 + n) 0) (word_in_line here lines)
 
 -- the word at a place, in the words of its line
-pub word_split : (line : ℕ) (here : List ℕ) (lines : List (List ℕ)) (n : ℕ) → n ≡ position_or_len is_blank here
-    → word_found line (here ++ below lines) ≡ found line (Word (lowered (take n here))) line (drop n here ++ below lines)
+pub word_split : (line : ℕ) (here : List ℕ) (lines : List (List ℕ)) (n : ℕ) → n ≡ position_or_len is_blank_byte here
+    → word_found line (here ++ lines_below lines) ≡ found line (Word (lowered (take n here))) line (drop n here ++ lines_below lines)
 word_split line here lines n e =
-    let within : n ≤ length here = omega (arith, position_within is_blank here, e) in
-    let same : position_or_len is_blank (here ++ below lines) ≡ n = word_in_line here lines ∙ sym e in
-    rw (same, take_within n here (below lines) within, drop_within n here (below lines) within) refl
+    let within : n ≤ length here = omega (arith, position_within is_blank_byte here, e) in
+    let same : position_or_len is_blank_byte (here ++ lines_below lines) ≡ n = word_in_line here lines ∙ sym e in
+    rw (same, take_within n here (lines_below lines) within, drop_within n here (lines_below lines) within) refl
 
 pub ruleset words = (word_split, inside_take, inside_drop, length_take, length_drop)

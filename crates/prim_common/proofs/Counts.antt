@@ -15,7 +15,7 @@ use Rattle.muf_model.specs.Answer.{too_few}
 use Rattle.muf_model.specs.Datum.{Datum, int}
 use Rattle.muf_model.specs.Needs.{Many, Needs}
 use Rattle.muf_model.specs.Prims.{needs_of}
-use Rattle.muf_model.specs.Ladder.{short, times, counted, wanted, miscounted, too_short}
+use Rattle.muf_model.specs.Ladder.{short, times, count_on_top, wanted, miscounted, too_short}
 use Rattle.muf_frame.specs.inner.Answers.{int_at}
 use Rattle.prim_common.specs.inner.Tests.{count_of, uncounted, AreFew, FewCounted}
 use Rattle.prim_common.proofs.Faults.{or_assoc}
@@ -39,7 +39,7 @@ miscounted_at zero (_ ∷ rest) = refl
 miscounted_at (suc at) [] = refl
 miscounted_at (suc at) (x ∷ rest) = miscounted_at at rest
 
-count_at : (at : ℕ) (stack : List Datum) → counted (drop at stack) ≡ count_of (int_at at stack)
+count_at : (at : ℕ) (stack : List Datum) → count_on_top (drop at stack) ≡ count_of (int_at at stack)
 count_at zero [] = refl
 count_at zero (int (pos n) ∷ rest) = refl
 count_at zero (int (negsuc n) ∷ rest) = refl

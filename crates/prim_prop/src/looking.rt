@@ -6,7 +6,7 @@ ghost use Rattle.muf_model.specs.Datum.{text};
 ghost use Rattle.muf_model.specs.inner.View.{view};
 ghost use Rattle.muf_frame.specs.inner.Shown.{Shown, flat};
 ghost use Rattle.muck_perm.specs.inner.Guards.{world_of};
-ghost use Rattle.spec_prims.specs.PropRows.{value_of, as_item, as_text, as_number, looked};
+ghost use Rattle.spec_prims.specs.PropRows.{value_of, as_item, value_as_text, as_number, property_looked_at};
 ghost use Rattle.prim_common.specs.inner.Applied.{Makes};
 ghost use Rattle.prim_prop.specs.inner.Looks.{form_of, look_of};
 
@@ -54,7 +54,7 @@ fn as_item(alloc: Global, value: Option<&PropValue>) -> Result<Value, NoMemory>
 }
 
 fn as_text(alloc: Global, value: Option<&PropValue>) -> Result<Value, NoMemory>
-    ensures { IfOk result (λ v. view v ≡ as_text (option_copied value.entry)) }
+    ensures { IfOk result (λ v. view v ≡ value_as_text (option_copied value.entry)) }
 {
     let text = match value {
         Some(value) => value.text(),
@@ -121,7 +121,7 @@ fn seen(alloc: Global, what: Look, object: Option<&Object>, path: &Path) -> Resu
 
 /// GETPROP and its like.
 pub(crate) fn look_at(what: Look, guard: &Guard, frame: &Frame) -> Result<Made, PrimFault>
-    ensures { Makes (looked (look_of what) guard.now.actor (take 2 (flat frame.now).stack) (world_of guard.now)) guard.now guard.now result }
+    ensures { Makes (property_looked_at (look_of what) guard.now.actor (take 2 (flat frame.now).stack) (world_of guard.now)) guard.now guard.now result }
 {
     let Some((object, text)) = named(frame, 0) else {
         return Err(PrimFault::Fault(MufFault::BadType));

@@ -9,10 +9,10 @@ use Rattle.laws.proofs.Places.{first_one, get_taken}
 use Rattle.laws.proofs.Turned.{map_reverse}
 use Rattle.muf_model.specs.declared.value.Value.{Value}
 use Rattle.muf_model.specs.inner.View.{view}
-use Rattle.muf_model.specs.StackRows.{is_mark, above, rotated, rotated_up, rotated_down, put_at}
+use Rattle.muf_model.specs.StackRows.{is_mark, above_locked, rotated, rotated_up, rotated_down, item_put_at}
 use Rattle.muf_model.specs.declared.fault.MufFault.TheVariants.{BadType}
 use Rattle.muf_model.specs.Datum.{Datum, int}
-use Rattle.muf_model.specs.Answer.{Answer, gives, refuses, needing, Scope, unless}
+use Rattle.muf_model.specs.Answer.{Answer, gives, refuses, needing, Scope, answer_unless}
 use Rattle.muf_frame.specs.inner.Answers.{int_at}
 use Rattle.prim_stack.specs.inner.Does.{mark_in}
 use Rattle.muf_frame.proofs.Ladders.{kinds, used_plain, used_whole}
@@ -46,7 +46,7 @@ rotate_read locked stack (Some (pos n)) = needing (n + 1) locked stack (gives (r
 rotate_read locked stack (Some (negsuc n)) = needing (suc n + 1) locked stack (gives (rotated_down (suc n) (drop 1 stack)))
 rotate_read locked stack None = refuses BadType
 
-rotated_read : (s : Scope) (stack : List Datum) → unless (kinds (an_int ∷ []) stack) (rotated s stack) ≡ rotate_read s.locked stack (int_at 0 stack)
+rotated_read : (s : Scope) (stack : List Datum) → answer_unless (kinds (an_int ∷ []) stack) (rotated s stack) ≡ rotate_read s.locked stack (int_at 0 stack)
 rotated_read s (int (pos n) ∷ rest) = refl
 rotated_read s (int (negsuc n) ∷ rest) = refl
 rotated_read s _ = refl
@@ -55,7 +55,7 @@ pub rotate_row : (s : Scope) (stack : List Datum) → primitive Rotate s stack �
 rotate_row s stack = used_whole 1 an_int [] rotated s stack ∙ ap (needing 1 s.locked stack) (rotated_read s stack)
 
 -- the item at the n-th place below the top, from 1
-pub put_read : (rest : List Datum) (y : Datum) (n : ℕ) → 0 < n → put_at (y ∷ rest) n ≡ gives (slice_set rest (n - 1) y)
+pub put_read : (rest : List Datum) (y : Datum) (n : ℕ) → 0 < n → item_put_at (y ∷ rest) n ≡ gives (slice_set rest (n - 1) y)
 put_read rest y zero h = absurd (omega (arith, h))
 put_read rest y (suc n) h = let e : suc n - 1 ≡ n = omega arith in rw e refl
 
@@ -82,20 +82,20 @@ mark_found zero (x ∷ xs) e =
     rw (g) refl
 mark_found (suc n) (x ∷ xs) e = mark_found n xs e
 
-length_above : (l : ℕ) (s : List Datum) → length (above l s) ≡ length s - l
+length_above : (l : ℕ) (s : List Datum) → length (above_locked l s) ≡ length s - l
 length_above l s = omega (arith, length-take (length s - l) s)
 
 position_here : (n : ℕ) (xs : List Datum) → position_or_len is_mark xs ≡ n → n < length xs → position is_mark xs ≡ Some n
 position_here n xs e h = rw (e) (search (rules, h))
 
-pub nearest_here : (l n : ℕ) (s : List Datum) → n < length s - l → position_or_len is_mark (above l s) ≡ n + position_or_len is_mark (drop n (above l s)) → mark_in (slice_get s n) ≡ true → Some n ≡ position is_mark (above l s)
+pub nearest_here : (l n : ℕ) (s : List Datum) → n < length s - l → position_or_len is_mark (above_locked l s) ≡ n + position_or_len is_mark (drop n (above_locked l s)) → mark_in (slice_get s n) ≡ true → Some n ≡ position is_mark (above_locked l s)
 nearest_here l n s h e m =
-    let f : position_or_len is_mark (drop n (above l s)) ≡ 0 = mark_found n (above l s) (ap mark_in (get_taken n (length s - l) s h) ∙ m) in
-    sym (position_here n (above l s) (omega (arith, e, f)) (omega (arith, h, length_above l s)))
+    let f : position_or_len is_mark (drop n (above_locked l s)) ≡ 0 = mark_found n (above_locked l s) (ap mark_in (get_taken n (length s - l) s h) ∙ m) in
+    sym (position_here n (above_locked l s) (omega (arith, e, f)) (omega (arith, h, length_above l s)))
 
-pub nearest_further : (l n : ℕ) (s : List Datum) → n < length s - l → position_or_len is_mark (above l s) ≡ n + position_or_len is_mark (drop n (above l s)) → mark_in (slice_get s n) ≡ false → position_or_len is_mark (above l s) ≡ n + 1 + position_or_len is_mark (drop (n + 1) (above l s))
+pub nearest_further : (l n : ℕ) (s : List Datum) → n < length s - l → position_or_len is_mark (above_locked l s) ≡ n + position_or_len is_mark (drop n (above_locked l s)) → mark_in (slice_get s n) ≡ false → position_or_len is_mark (above_locked l s) ≡ n + 1 + position_or_len is_mark (drop (n + 1) (above_locked l s))
 nearest_further l n s h e m =
-    let f : position_or_len is_mark (drop n (above l s)) ≡ suc (position_or_len is_mark (drop (n + 1) (above l s))) = mark_passed n (above l s) (omega (arith, h, length_above l s)) (ap mark_in (get_taken n (length s - l) s h) ∙ m) in
+    let f : position_or_len is_mark (drop n (above_locked l s)) ≡ suc (position_or_len is_mark (drop (n + 1) (above_locked l s))) = mark_passed n (above_locked l s) (omega (arith, h, length_above l s)) (ap mark_in (get_taken n (length s - l) s h) ∙ m) in
     omega (arith, e, f)
 
 pub closed_data : (n : ℕ) (xs : List Value) → map view (take n xs ++ drop (n + 1) xs) ≡ take n (map view xs) ++ drop (n + 1) (map view xs)

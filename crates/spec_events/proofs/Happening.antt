@@ -11,11 +11,11 @@ use Rattle.spec_live.specs.Objects.{Entry as Object, object_at}
 use Rattle.spec_live.specs.Lives.{Live}
 use Rattle.muck_library.specs.Library.{Library}
 use Rattle.muck_queue.specs.declared.process.Process.{Process}
-use Rattle.muck_queue.specs.Queues.{added}
+use Rattle.muck_queue.specs.Queues.{process_added}
 use Rattle.spec_hooks.specs.Causes.{causes}
 use Rattle.spec_events.specs.declared.starting.Call.{Call}
 use Rattle.spec_events.specs.World.{World, on_queue, with_library}
-use Rattle.spec_events.specs.Starting.{by_hook, new_process, begun}
+use Rattle.spec_events.specs.Starting.{by_hook, new_process, program_begun}
 use Rattle.spec_events.specs.Hooked.{calls_of, hooked}
 use Rattle.spec_events.specs.OnlyStarts.{OnlyStarts}
 use Rattle.spec_events.specs.Steps.{happened, rested, resting, hooked_by, effect}
@@ -42,7 +42,7 @@ effect-is w e no = none e.event no
 
 -- what stays so where something that is there starts a program so
 abbrev pub Lasts : (World → Type 0) → Type 0
-Lasts P = (c : Call) (w : World) → is_some (object_at c.trigger w.live.objects) ≡ true → P w → P (begun (by_hook w) c w).0
+Lasts P = (c : Call) (w : World) → is_some (object_at c.trigger w.live.objects) ≡ true → P w → P (program_begun (by_hook w) c w).0
 
 -- and where another event begins
 abbrev pub Rests : (World → Type 0) → Type 0
@@ -66,11 +66,11 @@ effect-keeps P lasts rests w e h = by_event e.event (happened w e.party e.event)
     by_event event v k = k
 
 -- a part that is the same where forms are built and processes join
-lasts_part : {X : Type 0} (part : World → X) (x : X) → ((library : Library) (w : World) → part (with_library library w) ≡ part w) → ((p : Process) (w : World) → part (on_queue (added p) w) ≡ part w) → Lasts (λ u. part u ≡ x)
+lasts_part : {X : Type 0} (part : World → X) (x : X) → ((library : Library) (w : World) → part (with_library library w) ≡ part w) → ((p : Process) (w : World) → part (on_queue (process_added p) w) ≡ part w) → Lasts (λ u. part u ≡ x)
 lasts_part part x forms joins c u there h = begun_keeps (λ v. part v ≡ x) (by_hook u) c (λ s y k. joins (new_process (by_hook u) c s) y ∙ k) u (forms _ u ∙ h)
 
 -- and where another event begins
-same_part : {X : Type 0} (part : World → X) → ((library : Library) (w : World) → part (with_library library w) ≡ part w) → ((p : Process) (w : World) → part (on_queue (added p) w) ≡ part w) → ((w : World) → part (rested w) ≡ part w) →
+same_part : {X : Type 0} (part : World → X) → ((library : Library) (w : World) → part (with_library library w) ≡ part w) → ((p : Process) (w : World) → part (on_queue (process_added p) w) ≡ part w) → ((w : World) → part (rested w) ≡ part w) →
     (w : World) (e : Entry) → part (effect w e) ≡ part (happened w e.party e.event)
 same_part part forms joins rests w e = effect-keeps (λ u. part u ≡ part (happened w e.party e.event)) (lasts_part part _ forms joins) (λ u h. rests u ∙ h) w e refl
 
@@ -114,7 +114,7 @@ pub effect-board : (w : World) (e : Entry) → (effect w e).live.board ≡ (happ
 effect-board w e = same_part (λ u. u.live.board) (λ library u. refl) (λ p u. refl) (λ u. refl) w e
 
 pub effect-claims : (w : World) (e : Entry) → (effect w e).queue.claims ≡ (happened w e.party e.event).queue.claims
-unfolding added
+unfolding process_added
 effect-claims w e = same_part (λ u. u.queue.claims) (λ library u. refl) (λ p u. refl) (λ u. refl) w e
 
 pub effect-moment : (w : World) (e : Entry) → (effect w e).moment ≡ (happened w e.party e.event).moment

@@ -15,10 +15,10 @@ use Rattle.muf_model.specs.Source.{Source}
 use Rattle.muck_library.specs.Library.{form_at, formed}
 use Rattle.muck_library.specs.Programs.{built_tree}
 use Rattle.muck_queue.specs.declared.process.Process.{Process}
-use Rattle.muck_queue.specs.Queues.{numbered, added}
+use Rattle.muck_queue.specs.Queues.{process_numbered, process_added}
 use Rattle.spec_events.specs.declared.starting.Call.{Call}
 use Rattle.spec_events.specs.World.{World, on_queue, with_library}
-use Rattle.spec_events.specs.Starting.{by_hook, new_process, begun}
+use Rattle.spec_events.specs.Starting.{by_hook, new_process, program_begun}
 use Rattle.spec_events.specs.Sourced.{Each}
 use Rattle.spec_events.proofs.Sourcing.{each_append}
 use Rattle.spec_events.proofs.SourcedUnits.{formed_sourced}
@@ -91,7 +91,7 @@ module _ (es : List Entry) (cause : Cause) where
       with_command (f ∷ fs) h = ((h.0, refl), with_command fs h.1)
 
 -- What stays so where one is started is so behind all.
-module _ (es : List Entry) (P : World → Type 0) (one : (c : Call) (w : World) → w.live.objects ≡ es → IsCall es c → P w → P (begun (by_hook w) c w).0) where
+module _ (es : List Entry) (P : World → Type 0) (one : (c : Call) (w : World) → w.live.objects ≡ es → IsCall es c → P w → P (program_begun (by_hook w) c w).0) where
   stepped : (r : World × Result ℤ MufFault) (more : World → World) → P r.0 → (P r.0 → P (more r.0)) → P (and_then r more)
   stepped (w, Ok pid) more p k = k p
   stepped (w, Err fault) more p k = cond_both (is_limit fault) w (more w) P (λ e. p) (λ e. k p)
@@ -100,7 +100,7 @@ module _ (es : List Entry) (P : World → Type 0) (one : (c : Call) (w : World) 
   unfolding started_all
   all_keep [] h w at p = p
   all_keep (c ∷ cs) h w at p =
-      let r = begun (by_hook w) c w in
+      let r = program_begun (by_hook w) c w in
       stepped r (started_all cs) (one c w at h.0 p) (λ q. all_keep cs h.1 r.0 (ap (λ (l : Live). l.objects) (live_begun (by_hook w) c w) ∙ at) q)
 
 -- Nothing else is done.
@@ -141,10 +141,10 @@ module _ (v : World) where
       }
 
   -- a process joins
-  process_starts : (c : Call) (w : World) → w.moment ≡ v.moment → IsCall v.live.objects c → (s : Source) (u : World) → OnlyStarts v u → OnlyStarts v (on_queue (added (new_process (by_hook w) c s)) u)
-  unfolding added new_process
+  process_starts : (c : Call) (w : World) → w.moment ≡ v.moment → IsCall v.live.objects c → (s : Source) (u : World) → OnlyStarts v u → OnlyStarts v (on_queue (process_added (new_process (by_hook w) c s)) u)
+  unfolding process_added new_process
   process_starts c w now call s u h =
-      let p : Process = numbered (u.queue.last +ℤ pos 1) (new_process (by_hook w) c s) in
+      let p : Process = process_numbered (u.queue.last +ℤ pos 1) (new_process (by_hook w) c s) in
       record {
         live = h.live;
         new = h.new ++ p ∷ [];
@@ -159,7 +159,7 @@ module _ (v : World) where
         dead = h.dead;
       }
 
-  one_starts : (c : Call) (w : World) → w.live.objects ≡ v.live.objects → IsCall v.live.objects c → OnlyStarts v w → OnlyStarts v (begun (by_hook w) c w).0
+  one_starts : (c : Call) (w : World) → w.live.objects ≡ v.live.objects → IsCall v.live.objects c → OnlyStarts v w → OnlyStarts v (program_begun (by_hook w) c w).0
   one_starts c w at call h = begun_keeps (OnlyStarts v) (by_hook w) c (process_starts c w h.moment call) w (form_starts c.program w h)
 
 pub only_starts : (before after : World) (spoken : Option (Dbref × List ℕ)) → OnlyStarts after (hooked before after spoken)

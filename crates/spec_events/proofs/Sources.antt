@@ -16,7 +16,7 @@ use Rattle.spec_live.proofs.Savings.{object_resaved}
 use Rattle.spec_rights.proofs.Lookups.{at_negative}
 use Rattle.spec_rights.proofs.Telling.{Told}
 use Rattle.spec_mpi.specs.Touching.{without_props}
-use Rattle.spec_prims.specs.Asking.{numbered}
+use Rattle.spec_prims.specs.Asking.{object_numbered}
 use Rattle.muck_library.specs.Programs.{source_in}
 use Rattle.spec_events.specs.Following.{is_marked}
 
@@ -49,7 +49,7 @@ pub lined_told : (es fs : List Entry) → Told es fs → IsLined es fs
 unfolding source_in
 lined_told es fs t d = at d.0
   where
-    at : (z : ℤ) → (source_in fs (numbered z) ≡ source_in es (numbered z)) ⊎ ((n : ℕ) × (numbered z ≡ dbref_of n) × (is_marked n fs ≡ true))
+    at : (z : ℤ) → (source_in fs (object_numbered z) ≡ source_in es (object_numbered z)) ⊎ ((n : ℕ) × (object_numbered z ≡ dbref_of n) × (is_marked n fs ≡ true))
     at (pos n) = elim (t.source n) [ inl e ↦ inl e | inr m ↦ inr (n, refl, marked_in fs n m) ]
     at (negsuc k) = inl (ap (λ (o : Option Object). option_map_or (λ o. o.lines) o []) (at_negative fs k ∙ sym (at_negative es k)))
 

@@ -7,7 +7,7 @@ use Rattle.muck_model.specs.declared.event.Event.TheVariants.{Exec, Slice, Close
 use Rattle.spec_live.specs.declared.object.Object.{Object}
 use Rattle.spec_live.specs.declared.saving.Saving.{Saving}
 use Rattle.spec_live.specs.Objects.{Entry as Kept, object_in}
-use Rattle.spec_live.specs.Saving.{pending, done, due_again, all_saving}
+use Rattle.spec_live.specs.Saving.{pending, saving_done, due_again, all_saving}
 use Rattle.spec_live.specs.Stood.{standing, stood_in, stands_in, IsStill, SameStood}
 use Rattle.spec_live.specs.Lives.{Live}
 use Rattle.spec_live.proofs.Savings.{object_resaved}
@@ -35,7 +35,7 @@ still_event (Exec d) w party still = is_stilled (happened w party (Exec d)).live
 still_event (Slice pid) w party still = is_stilled (happened w party (Slice pid)).live.objects
 still_event (Closed d) w party still = is_stilled (happened w party (Closed d)).live.objects
 still_event (Cut k) w party still = still_resaved pending w.live.objects still
-still_event (Stored k) w party still = still_dump done (askers_of w.dumps) (dump_stored k) w.live still
+still_event (Stored k) w party still = still_dump saving_done (askers_of w.dumps) (dump_stored k) w.live still
 still_event (DumpFailed k) w party still = still_dump due_again (askers_of w.dumps) dump_failed w.live still
 still_event event w party still = still
 

@@ -13,9 +13,9 @@ use Rattle.muck_model.specs.declared.event.Event.TheVariants.{Closed, Exec, Slic
 use Rattle.muck_model.proofs.Dbrefs.{same_eq, eq_same}
 use Rattle.spec_live.specs.Objects.{dbref_of, same, index_of, nothing}
 use Rattle.spec_live.specs.Stood.{stood_in, stands_in, IsStill}
-use Rattle.spec_live.specs.Connections.{Connection, has_number, is_of, changed_in, without, left, seated}
-use Rattle.spec_live.specs.Boards.{player_in, closed, leaving_one, seated_one}
-use Rattle.spec_live.specs.Lives.{Live, Change, followed, reading, either, tell, leave, enter, on_board}
+use Rattle.spec_live.specs.Connections.{Connection, is_connection, is_connection_of, changed_in, without_connection, left, player_seated}
+use Rattle.spec_live.specs.Boards.{player_in, connection_closed, leaving_one, seated_one}
+use Rattle.spec_live.specs.Lives.{Live, Change, change_followed, reading, either, tell, leave, enter, on_board}
 use Rattle.spec_rights.specs.declared.act.Actor.{Actor}
 use Rattle.spec_rights.specs.Licence.{SameTies}
 use Rattle.spec_live.proofs.Lives.{Quiet, Loose, loose_quiet}
@@ -25,7 +25,7 @@ use Rattle.spec_commands.specs.Texts.{first_word, other_words, trimmed, is_alike
 use Rattle.spec_commands.specs.Replies.{goodbye}
 use Rattle.spec_commands.specs.Finding.{actor_of}
 use Rattle.spec_commands.specs.Talking.{is_connected, who_shown}
-use Rattle.spec_commands.specs.Talk.{welcome, refused_login, proved, let_in, logged_in, connecting, quit, at_login, waits, parted, gone_away}
+use Rattle.spec_commands.specs.Talk.{welcome, refused_login, proved, let_in, logged_in, connecting, quit, at_login, waits, player_parted, gone_away}
 use Rattle.spec_commands.specs.inner.Rising.{IsAbove, IsRising}
 use Rattle.spec_commands.proofs.Showing.{quiet_who_shown, loose_waits}
 use Rattle.spec_commands.proofs.Lines.{quiet_parted}
@@ -33,10 +33,10 @@ use Rattle.spec_hooks.specs.declared.turned.Turned.{Turned}
 use Rattle.spec_hooks.specs.declared.turned.Turned.TheVariants.{Nobody, Came, Went}
 use Rattle.spec_hooks.specs.Causes.{has_gone, has_come}
 use Rattle.spec_hooks.specs.Told.{is_number, is_alone, came_by, came_on, went_of, is_gone, is_come, IsBelow, Turns}
-use Rattle.muck_queue.specs.Queues.{reader, without as process_without, on_process, told_line}
+use Rattle.muck_queue.specs.Queues.{reader, without_process as process_without, on_process, told_line}
 use Rattle.spec_events.specs.World.{World, connection, on_live, on_queue}
-use Rattle.spec_events.specs.Lines.{program_aborted, is_abort, given_line, line_for, line_done, done}
-use Rattle.spec_events.specs.Slices.{Taken, after_unit, last_world, slice_most, awake, units_of, sliced}
+use Rattle.spec_events.specs.Lines.{program_aborted, is_abort, given_line, line_for, line_done, first_line_done}
+use Rattle.spec_events.specs.Slices.{Taken, after_unit, last_world, slice_most, process_awake, units_of, sliced}
 use Rattle.spec_events.specs.Steps.{happened}
 use Rattle.spec_events.specs.Licences.{LineLicensed, TurnLicensed, UnitLicensed, answering, Chained}
 use Rattle.spec_events.proofs.Endings.{IsTold}
@@ -66,16 +66,16 @@ abbrev seat_at : ℕ → Seats → Option Dbref
 seat_at d [] = None
 seat_at d (x ∷ xs) = cond (x.0 == d) x.1 (seat_at d xs)
 
-connected_is : (q : Dbref) (cs : List Connection) → list_any (is_of q) cs ≡ has_seat q (seats_of cs)
+connected_is : (q : Dbref) (cs : List Connection) → list_any (is_connection_of q) cs ≡ has_seat q (seats_of cs)
 connected_is q [] = refl
-connected_is q (c ∷ cs) = ap (λ b. is_of q c || b) (connected_is q cs)
+connected_is q (c ∷ cs) = ap (λ b. is_connection_of q c || b) (connected_is q cs)
 
-player_is : (d : ℕ) (cs : List Connection) → option_and_then (λ (c : Connection). c.player) (find (has_number d) cs) ≡ seat_at d (seats_of cs)
+player_is : (d : ℕ) (cs : List Connection) → option_and_then (λ (c : Connection). c.player) (find (is_connection d) cs) ≡ seat_at d (seats_of cs)
 player_is d [] = refl
 player_is d (c ∷ cs) = at (c.number == d) (player_is d cs)
   where
-    at : (b : Bool) → option_and_then (λ (x : Connection). x.player) (find (has_number d) cs) ≡ seat_at d (seats_of cs) →
-        option_and_then (λ (x : Connection). x.player) (cond b (Some c) (find (has_number d) cs)) ≡ cond b c.player (seat_at d (seats_of cs))
+    at : (b : Bool) → option_and_then (λ (x : Connection). x.player) (find (is_connection d) cs) ≡ seat_at d (seats_of cs) →
+        option_and_then (λ (x : Connection). x.player) (cond b (Some c) (find (is_connection d) cs)) ≡ cond b c.player (seat_at d (seats_of cs))
     at true h = refl
     at false h = h
 
@@ -98,7 +98,7 @@ seats_quiet f q w = seats_loose f (loose_quiet f q) w
 
 seats_changed : (d : ℕ) (f : Connection → Connection) → ((c : Connection) → (f c).number ≡ c.number) → ((c : Connection) → (f c).player ≡ c.player) → (cs : List Connection) → seats_of (changed_in d f cs) ≡ seats_of cs
 seats_changed d f number player [] = refl
-seats_changed d f number player (c ∷ cs) = at (has_number d c) (seats_changed d f number player cs)
+seats_changed d f number player (c ∷ cs) = at (is_connection d c) (seats_changed d f number player cs)
   where
     at : (b : Bool) → seats_of (changed_in d f cs) ≡ seats_of cs → seats_of (cond b (f c ∷ cs) (c ∷ changed_in d f cs)) ≡ seats_of (c ∷ cs)
     at true h = ap (λ n. (n, (f c).player) ∷ seats_of cs) (number c) ∙ ap (λ p. (c.number, p) ∷ seats_of cs) (player c)
@@ -114,19 +114,19 @@ abbrev stand : ℕ → Seats → Seats
 stand d [] = []
 stand d (x ∷ xs) = cond (x.0 == d) xs (x ∷ stand d xs)
 
-seats_seated : (d : ℕ) (p : Dbref) (cs : List Connection) → seats_of (changed_in d (seated p) cs) ≡ sit d p (seats_of cs)
+seats_seated : (d : ℕ) (p : Dbref) (cs : List Connection) → seats_of (changed_in d (player_seated p) cs) ≡ sit d p (seats_of cs)
 seats_seated d p [] = refl
 seats_seated d p (c ∷ cs) = at (c.number == d) (seats_seated d p cs)
   where
-    at : (b : Bool) → seats_of (changed_in d (seated p) cs) ≡ sit d p (seats_of cs) → seats_of (cond b (seated p c ∷ cs) (c ∷ changed_in d (seated p) cs)) ≡ cond b ((c.number, Some p) ∷ seats_of cs) ((c.number, c.player) ∷ sit d p (seats_of cs))
+    at : (b : Bool) → seats_of (changed_in d (player_seated p) cs) ≡ sit d p (seats_of cs) → seats_of (cond b (player_seated p c ∷ cs) (c ∷ changed_in d (player_seated p) cs)) ≡ cond b ((c.number, Some p) ∷ seats_of cs) ((c.number, c.player) ∷ sit d p (seats_of cs))
     at true h = refl
     at false h = ap (λ xs. (c.number, c.player) ∷ xs) h
 
-seats_without : (d : ℕ) (cs : List Connection) → seats_of (without d cs) ≡ stand d (seats_of cs)
+seats_without : (d : ℕ) (cs : List Connection) → seats_of (without_connection d cs) ≡ stand d (seats_of cs)
 seats_without d [] = refl
 seats_without d (c ∷ cs) = at (c.number == d) (seats_without d cs)
   where
-    at : (b : Bool) → seats_of (without d cs) ≡ stand d (seats_of cs) → seats_of (cond b cs (c ∷ without d cs)) ≡ cond b (seats_of cs) ((c.number, c.player) ∷ stand d (seats_of cs))
+    at : (b : Bool) → seats_of (without_connection d cs) ≡ stand d (seats_of cs) → seats_of (cond b cs (c ∷ without_connection d cs)) ≡ cond b (seats_of cs) ((c.number, c.player) ∷ stand d (seats_of cs))
     at true h = refl
     at false h = ap (λ xs. (c.number, c.player) ∷ xs) h
 
@@ -165,9 +165,9 @@ stands_any q d (x ∷ xs) = at (x.0 == d) (stands_any q d xs)
 abbrev seat_beside : ℕ → Dbref → Seats → Bool
 seat_beside d p xs = list_any (λ (x : ℕ × Option Dbref). option_map_or (same p) x.1 false && not (x.0 == d)) xs
 
-alone_is : (d : ℕ) (p : Dbref) (cs : List Connection) → list_any (λ (c : Connection). is_of p c && not (has_number d c)) cs ≡ seat_beside d p (seats_of cs)
+alone_is : (d : ℕ) (p : Dbref) (cs : List Connection) → list_any (λ (c : Connection). is_connection_of p c && not (is_connection d c)) cs ≡ seat_beside d p (seats_of cs)
 alone_is d p [] = refl
-alone_is d p (c ∷ cs) = ap (λ b. (is_of p c && not (has_number d c)) || b) (alone_is d p cs)
+alone_is d p (c ∷ cs) = ap (λ b. (is_connection_of p c && not (is_connection d c)) || b) (alone_is d p cs)
 
 abbrev Above : ℕ → Seats → Type 0
 Above n [] = Unit {0}
@@ -374,11 +374,11 @@ unfolding sliced
 turns_slice pid w party told still =
     let tune = w.live.board.tune in
     alike_turns w.live (happened w party (Slice pid)).live (stood_happened (Slice pid) w party still)
-    (chain_seats pid (awake pid w) (units_of pid w) (units_licensed tune pid (slice_most tune) (awake pid w) told) (units_chained tune pid (slice_most tune) (awake pid w)))
+    (chain_seats pid (process_awake pid w) (units_of pid w) (units_licensed tune pid (slice_most tune) (process_awake pid w) told) (units_chained tune pid (slice_most tune) (process_awake pid w)))
 
 seats_gone : (d : ℕ) (w : Live) → seats (gone_away d w) ≡ stand d (seats w)
-unfolding gone_away reading followed closed
-seats_gone d w = seats_quiet (parted (player_in d w.board)) (quiet_parted (player_in d w.board)) (on_board (closed d) w) ∙ seats_without d w.board.connections
+unfolding gone_away reading change_followed connection_closed
+seats_gone d w = seats_quiet (player_parted (player_in d w.board)) (quiet_parted (player_in d w.board)) (on_board (connection_closed d) w) ∙ seats_without d w.board.connections
 
 pub turns_closed : (d : ℕ) (w : World) (party : ℕ) → IsStill w.live.objects → Turns (went_of (player_in d w.live.board) (happened w party (Closed d)).live) w.live (happened w party (Closed d)).live
 turns_closed d w party still =
@@ -388,11 +388,11 @@ turns_closed d w party still =
 abbrev Sits : ℕ → Live → Live → Type 0
 Sits d w v = (seats v ≡ seats w) ⊎ ((p : Dbref) × IsFree d (seats w) × (seats v ≡ sit d p (seats w)))
 
-free_found : (d : ℕ) (c : Connection) (cs : List Connection) → find (has_number d) cs ≡ Some c → c.player ≡ None → IsFree d (seats_of cs)
+free_found : (d : ℕ) (c : Connection) (cs : List Connection) → find (is_connection d) cs ≡ Some c → c.player ≡ None → IsFree d (seats_of cs)
 free_found d c [] f n = absurd cc
 free_found d c (x ∷ cs) f n = at (x.number == d) refl f
   where
-    at : (b : Bool) → (x.number == d) ≡ b → cond b (Some x) (find (has_number d) cs) ≡ Some c → IsFree d (seats_of (x ∷ cs))
+    at : (b : Bool) → (x.number == d) ≡ b → cond b (Some x) (find (is_connection d) cs) ≡ Some c → IsFree d (seats_of (x ∷ cs))
     at true e k = let one : x ≡ c = cc in inl (e, ap (λ (y : Connection). y.player) one ∙ n)
     at false e k = inr (e, free_found d c cs k n)
 
@@ -409,11 +409,11 @@ sits_quiet : (d : ℕ) (f : Change) → Quiet f → (w : Live) → Sits d w (f w
 sits_quiet d f q w = inl (seats_quiet f q w)
 
 sits_quit : (d : ℕ) (w : Live) → Sits d w (quit d w)
-unfolding quit followed leave leaving_one
+unfolding quit change_followed leave leaving_one
 sits_quit d w = inl (seats_changed d left (λ c. refl) (λ c. refl) (tell d goodbye w).board.connections ∙ seats_quiet (tell d goodbye) (quiet_tell d goodbye) w)
 
 sits_let_in : (d : ℕ) (o : Option Dbref) (w : Live) → IsFree d (seats w) → Sits d w (let_in d o w)
-unfolding followed reading enter seated_one
+unfolding change_followed reading enter seated_one
 sits_let_in d None w free = sits_quiet d (tell d refused_login) (quiet_tell d refused_login) w
 sits_let_in d (Some player) w free =
     let a : Actor = actor_of w.objects player in
@@ -466,8 +466,8 @@ sits_lines : (d : ℕ) (player : Option Dbref) (editor : Option EditState) (line
 sits_lines d player editor [] w free l = inl refl
 sits_lines d player editor (line ∷ lines) w free l = sits_line d (reader d w.queue) player editor line lines w free l
 
-sits_done : (d : ℕ) (o : Option Connection) (w : World) → connection d w ≡ o → TurnLicensed d o w (done d o w) → Sits d w.live (done d o w).live
-unfolding done
+sits_done : (d : ℕ) (o : Option Connection) (w : World) → connection d w ≡ o → TurnLicensed d o w (first_line_done d o w) → Sits d w.live (first_line_done d o w).live
+unfolding first_line_done
 sits_done d None w is l = inl refl
 sits_done d (Some c) w is l = sits_lines d c.player c.editor c.waiting w (λ none. free_found d c w.live.board.connections is none) l
 

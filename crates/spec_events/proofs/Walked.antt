@@ -8,10 +8,10 @@ use Rattle.muck_model.specs.declared.event.Event.{Event}
 use Rattle.muck_model.specs.declared.event.Event.TheVariants.{Opened, Input, Closed, Exec, Slice, Take, Cut, Stored, DumpFailed}
 use Rattle.spec_live.specs.Saving.{Marked}
 use Rattle.spec_live.specs.Stood.{stilled, SameStood}
-use Rattle.spec_live.specs.Output.{taken}
+use Rattle.spec_live.specs.Output.{output_taken}
 use Rattle.spec_live.specs.Connections.{lined}
-use Rattle.spec_live.specs.Boards.{player_in, closed, line_added, bytes_taken}
-use Rattle.spec_live.specs.Lives.{Live, followed, reading, on_board}
+use Rattle.spec_live.specs.Boards.{player_in, connection_closed, line_added, bytes_taken}
+use Rattle.spec_live.specs.Lives.{Live, change_followed, reading, on_board}
 use Rattle.spec_live.proofs.Keeping.{stays, goes, one, join}
 use Rattle.spec_live.proofs.Steps.{Name, Begun, Stilled, May}
 use Rattle.spec_live.proofs.Walks.{walk_begun, walk_stilled}
@@ -45,8 +45,8 @@ every_lively b s w v p = wider lively (every b s) up w v p
     up _ h = refl
 
 gone_goes : (b s : Bool) (d : ℕ) (w : Live) → Goes (every b s) w (gone_away d w)
-unfolding gone_away reading followed
-gone_goes b s d w = let v : Live = on_board (closed d) w in goes (board _ w (closes d w.board refl)) (one (shows v _ refl ((quiet_parted (player_in d w.board)).law v)))
+unfolding gone_away reading change_followed
+gone_goes b s d w = let v : Live = on_board (connection_closed d) w in goes (board _ w (closes d w.board refl)) (one (shows v _ refl ((quiet_parted (player_in d w.board)).law v)))
 
 pub goes_happened : (b s : Bool) (event : Event) (w : World) (party : ℕ) → (is_cut event ≡ true → b ≡ true) → Goes (every b s) w.live (happened w party event).live
 unfolding line_added bytes_taken
@@ -55,7 +55,7 @@ goes_happened b s (Input d line) w party may = one (hears w.live _ refl ((loose_
 goes_happened b s (Closed d) w party may = gone_goes b s d w.live
 goes_happened b s (Exec d) w party may = every_lively b s w.live _ (done_going d w (connection d w) refl).goes
 goes_happened b s (Slice pid) w party may = every_lively b s w.live _ (sliced_going pid w).goes
-goes_happened b s (Take d n) w party may = one (shows w.live _ refl ((quiet_one d (λ c. record c { output = taken n c.output }) (λ c. refl)).law w.live))
+goes_happened b s (Take d n) w party may = one (shows w.live _ refl ((quiet_one d (λ c. record c { output = output_taken n c.output }) (λ c. refl)).law w.live))
 goes_happened b s (Cut k) w party may = goes_objects (every b s) w.live _ (walk_begun (every b s) w.live.objects (may refl))
 goes_happened b s (Stored k) w party may = every_lively b s w.live _ (stored-going k w).goes
 goes_happened b s (DumpFailed k) w party may = every_lively b s w.live _ (failed-going w).goes

@@ -11,7 +11,7 @@ use Rattle.spec_hooks.specs.Causes.{causes}
 use Rattle.spec_hooks.specs.Firing.{player_of, firing}
 use Rattle.spec_events.specs.declared.starting.Call.{Call}
 use Rattle.spec_events.specs.World.{World}
-use Rattle.spec_events.specs.Starting.{by_hook, begun}
+use Rattle.spec_events.specs.Starting.{by_hook, program_begun}
 
 unfoldable pub hook_command : List ℕ
 hook_command = codes "(hook)"
@@ -36,7 +36,7 @@ and_then (w, Err fault) more = if is_limit fault then w else more w
 -- these are started, one after the other
 unfoldable pub started_all : List Call → World → World
 started_all [] w = w
-started_all (c ∷ cs) w = and_then (begun (by_hook w) c w) (started_all cs)
+started_all (c ∷ cs) w = and_then (program_begun (by_hook w) c w) (started_all cs)
 
 -- The world after an event, with what is hooked to the differences from the world before, and to what was said.
 unfoldable pub hooked : World → World → Option (Dbref × List ℕ) → World

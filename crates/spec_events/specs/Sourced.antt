@@ -8,7 +8,7 @@ use Rattle.spec_live.specs.Objects.{Entry as Kept}
 use Rattle.muf_model.specs.Tree.{Tree}
 use Rattle.muf_model.specs.Source.{Program, Source}
 use Rattle.muf_model.specs.Chains.{programs_of}
-use Rattle.spec_prims.specs.Asking.{numbered}
+use Rattle.spec_prims.specs.Asking.{object_numbered}
 use Rattle.muck_library.specs.Library.{Library, form_at}
 use Rattle.muck_library.specs.Programs.{source_in, built_tree}
 use Rattle.muck_queue.specs.declared.process.Process.{Process}
@@ -26,7 +26,7 @@ BuiltOf Stood d lines tree = (es : List Kept) × Stood es × (source_in es d ≡
 
 -- a program on the call stack of a process is so of the source that it has
 abbrev pub OfSource : (Dbref → List (List ℕ) → Tree → Type 0) → List Kept → Program → Type 0
-OfSource B es p = B (numbered p.number) (source_in es (numbered p.number)) p.tree
+OfSource B es p = B (object_numbered p.number) (source_in es (object_numbered p.number)) p.tree
 
 abbrev pub Standing : (Program → Type 0) → Option Source → Type 0
 Standing P None = Unit {0}

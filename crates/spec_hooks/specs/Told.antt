@@ -5,7 +5,7 @@ use Rattle.std.specs.Option.{option_map_or}
 use Rattle.muck_model.specs.declared.dbref.Dbref.{Dbref}
 use Rattle.spec_live.specs.declared.moved.Move.{Move}
 use Rattle.spec_live.specs.Objects.{dbref_of, same, index_of}
-use Rattle.spec_live.specs.Connections.{has_number, is_of}
+use Rattle.spec_live.specs.Connections.{is_connection, is_connection_of}
 use Rattle.spec_live.specs.Boards.{player_in}
 use Rattle.spec_live.specs.Stood.{stood_in, stands_in}
 use Rattle.spec_live.specs.Lives.{Live}
@@ -37,7 +37,7 @@ is_number player w = option_map_or (λ n. nat_lt n (length w.objects)) (index_of
 
 -- no other connection than d is of this player
 abbrev pub is_alone : ℕ → Dbref → Live → Bool
-is_alone d player w = not (list_any (λ c. is_of player c && not (has_number d c)) w.board.connections)
+is_alone d player w = not (list_any (λ c. is_connection_of player c && not (is_connection d c)) w.board.connections)
 
 -- of whom the first connection came, where d has this player now and had that one before
 abbrev pub came_by : ℕ → Option Dbref → Option Dbref → Live → Turned

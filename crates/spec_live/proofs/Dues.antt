@@ -13,7 +13,7 @@ use Rattle.spec_live.specs.Objects.{Entry, is_exit, object_in, list_in, kind_in,
 use Rattle.spec_live.specs.Making.{blank_entry}
 use Rattle.spec_live.specs.Moving.{left_out, put_first, with_place, set_down}
 use Rattle.spec_live.specs.Recycling.{gone_entry, is_exit_of, exit_gone, without_exits, exits_gone, vanished}
-use Rattle.spec_live.specs.Saving.{Links, saving_in, links_in, next_in, front, is_number, same_links, relinked, all_saving}
+use Rattle.spec_live.specs.Saving.{Links, saving_in, links_in, next_in, first_of_list, is_number, same_links, relinked, all_saving}
 use Rattle.spec_live.proofs.Lists.{get_changed_same, get_changed_other}
 use Rattle.spec_live.proofs.Savings.{object_relinked, list_relinked, saving_relinked, object_resaved, list_resaved}
 use Rattle.spec_live.proofs.Readers.{entry_change, kind_alike, place_alike}
@@ -112,8 +112,8 @@ pub links_alike : (es fs : List Entry) (k : ℕ) → object_in fs k ≡ object_i
 unfolding links_in next_in
 links_alike es fs k o l = rw (place_alike es fs k o, kind_alike es fs k o, l false k, l true k) (by_place (place_in es k))
   where
-    by_place : (p : Option ℕ) → ◌≡◌ {A = Links} (record { content = front (list_in false es k); exit = front (list_in true es k); next = option_and_then (λ p. follower k (list_in (is_exit (kind_in es k)) fs p)) p })
-        (record { content = front (list_in false es k); exit = front (list_in true es k); next = option_and_then (λ p. follower k (list_in (is_exit (kind_in es k)) es p)) p })
+    by_place : (p : Option ℕ) → ◌≡◌ {A = Links} (record { content = first_of_list (list_in false es k); exit = first_of_list (list_in true es k); next = option_and_then (λ p. follower k (list_in (is_exit (kind_in es k)) fs p)) p })
+        (record { content = first_of_list (list_in false es k); exit = first_of_list (list_in true es k); next = option_and_then (λ p. follower k (list_in (is_exit (kind_in es k)) es p)) p })
     by_place None = refl
     by_place (Some p) = rw (l (is_exit (kind_in es k)) p) refl
 

@@ -6,7 +6,7 @@ use Rattle.std.specs.Option.{option_map, option_and_then}
 use Rattle.laws.proofs.Numbers.{same_place}
 use Rattle.laws.proofs.Options.{kept_then}
 use Rattle.laws.proofs.Places.{get_elsewhere, get_set_same, length_slice_set}
-use Rattle.spec_live.specs.Chain.{Member, IsApart, has, without, put_at}
+use Rattle.spec_live.specs.Chain.{Member, IsApart, has, without_number, put_at}
 use Rattle.spec_live.specs.Objects.{changed_at}
 use Rattle.spec_live.proofs.Chains.{without_member}
 
@@ -78,12 +78,12 @@ has_false d (x ∷ xs) h = rw (ne_eqb d x (λ e. h (inl e))) (has_false d xs (λ
 pub has_not : (d : ℕ) (xs : List ℕ) → has d xs ≡ false → Member d xs → ⊥
 has_not d xs h m = false≢true (sym h ∙ has_true d xs m)
 
-pub apart_without : (d : ℕ) (xs : List ℕ) → IsApart xs → IsApart (without d xs)
-unfolding IsApart without
+pub apart_without : (d : ℕ) (xs : List ℕ) → IsApart xs → IsApart (without_number d xs)
+unfolding IsApart without_number
 apart_without d [] h = h
 apart_without d (x ∷ xs) h = by_cases (eqb x d) (apart_without d xs h.1)
   where
-    by_cases : (b : Bool) → IsApart (without d xs) → IsApart (cond b (without d xs) (x ∷ without d xs))
+    by_cases : (b : Bool) → IsApart (without_number d xs) → IsApart (cond b (without_number d xs) (x ∷ without_number d xs))
     by_cases true rest = rest
     by_cases false rest = ((λ m. h.0 (without_member d x xs m)), rest)
 

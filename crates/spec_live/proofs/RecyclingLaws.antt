@@ -10,8 +10,8 @@ use Rattle.std.specs.Option.{option_map, option_map_or}
 use Rattle.muck_model.specs.declared.dbref.Dbref.{Dbref}
 use Rattle.muck_model.specs.declared.dbref.Kind.{Kind}
 use Rattle.spec_live.specs.declared.object.Object.{Object}
-use Rattle.spec_live.specs.Chain.{Member, IsApart, without}
-use Rattle.spec_live.specs.Objects.{Entry, dbref_of, same, index_of, is_exit, is_player, may_stand, garbage, object_in, list_of, list_in, mark_in, kind_in, place_in, fits_in, is_vehicle_in}
+use Rattle.spec_live.specs.Chain.{Member, IsApart, without_number}
+use Rattle.spec_live.specs.Objects.{Entry, dbref_of, same, index_of, is_exit, is_player, may_stand, garbage, object_in, entry_list, list_in, mark_in, kind_in, place_in, fits_in, is_vehicle_in}
 use Rattle.spec_live.specs.Moving.{left_out}
 use Rattle.spec_live.specs.Recycling.{untied, sent_home, gone_entry, is_exit_of, exit_gone, without_exits, exits_gone, vanished, taken_away, recycled, recycle_check}
 use Rattle.spec_live.specs.Saving.{relinked}
@@ -99,7 +99,7 @@ exits_left d k es o h e = by_cases (object_in es k) h (sym (exits_object d k es)
     by_cases None q r = absurd (false≢true q)
     by_cases (Some a) q r = let same : (cond (is_exit_of d a) garbage a) ≡ o = cc (r) in sym same ∙ ap (λ z. cond z garbage a) q
 
-gone_list : (v : Bool) (d : ℕ) (e : Entry) (b : Bool) → is_exit_of d e.object ≡ b → list_of v (exit_gone d e) ≡ cond b [] (list_of v e)
+gone_list : (v : Bool) (d : ℕ) (e : Entry) (b : Bool) → is_exit_of d e.object ≡ b → entry_list v (exit_gone d e) ≡ cond b [] (entry_list v e)
 unfolding gone_entry
 gone_list true d e true h = rw h refl
 gone_list false d e true h = rw h refl
@@ -110,7 +110,7 @@ exits_list_under : (v : Bool) (d k : ℕ) (es : List Entry) → list_in v (map (
 unfolding list_in is_exit_at object_in
 exits_list_under v d k es = rw (slice_get-map (exit_gone d) es k) (by_cases (slice_get es k))
   where
-    by_cases : (o : Option Entry) → option_map_or (list_of v) (option_map (exit_gone d) o) [] ≡ cond (option_map_or (is_exit_of d) (option_map (λ (e : Entry). e.object) o) false) [] (option_map_or (list_of v) o [])
+    by_cases : (o : Option Entry) → option_map_or (entry_list v) (option_map (exit_gone d) o) [] ≡ cond (option_map_or (is_exit_of d) (option_map (λ (e : Entry). e.object) o) false) [] (option_map_or (entry_list v) o [])
     by_cases None = refl
     by_cases (Some e) = gone_list v d e (is_exit_of d e.object) refl
 
@@ -118,7 +118,7 @@ pub exits_list_here : (d : ℕ) (es : List Entry) → list_in true (exits_gone d
 unfolding list_in exits_gone
 exits_list_here d es = rw (get_changed_same (map (exit_gone d) es) d without_exits) (by_cases (slice_get (map (exit_gone d) es) d))
   where
-    by_cases : (o : Option Entry) → option_map_or (list_of true) (option_map without_exits o) [] ≡ []
+    by_cases : (o : Option Entry) → option_map_or (entry_list true) (option_map without_exits o) [] ≡ []
     by_cases None = refl
     by_cases (Some e) = refl
 
@@ -241,12 +241,12 @@ vanished_list_here : (es : List Entry) (d : ℕ) (v : Bool) → list_in v (vanis
 unfolding vanished list_in gone_entry
 vanished_list_here es d v = rw (get_changed_same (map (left_out d) es) d gone_entry) (by_cases v (slice_get (map (left_out d) es) d))
   where
-    by_cases : (v : Bool) (a : Option Entry) → option_map_or (list_of v) (option_map gone_entry a) [] ≡ []
+    by_cases : (v : Bool) (a : Option Entry) → option_map_or (entry_list v) (option_map gone_entry a) [] ≡ []
     by_cases v None = refl
     by_cases true (Some e) = refl
     by_cases false (Some e) = refl
 
-vanished_list : (es : List Entry) (d : ℕ) (v : Bool) (k : ℕ) → (k ≡ d → ⊥) → list_in v (vanished d es) k ≡ without d (list_in v es k)
+vanished_list : (es : List Entry) (d : ℕ) (v : Bool) (k : ℕ) → (k ≡ d → ⊥) → list_in v (vanished d es) k ≡ without_number d (list_in v es k)
 unfolding vanished
 vanished_list es d v k ne = list_elsewhere v d k gone_entry (map (left_out d) es) ne ∙ list_left v d k es
 
@@ -266,8 +266,8 @@ fewer_vanished es d low empty c = record {
     | inl e ↦ let B : ℕ → Type 0 = λ q. Member x (list_in v (vanished d es) q) in absurd (nil_member (list_in v (vanished d es) d) x (vanished_list_here es d v) (subst B e m))
     | inr e ↦
         let L : List ℕ → Type 0 = λ l. Member x l in
-        let was : Member x (without d (list_in v es p)) = subst L (vanished_list es d v p e) m in
-        let M : ℕ → Type 0 = λ z. Member z (without d (list_in v es p)) in
+        let was : Member x (without_number d (list_in v es p)) = subst L (vanished_list es d v p e) m in
+        let M : ℕ → Type 0 = λ z. Member z (without_number d (list_in v es p)) in
         (without_member d x (list_in v es p) was, ne_eqb x d (λ q. without_gone d (list_in v es p) (subst M q was)))
   ];
   stays = λ v p x m g. elim (cases_eq p d) [

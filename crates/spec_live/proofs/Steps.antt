@@ -13,7 +13,7 @@ use Rattle.spec_live.specs.Moving.{with_place}
 use Rattle.spec_live.specs.Making.{blank_entry}
 use Rattle.spec_live.specs.Setting.{with_name, with_owner, with_link, with_home, with_flags, with_level, with_password, with_prop, without_prop, with_lines}
 use Rattle.spec_live.specs.Recycling.{untie, gone_entry}
-use Rattle.spec_live.specs.Marks.{unmarked}
+use Rattle.spec_live.specs.Marks.{entry_unmarked}
 use Rattle.spec_live.specs.Stood.{still}
 use Rattle.spec_live.proofs.Keeping.{Path}
 
@@ -73,7 +73,7 @@ pub data Touch (may : May) (listing : Bool) : Entry → Entry → Type 0 where
   vanishes : (e : Entry) → may Gone ≡ true → listing ≡ true → Touch may listing e (gone_entry e)
   lists : (cs xs : List ℕ) (e : Entry) → listing ≡ true → Touch may listing e (record e { contents = cs; exits = xs })
   dues : (e : Entry) → listing ≡ true → Touch may listing e (due e)
-  tells : (e : Entry) → may Told ≡ true → Touch may listing e (unmarked e)
+  tells : (e : Entry) → may Told ≡ true → Touch may listing e (entry_unmarked e)
   resaves : (f : Saving → Saving) (e : Entry) → may Stored ≡ true → ((s : Saving) → is_due (f s) ≡ false → is_due s ≡ false) → Touch may listing e (on_saving f e)
   begins : (e : Entry) → may Begun ≡ true → Touch may listing e (on_saving pending e)
   stills : (e : Entry) → may Stilled ≡ true → Touch may listing e (still e)

@@ -10,7 +10,7 @@ use Rattle.laws.proofs.Places.{read_more}
 use Rattle.spec_live.specs.declared.object.Object.{Object}
 use Rattle.spec_live.specs.declared.saving.Saving.{Saving}
 use Rattle.spec_live.specs.declared.saving.Saving.TheVariants.{Due}
-use Rattle.spec_live.specs.Objects.{Entry, object_in, list_of, list_in, mark_in, kind_in, changed_at, with_object}
+use Rattle.spec_live.specs.Objects.{Entry, object_in, entry_list, list_in, mark_in, kind_in, changed_at, with_object}
 use Rattle.spec_live.specs.Saving.{saving_in, is_due, on_saving, all_saving, Marked}
 use Rattle.spec_live.specs.Stood.{standing, stood_in, stands_in, still, stilled, IsStill, SameStood, Traced}
 use Rattle.spec_live.specs.Moving.{moved}
@@ -120,8 +120,8 @@ object_stilled es k = read_stilled (λ o. option_map (λ (e : Entry). e.object) 
 
 pub list_stilled : (v : Bool) (es : List Entry) (k : ℕ) → list_in v (stilled es) k ≡ list_in v es k
 unfolding list_in
-list_stilled true es k = read_stilled (λ o. option_map_or (list_of true) o []) es k (λ e. refl)
-list_stilled false es k = read_stilled (λ o. option_map_or (list_of false) o []) es k (λ e. refl)
+list_stilled true es k = read_stilled (λ o. option_map_or (entry_list true) o []) es k (λ e. refl)
+list_stilled false es k = read_stilled (λ o. option_map_or (entry_list false) o []) es k (λ e. refl)
 
 pub mark_stilled : (es : List Entry) (k : ℕ) → mark_in (stilled es) k ≡ mark_in es k
 unfolding mark_in

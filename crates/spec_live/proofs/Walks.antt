@@ -6,14 +6,14 @@ use Rattle.muck_model.specs.declared.dbref.Kind.{Kind}
 use Rattle.muck_model.specs.declared.dbref.Kind.TheVariants.{Garbage}
 use Rattle.spec_live.specs.declared.saving.Saving.{Saving}
 use Rattle.spec_live.specs.declared.saving.Saving.TheVariants.{Due}
-use Rattle.spec_live.specs.Chain.{without}
+use Rattle.spec_live.specs.Chain.{without_number}
 use Rattle.spec_live.specs.Objects.{Entry, is_exit, kind_in, object_in, list_in, changed_at, on_object, with_object}
-use Rattle.spec_live.specs.Saving.{is_due, on_saving, all_saving, done, due_again, pending}
+use Rattle.spec_live.specs.Saving.{is_due, on_saving, all_saving, saving_done, due_again, pending}
 use Rattle.spec_live.specs.Moving.{left_out, put_first, with_place, set_down, moved}
-use Rattle.spec_live.specs.Making.{blank_entry, grown, new_object, created}
+use Rattle.spec_live.specs.Making.{blank_entry, objects_grown, new_object, created}
 use Rattle.spec_live.specs.Setting.{set_at, with_lines, lines_set}
 use Rattle.spec_live.specs.Recycling.{untie, untied, way_home, sent_home, gone_entry, is_exit_of, exit_gone, without_exits, exits_gone, vanished, taken_away, recycled}
-use Rattle.spec_live.specs.Marks.{unmarked}
+use Rattle.spec_live.specs.Marks.{entry_unmarked}
 use Rattle.spec_live.specs.Stood.{still, stilled}
 use Rattle.spec_live.proofs.CreationLaws.{grown_kind}
 use Rattle.spec_live.proofs.Keeping.{stays, goes, one, join}
@@ -35,7 +35,7 @@ walk_lines may ls n es m = walk_at may n (with_lines ls) es (λ e h. one (lines 
 -- Moving.
 
 left_touches : (may : May) (d : ℕ) (e : Entry) → Touches may true e (left_out d e)
-left_touches may d e = one (lists (without d e.contents) (without d e.exits) e refl)
+left_touches may d e = one (lists (without_number d e.contents) (without_number d e.exits) e refl)
 
 put_touches : (may : May) (w : Bool) (d : ℕ) (e : Entry) → Touches may true e (put_first w d e)
 put_touches may true d e = goes (lists e.contents (d ∷ e.exits) e refl) (one (dues _ refl))
@@ -50,8 +50,8 @@ walk_moved may d to es p l = one (settles es _ l
 
 -- Making.
 
-grown_walk : (may : May) (n : ℕ) (es : List Entry) → may Made ≡ true → Walk may es (grown n es)
-unfolding grown
+grown_walk : (may : May) (n : ℕ) (es : List Entry) → may Made ≡ true → Walk may es (objects_grown n es)
+unfolding objects_grown
 grown_walk may n es m = by_cases (eqb n (length es))
   where
     by_cases : (b : Bool) → Walk may es (cond b (es ++ blank_entry ∷ []) es)
@@ -66,7 +66,7 @@ pub walk_created : (may : May) (n : ℕ) (kind : Kind) (name : List ℕ) (owner 
 unfolding created new_object
 walk_created may n kind name owner to es g m p l =
     join (grown_walk may n es m)
-    (join (walk_at may n (with_object (new_object n kind name owner)) (grown n es) (λ e h. one (makes _ e m (sym (kind_there (grown n es) n e h) ∙ grown_kind n n es ∙ g) refl)))
+    (join (walk_at may n (with_object (new_object n kind name owner)) (objects_grown n es) (λ e h. one (makes _ e m (sym (kind_there (objects_grown n es) n e h) ∙ grown_kind n n es ∙ g) refl)))
     (walk_moved may n to _ p l))
 
 -- Recycling.
@@ -97,10 +97,10 @@ walk_recycled may d es g p l = join (walk_each may (untie d) es (λ e. one (unti
 
 -- What is to be told, and how objects stand to the dumps.
 
-pub walk_told : (may : May) (es : List Entry) → may Told ≡ true → Walk may es (map unmarked es)
-walk_told may es t = walk_each may unmarked es (λ e. one (tells e t))
+pub walk_told : (may : May) (es : List Entry) → may Told ≡ true → Walk may es (map entry_unmarked es)
+walk_told may es t = walk_each may entry_unmarked es (λ e. one (tells e t))
 
-done_early : (s : Saving) → is_due (done s) ≡ false → is_due s ≡ false
+done_early : (s : Saving) → is_due (saving_done s) ≡ false → is_due s ≡ false
 done_early Due h = h
 done_early s h = refl
 
@@ -108,9 +108,9 @@ again_early : (s : Saving) → is_due (due_again s) ≡ false → is_due s ≡ f
 again_early Due h = h
 again_early s h = refl
 
-pub walk_stored : (may : May) (es : List Entry) → may Stored ≡ true → Walk may es (all_saving done es)
+pub walk_stored : (may : May) (es : List Entry) → may Stored ≡ true → Walk may es (all_saving saving_done es)
 unfolding all_saving
-walk_stored may es s = walk_each may (on_saving done) es (λ e. one (resaves done e s done_early))
+walk_stored may es s = walk_each may (on_saving saving_done) es (λ e. one (resaves saving_done e s done_early))
 
 pub walk_failed : (may : May) (es : List Entry) → may Stored ≡ true → Walk may es (all_saving due_again es)
 unfolding all_saving

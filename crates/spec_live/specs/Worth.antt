@@ -27,12 +27,12 @@ abbrev pub value_is : List ℕ → PropValue → Bool
 value_is text value = bytes_eq (value_text value) text
 
 -- the value at the path that a text writes
-unfoldable pub value_at : List ℕ → PropMap → Option PropValue
-value_at text props = option_map_or (λ fault. None) (path_fault text) (get props (segments_of text))
+unfoldable pub value_at_path : List ℕ → PropMap → Option PropValue
+value_at_path text props = option_map_or (λ fault. None) (path_fault text) (get props (segments_of text))
 
 -- the property of that path of an object has that text, or that number in decimal
 unfoldable pub has_value : List Entry → Dbref → List ℕ → List ℕ → Bool
-has_value es d path text = option_map_or (λ o. option_map_or (value_is text) (value_at path o.props) false) (object_at d es) false
+has_value es d path text = option_map_or (λ o. option_map_or (value_is text) (value_at_path path o.props) false) (object_at d es) false
 
 unfoldable pub holdings_of : List Entry → Holdings
 holdings_of es = record {

@@ -24,8 +24,8 @@ use Rattle.spec_rights.specs.declared.rule.Rule.TheVariants.{P1, P3, P4, P6, P7,
 use Rattle.spec_rights.specs.Levels.{level_at, is_player_at, flag_at}
 use Rattle.spec_live.specs.Worth.{opens_at}
 use Rattle.spec_rights.specs.inner.Numbers.{denial}
-use Rattle.spec_rights.specs.Verdict.{verdict, place_of, below, or_else, when, is_master, controls, controls_or, open_place, open_target, is_program_at, may_take_over, may_build, is_hidden, is_kept, is_guarded, is_plain}
-use Rattle.spec_rights.specs.Licence.{Freedom, Judge, name_open, property_open, place_open, link_open, home_open, level_open, level_open_to, lines_open, owner_open, home_of, kind_of}
+use Rattle.spec_rights.specs.Verdict.{verdict, place_or_nothing, is_below_level, or_else, when, is_master, controls, controls_or, open_place, open_target, is_program_at, may_take_over, may_build, is_hidden, is_kept_class, is_guarded, is_plain}
+use Rattle.spec_rights.specs.Licence.{Freedom, Judge, name_open, property_open, place_open, link_open, home_open, level_open, level_open_to, lines_open, owner_open, home_of, judged_kind}
 use Rattle.spec_rights.proofs.Rights.{SameRights, same_level, same_home, same_flag, same_player, same_program, same_controls, same_controls_or, same_take_over}
 use Rattle.spec_rights.proofs.Licences.{judge}
 
@@ -57,9 +57,9 @@ pub write_allowed : (a : Actor) (free : Freedom) (start es : List Entry) (x : Db
 write_allowed a free start es x path s e =
     let k = class_of path in
     let p3 = passes (is_hidden k && nat_lt a.level 4) P3 x _ e in
-    let p4 = passes (is_kept k && nat_lt a.level 4) P4 x _ p3.next in
-    let p6 = passes (is_guarded k && below 3 es a x) P6 x _ p4.next in
-    let p7 = passes (is_plain k && below 2 es a x) P7 x _ p6.next in
+    let p4 = passes (is_kept_class k && nat_lt a.level 4) P4 x _ p3.next in
+    let p6 = passes (is_guarded k && is_below_level 3 es a x) P6 x _ p4.next in
+    let p7 = passes (is_plain k && is_below_level 2 es a x) P7 x _ p6.next in
     rw (same_controls a x start es s, le_not 4 a.level, le_not 3 a.level, le_not 2 a.level)
     (table k (controls es a x) (nat_lt a.level 4) (nat_lt a.level 3) (nat_lt a.level 2) p3.here p4.here p6.here p7.here)
   where
@@ -68,8 +68,8 @@ write_allowed a free start es x path s e =
     not_both true false e = cc
     not_both false c e = refl
 
-    table : (k : Class) (c b4 b3 b2 : Bool) → (is_hidden k && b4) ≡ false → (is_kept k && b4) ≡ false → (is_guarded k && (b3 && not c)) ≡ false → (is_plain k && (b2 && not c)) ≡ false →
-        cond (is_hidden k || is_kept k) (not b4) (cond (is_guarded k) (not b3 || c) (not b2 || c)) ≡ true
+    table : (k : Class) (c b4 b3 b2 : Bool) → (is_hidden k && b4) ≡ false → (is_kept_class k && b4) ≡ false → (is_guarded k && (b3 && not c)) ≡ false → (is_plain k && (b2 && not c)) ≡ false →
+        cond (is_hidden k || is_kept_class k) (not b4) (cond (is_guarded k) (not b3 || c) (not b2 || c)) ≡ true
     table At c b4 b3 b2 e f g h = ap not e
     table Tilde c b4 b3 b2 e f g h = ap not f
     table Dot c b4 b3 b2 e f g h = not_both b3 c g
@@ -82,7 +82,7 @@ change_allowed a free start es x path g s e =
     let p = passes (not (controls es a x)) P16 x _ e in
     rw (same_controls a x start es s, not-false (controls es a x) p.here) (table (class_of path) (nat_le 4 a.level) (nat_le 3 a.level) (nat_le 2 a.level) g)
   where
-    table : (k : Class) (b4 b3 b2 : Bool) → is_guarded k ≡ true → cond (is_hidden k || is_kept k) b4 (cond (is_guarded k) (b3 || true) (b2 || true)) ≡ true
+    table : (k : Class) (b4 b3 b2 : Bool) → is_guarded k ≡ true → cond (is_hidden k || is_kept_class k) b4 (cond (is_guarded k) (b3 || true) (b2 || true)) ≡ true
     table At b4 b3 b2 e = cc
     table Tilde b4 b3 b2 e = cc
     table Dot b4 b3 b2 e = or_right b3 true refl
@@ -93,7 +93,7 @@ change_allowed a free start es x path g s e =
 
 pub move_allowed : (a : Actor) (free : Freedom) (start es : List Entry) (x to : Dbref) → same to home ≡ false → SameRights start es → verdict es a (Move x to) ≡ None → place_open (judge a free start) x to ≡ true
 move_allowed a free start es x to there s e =
-    let p = passes (below 3 es a x) P8 x _ e in
+    let p = passes (is_below_level 3 es a x) P8 x _ e in
     let q = passes (not (same to home || open_place es a to)) P9 to _ p.next in
     let m : (nat_le 3 a.level || controls es a x) ≡ true = rw (le_not 3 a.level) (mover (nat_lt a.level 3) (controls es a x) p.here) in
     let t : open_place es a to ≡ true = rw there at (not-false (same to home || open_place es a to) q.here) in
@@ -101,7 +101,7 @@ move_allowed a free start es x to there s e =
 
 pub home_allowed : (a : Actor) (free : Freedom) (start es : List Entry) (x to : Dbref) → to ≡ option_map_or (λ (o : Object). o.home) (object_at x es) nothing → SameRights start es → verdict es a (Move x home) ≡ None → place_open (judge a free start) x to ≡ true
 home_allowed a free start es x to there s e =
-    let p = passes (below 3 es a x) P8 x _ e in
+    let p = passes (is_below_level 3 es a x) P8 x _ e in
     let m : (nat_le 3 a.level || controls es a x) ≡ true = rw (le_not 3 a.level) (mover (nat_lt a.level 3) (controls es a x) p.here) in
     let h : same to (home_of (judge a free start) x) ≡ true = same_eq to _ (there ∙ sym (same_home x start es s)) in
     or_right (free.moves x) _ (rw (same_controls a x start es s) (and_from (nat_le 3 a.level || controls es a x) _ m (or_left _ _ h)))
@@ -160,7 +160,7 @@ level_allowed a free start es x level s e =
     let p16 = passes (not (controls es a x)) P16 x _ e in
     let p18 = passes (is_player_at es x && nat_lt a.level 4) P18 x _ p16.next in
     let p19 = passes (not (is_player_at es x || (is_program_at es x && nat_le level (level_at es a.user)))) P19 x _ p18.next in
-    let k = kind_of (judge a free start) x in
+    let k = judged_kind (judge a free start) x in
     let player : is_player_at es x ≡ is_player k = sym (same_player x start es s) ∙ kind_tells start x in
     let program : is_program_at es x ≡ is_program k = sym (same_program x start es s) ∙ program_kind (object_at x start) in
     let most : level_at es a.user ≡ level_at start a.user = sym (same_level a.user start es s) in
@@ -242,8 +242,8 @@ pub recycle_allowed : (es : List Entry) (a : Actor) (x : Dbref) → verdict es a
 recycle_allowed es a x e = let p = passes (not (controls es a x)) P20 x _ e in not-false _ p.here
 
 -- what is taken is where the player is
-pub take_allowed : (es : List Entry) (a : Actor) (x : Dbref) → verdict es a (Take x) ≡ None → same (place_of es x) (place_of es a.player) ≡ true
+pub take_allowed : (es : List Entry) (a : Actor) (x : Dbref) → verdict es a (Take x) ≡ None → same (place_or_nothing es x) (place_or_nothing es a.player) ≡ true
 take_allowed es a x e =
     let p = passes (not (opens_at es a.player x)) P10 x _ e in
-    let q = passes (not (same (place_of es x) (place_of es a.player))) P11 x _ p.next in
+    let q = passes (not (same (place_or_nothing es x) (place_or_nothing es a.player))) P11 x _ p.next in
     not-false _ q.here

@@ -14,7 +14,7 @@ use Rattle.spec_live.specs.declared.object.Object.{Object}
 use Rattle.spec_live.specs.Flags.{builder, jump, link}
 use Rattle.spec_live.specs.Objects.{Entry, dbref_of, nothing, home, same, is_garbage, object_in, list_in, kind_in, number_in, object_at, changed_at, on_object, with_object, garbage}
 use Rattle.spec_live.specs.Moving.{moved, with_place}
-use Rattle.spec_live.specs.Making.{free_in, blank_entry, grown, new_object, created, may_make, make_judged, objects_most, owner_judged, create_check}
+use Rattle.spec_live.specs.Making.{free_in, blank_entry, objects_grown, new_object, created, may_make, make_judged, objects_most, owner_judged, create_check}
 use Rattle.spec_live.specs.declared.fault.DbFault.TheVariants.{NoSuchObject, WrongKind, WorldFull}
 use Rattle.spec_live.specs.Setting.{set_at, with_home, with_link, with_level}
 use Rattle.spec_live.specs.Lives.{Live}
@@ -50,16 +50,16 @@ free_dead (e ∷ es) = at (is_garbage e.object.kind) refl (free_dead es)
     at false h more = more
 
 -- One more of garbage is nothing.
-grown_same : (k n : ℕ) (es : List Entry) → option_and_then alive (object_in (grown k es) n) ≡ option_and_then alive (object_in es n)
-unfolding object_in grown blank_entry garbage
+grown_same : (k n : ℕ) (es : List Entry) → option_and_then alive (object_in (objects_grown k es) n) ≡ option_and_then alive (object_in es n)
+unfolding object_in objects_grown blank_entry garbage
 grown_same k n es = at (k == length es)
   where
     at : (b : Bool) → option_and_then alive (option_map (λ (x : Entry). x.object) (slice_get (cond b (es ++ blank_entry ∷ []) es) n)) ≡ option_and_then alive (option_map (λ (x : Entry). x.object) (slice_get es n))
     at true = read_more (λ (q : Option Entry). option_and_then alive (option_map (λ (x : Entry). x.object) q)) es blank_entry n refl
     at false = refl
 
-list_grown : (v : Bool) (k i : ℕ) (es : List Entry) → list_in v (grown k es) i ≡ list_in v es i
-unfolding grown
+list_grown : (v : Bool) (k i : ℕ) (es : List Entry) → list_in v (objects_grown k es) i ≡ list_in v es i
+unfolding objects_grown
 list_grown v k i es = at (k == length es)
   where
     at : (b : Bool) → list_in v (cond b (es ++ blank_entry ∷ []) es) i ≡ list_in v es i
@@ -81,11 +81,11 @@ abbrev pub new_in : Kind → List ℕ → Dbref → (Object → Object) → ℕ 
 new_in kind name owner finished k to = finished (with_place to (new_object k kind name owner))
 
 made_here : (kind : Kind) (name : List ℕ) (owner : Dbref) (finished : Object → Object) (to : ℕ) (es : List Entry) →
-    object_in (made_in kind name owner finished to es) (free_in es) ≡ option_map (λ (x : Object). new_in kind name owner finished (free_in es) to) (object_in (grown (free_in es) es) (free_in es))
+    object_in (made_in kind name owner finished to es) (free_in es) ≡ option_map (λ (x : Object). new_in kind name owner finished (free_in es) to) (object_in (objects_grown (free_in es) es) (free_in es))
 unfolding created
 made_here kind name owner finished to es =
     let k : ℕ = free_in es in
-    let g : List Entry = grown k es in
+    let g : List Entry = objects_grown k es in
     let one : List Entry = changed_at k (with_object (new_object k kind name owner)) g in
     object_changed k finished (moved k to one)
     ∙ ap (λ (q : Option Object). option_map finished q) (object_moved one k to ∙ ap (λ (q : Option Object). option_map (with_place to) q) (object_put k (new_object k kind name owner) g))
@@ -95,11 +95,11 @@ made_here kind name owner finished to es =
     by_cases None = refl
     by_cases (Some o) = refl
 
-made_there : (kind : Kind) (name : List ℕ) (owner : Dbref) (finished : Object → Object) (to : ℕ) (es : List Entry) (n : ℕ) → (n ≡ free_in es → ⊥) → object_in (made_in kind name owner finished to es) n ≡ object_in (grown (free_in es) es) n
+made_there : (kind : Kind) (name : List ℕ) (owner : Dbref) (finished : Object → Object) (to : ℕ) (es : List Entry) (n : ℕ) → (n ≡ free_in es → ⊥) → object_in (made_in kind name owner finished to es) n ≡ object_in (objects_grown (free_in es) es) n
 unfolding created
 made_there kind name owner finished to es n ne =
     let k : ℕ = free_in es in
-    let g : List Entry = grown k es in
+    let g : List Entry = objects_grown k es in
     let one : List Entry = changed_at k (with_object (new_object k kind name owner)) g in
     object_unchanged k n finished (moved k to one) ne ∙ object_unmoved one k to n ne ∙ object_elsewhere k n (with_object (new_object k kind name owner)) g ne
 
@@ -123,7 +123,7 @@ differs_made j kind name owner finished to es h n =
       | inl e ↦
           let P : ℕ → Type 0 = λ m. Differs j (dbref_of m) (option_and_then alive (object_in es m)) (option_and_then alive (object_in fs m)) in
           let Q : Option Object → Option Object → Type 0 = λ p q. Differs j (dbref_of k) p (option_and_then alive q) in
-          let new : Q None (option_map (λ (x : Object). new_in kind name owner finished k to) (object_in (grown k es) k)) = differs_new j (dbref_of k) (new_in kind name owner finished k to) (object_in (grown k es) k) h in
+          let new : Q None (option_map (λ (x : Object). new_in kind name owner finished k to) (object_in (objects_grown k es) k)) = differs_new j (dbref_of k) (new_in kind name owner finished k to) (object_in (objects_grown k es) k) h in
           let Here : Option Object → Type 0 = λ q. Q None q in
           let Dead : Option Object → Type 0 = λ p. Q p (object_in fs k) in
           subst P (sym e) (subst Dead (sym (free_dead es)) (subst Here (sym (made_here kind name owner finished to es)) new))
@@ -135,7 +135,7 @@ lists_made : (j : Judge) (kind : Kind) (name : List ℕ) (owner : Dbref) (finish
 unfolding created
 lists_made j kind name owner finished to es v i =
     let k : ℕ = free_in es in
-    let g : List Entry = grown k es in
+    let g : List Entry = objects_grown k es in
     let one : List Entry = changed_at k (with_object (new_object k kind name owner)) g in
     let may : ℕ → Bool = front_open j es i in
     let nobody : option_map_or (λ (o : Object). false) (object_at (dbref_of k) es) true ≡ true = ap (λ (q : Option Object). option_map_or (λ (o : Object). false) q true) (seen_at es k ∙ free_dead es) in

@@ -14,7 +14,7 @@ use Rattle.spec_live.specs.declared.object.Object.{Object}
 use Rattle.std.specs.FinMap.{get}
 use Rattle.spec_live.specs.Flags.{has_flag, wizard}
 use Rattle.spec_live.specs.Chain.{Member}
-use Rattle.spec_live.specs.Objects.{Entry, dbref_of, nothing, same, index_of, is_exit, is_player, is_garbage, object_in, list_of, list_in, mark_in, kind_in, owner_in, home_in, number_in, object_at, changed_at, garbage}
+use Rattle.spec_live.specs.Objects.{Entry, dbref_of, nothing, same, index_of, is_exit, is_player, is_garbage, object_in, entry_list, list_in, mark_in, kind_in, owner_in, home_in, number_in, object_at, changed_at, garbage}
 use Rattle.spec_live.specs.Moving.{left_out, moved, with_place}
 use Rattle.spec_live.specs.Recycling.{untied, exits_gone, vanished, without_exits, without_ties, untie, wished_home, may_go, way_home, sent_home, gone_entry, is_exit_of, exit_gone, taken_away, recycled, recycle_check}
 use Rattle.spec_live.specs.declared.fault.DbFault.{DbFault}
@@ -342,13 +342,13 @@ lists_home a free d es (y ∷ ys) h fs r xs v k t =
     let may : k ≡ to → front_open j es k y ≡ true = λ e. or_left _ _ (ap (λ (m : ℕ). place_open j (dbref_of y) (dbref_of m)) e ∙ open_there) in
     lists_home a free d es ys (λ z m. h z (inr m)) (moved y to fs) (step_home a free d y es fs gone r) xs v k (reordered_moved (front_open j es k) xs v y to k fs may t)
 
-exit_kept : (may : ℕ → Bool) (xs : List ℕ) (v b : Bool) (e : Entry) → Reordered may xs (list_of v e) → Reordered may xs (list_of v (cond b (gone_entry e) e))
+exit_kept : (may : ℕ → Bool) (xs : List ℕ) (v b : Bool) (e : Entry) → Reordered may xs (entry_list v e) → Reordered may xs (entry_list v (cond b (gone_entry e) e))
 unfolding gone_entry
 exit_kept may xs v false e r = r
 exit_kept may xs true true e r = empties r
 exit_kept may xs false true e r = empties r
 
-without_kept : (may : ℕ → Bool) (xs : List ℕ) (v : Bool) (e : Entry) → Reordered may xs (list_of v e) → Reordered may xs (list_of v (without_exits e))
+without_kept : (may : ℕ → Bool) (xs : List ℕ) (v : Bool) (e : Entry) → Reordered may xs (entry_list v e) → Reordered may xs (entry_list v (without_exits e))
 without_kept may xs true e r = empties r
 without_kept may xs false e r = r
 

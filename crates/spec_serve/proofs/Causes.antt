@@ -6,7 +6,7 @@ use Rattle.laws.proofs.Lists.{none_long}
 use Rattle.muck_links.specs.Sessions.{Session}
 use Rattle.muck_links.proofs.Cuts.{cut_is_lines}
 use Rattle.muck_model.specs.declared.event.Event.TheVariants.{Input}
-use Rattle.muck_queue.specs.Queues.{is_tied}
+use Rattle.muck_queue.specs.Queues.{has_process_tied}
 use Rattle.spec_live.specs.Connections.{is_ready}
 use Rattle.spec_events.specs.World.{World, queue_of, is_leaving}
 use Rattle.spec_events.specs.Steps.{passes, is_lawful}
@@ -60,11 +60,11 @@ cause_left counted p w is queue none_kept t s k =
     (ap (λ (n : ℕ). queue_of n w) k.talk_number ∙ none_long (queue_of p.number w) queue)
     (all_written counted p t s none_kept k)
 
-pub cause_tied : (counted : LinksNote) (p : Peer) (w : World) → p.ended ≡ true → is_tied p.number w.queue ≡ true → ((t : Talk) (s : Session) → Keeps counted p t s → HeardAll w t s)
+pub cause_tied : (counted : LinksNote) (p : Peer) (w : World) → p.ended ≡ true → has_process_tied p.number w.queue ≡ true → ((t : Talk) (s : Session) → Keeps counted p t s → HeardAll w t s)
     → (t : Talk) (s : Session) → Keeps counted p t s → Cause counted w t s
 cause_tied counted p w is tied heard t s k =
     let h = marked p.ended p.refused s.ended s.refused is k.ended in
-    Cause.tied h.0 h.1 (heard t s k) (subst (λ (n : ℕ). is_tied n w.queue ≡ true) (sym k.talk_number) tied)
+    Cause.tied h.0 h.1 (heard t s k) (subst (λ (n : ℕ). has_process_tied n w.queue ≡ true) (sym k.talk_number) tied)
 
 pub cause_ended : (counted : LinksNote) (p : Peer) (w : World) → p.ended ≡ true → ((t : Talk) (s : Session) → Keeps counted p t s → HeardAll w t s)
     → ((t : Talk) (s : Session) → Keeps counted p t s → WorkedOff counted w t s) → (t : Talk) (s : Session) → Keeps counted p t s → Cause counted w t s

@@ -3,7 +3,7 @@ use Rattle.std.proofs.Common.{◌≡◌, ℕ, Bool, true, false, List, [], ◌�
 use Rattle.std.specs.Prelude.{◌==◌}
 use Rattle.std.proofs.lemmas.Bool.{and_parts}
 use Rattle.laws.proofs.Truths.{allowed_one, opposed}
-use Rattle.turn_lock.specs.Histories.{kept, own_of, StartsWith}
+use Rattle.turn_lock.specs.Histories.{entry_kept, own_of, StartsWith}
 use Rattle.muck_model.specs.declared.event.Entry.{Entry}
 use Rattle.muck_model.specs.declared.event.Event.{Event}
 use Rattle.muck_model.specs.declared.event.Event.TheVariants.{Moment, Exec, Slice}
@@ -51,7 +51,7 @@ second_own w [] second l = refl
 second_own w (e ∷ es) second l = from (e.party == 0) refl (λ (n : ℕ). second_own (effect w e) es n l.1)
   where
     from : (t : Bool) → (e.party == 0) ≡ t → ((n : ℕ) → second_on n es ≡ second_on n (own_of party_of 0 es))
-        → second_on (second_behind second e.event) es ≡ second_on second (kept t e (own_of party_of 0 es))
+        → second_on (second_behind second e.event) es ≡ second_on second (entry_kept t e (own_of party_of 0 es))
     from true is ih = ih (second_behind second e.event)
     from false is ih = ap (λ (n : ℕ). second_on n es) (second_other w e.party e.event second l.0 is) ∙ ih second
 

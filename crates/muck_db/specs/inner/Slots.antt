@@ -10,13 +10,13 @@ use Rattle.spec_live.specs.declared.mark.Mark.{Mark}
 use Rattle.spec_live.specs.declared.mark.Mark.TheVariants.{Gone}
 use Rattle.spec_live.specs.declared.saving.Saving.{Saving}
 use Rattle.spec_live.specs.declared.saving.Saving.TheVariants.{Due}
-use Rattle.spec_live.specs.Chain.{walk, IsChain, Ends, Member, without, put_at}
+use Rattle.spec_live.specs.Chain.{walk, IsChain, Ends, Member, without_number, put_at}
 use Rattle.spec_live.specs.Flags.{no_flags}
 use Rattle.spec_live.specs.Objects.{Entry, changed_at, dbref_of, index_of, is_exit, is_player, is_garbage, garbage}
 use Rattle.muck_match.specs.inner.Listed.{IsAmong}
 use Rattle.spec_live.specs.Consistent.{IsOrdered, IsConsistent}
 use Rattle.spec_live.specs.Setting.{lines_marked}
-use Rattle.spec_live.specs.Recycling.{without_ties, is_tied, is_exit_of}
+use Rattle.spec_live.specs.Recycling.{without_ties, is_tied_to_number, is_exit_of}
 use Rattle.spec_live.specs.Saving.{Links, links_in}
 use Rattle.spec_live.specs.Start.{room_zero, player_one}
 use Rattle.muck_db.specs.declared.slot.Slot.{Slot}
@@ -115,7 +115,7 @@ on_slot f s = record s { object = option_map f s.object; saving = Due }
 
 -- it is tied to d no more, and due where it was
 unfoldable pub untied_slot : ℕ → Slot → Slot
-untied_slot d s = record s { object = option_map (without_ties d) s.object; saving = if is_tied d (shown s) then Due else s.saving }
+untied_slot d s = record s { object = option_map (without_ties d) s.object; saving = if is_tied_to_number d (shown s) then Due else s.saving }
 
 abbrev pub with_saving : (Saving → Saving) → Slot → Slot
 with_saving f s = record s { saving = f s.saving }
@@ -205,7 +205,7 @@ pub record IsUnlinked (d : ℕ) (old new : List Slot) : Type 0 where
   pub same_stood : (k : ℕ) → stood_at new k ≡ stood_at old k
   pub due : (k : ℕ) → LeadsTo d (links_in (entries_of old) k) → saving_at new k ≡ Due
   pub same_savings : (k : ℕ) → (LeadsTo d (links_in (entries_of old) k) → ⊥) → saving_at new k ≡ saving_at old k
-  pub chains : (exits : Bool) (p : ℕ) → IsChain (length new) (next_at new) (first_at exits new p) (without d (list_at exits old p))
+  pub chains : (exits : Bool) (p : ℕ) → IsChain (length new) (next_at new) (first_at exits new p) (without_number d (list_at exits old p))
 
 -- d is in front of that list of `to`, both are due, and nothing else changed
 pub record IsLinked (exits : Bool) (to d : ℕ) (old new : List Slot) : Type 0 where

@@ -5,7 +5,7 @@ ghost use Rattle.spec_live.specs.Boards.{player_in};
 ghost use Rattle.spec_events.specs.World.{on_live};
 ghost use Rattle.spec_events.specs.Steps.{happened, hooked_by};
 ghost use Rattle.spec_live.specs.Stood.{IsStill};
-ghost use Rattle.spec_commands.specs.Talk.{parted};
+ghost use Rattle.spec_commands.specs.Talk.{player_parted};
 
 use crate::commands::actor_of;
 use crate::state::State;
@@ -26,7 +26,7 @@ impl State {
     }
 
     // That alone.
-    #[tactic(auto, unfolding(spec_commands::specs::Talk::gone_away, spec_live::specs::Lives::followed, spec_live::specs::Lives::reading))]
+    #[tactic(auto, unfolding(spec_commands::specs::Talk::gone_away, spec_live::specs::Lives::change_followed, spec_live::specs::Lives::reading))]
     fn go(&mut self, d: u32, player: Option<Dbref>) -> Result<(), NoMemory>
         requires { player ≡ player_in d self.old.live.board }
         ensures { OnOk result (self.new ≡ happened self.old 0 (Event.Closed d)) }
@@ -46,9 +46,9 @@ impl State {
     }
 
     // The others where a player is see that its last connection has gone.
-    #[tactic(auto, unfolding(spec_commands::specs::Talk::parted, spec_commands::specs::Replies::has_disconnected, spec_live::specs::Lives::unchanged, spec_live::specs::Lives::reading))]
+    #[tactic(auto, unfolding(spec_commands::specs::Talk::player_parted, spec_commands::specs::Replies::has_disconnected, spec_live::specs::Lives::unchanged, spec_live::specs::Lives::reading))]
     fn part(&mut self, player: Option<Dbref>) -> Result<(), NoMemory>
-        ensures { OnOk result (self.new ≡ on_live (parted player) self.old) }
+        ensures { OnOk result (self.new ≡ on_live (player_parted player) self.old) }
     {
         let Some(player) = player else {
             return Ok(());

@@ -5,7 +5,7 @@ ghost use Rattle.spec_hooks.specs.Causes.{heard};
 ghost use Rattle.spec_hooks.specs.Firing.{player_of};
 ghost use Rattle.spec_hooks.specs.Told.{of_move, told, is_number, is_alone, came_by, came_on, went_of};
 ghost use Rattle.spec_events.specs.Hooked.{call_of, calls_of, is_limit, started_all};
-ghost use Rattle.spec_events.specs.Starting.{by_hook, begun};
+ghost use Rattle.spec_events.specs.Starting.{by_hook, program_begun};
 ghost use Rattle.muck_model.specs.Bytes.{text_fault};
 ghost use Rattle.spec_commands.specs.Replies.{says};
 ghost use Rattle.spec_commands.specs.Talking.{heard_as, pose_tail};
@@ -236,7 +236,7 @@ fn push_calls(
 
 // Whether others may start behind one that was to start so.
 fn more_is(begun: Result<i32, DeedFault>) -> Result<bool, NoMemory>
-    ensures { MoreIs begun result }
+    ensures { MoreIs program_begun result }
 {
     match begun {
         Ok(_) => Ok(true),
@@ -429,7 +429,7 @@ impl State {
 
     // A program is started; whether others may be behind it.
     fn start_one(&mut self, call: &Call) -> Result<bool, NoMemory>
-        ensures { IfOk result (λ more. GoesOn (begun (by_hook self.old) call.now self.old) self.new more) }
+        ensures { IfOk result (λ more. GoesOn (program_begun (by_hook self.old) call.now self.old) self.new more) }
     {
         let manner = self.manner();
         let copy = copy_call(self.alloc, call)?;

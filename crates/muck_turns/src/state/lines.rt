@@ -7,7 +7,7 @@ ghost use Rattle.spec_commands.specs.Finding.{actor_of};
 ghost use Rattle.spec_commands.specs.inner.Rising.{IsRising};
 ghost use Rattle.spec_live.specs.Stood.{IsStill};
 ghost use Rattle.muck_turns.specs.inner.Hooks.{AreTold, said_of};
-ghost use Rattle.spec_events.specs.Lines.{spoken, line_spoken, spoken_by, command, typed, left_by, followed_up, given_line, in_world, is_abort, line_for, with_editor, editor_on};
+ghost use Rattle.spec_events.specs.Lines.{spoken, line_spoken, spoken_by, command, typed, processes_after_line, followed_up, given_line, in_world, is_abort, line_for, with_editor, editor_on};
 ghost use Rattle.spec_events.specs.Steps.{happened, hooked_by};
 ghost use Rattle.spec_events.specs.World.{on_live, connection};
 
@@ -112,7 +112,7 @@ impl State {
 
     // Does the line, and answers what is to follow.
     fn play(&mut self, d: u32, player: Dbref, line: &Line) -> Result<Outcome, NoMemory>
-        ensures world { OnOk result (self.new ≡ record self.old { live = (typed self.old.queue d (actor_of self.old.live.objects player) line.now self.old.live).0; queue = left_by d (actor_of self.old.live.objects player) line.now self.old.live self.old.queue }) }
+        ensures world { OnOk result (self.new ≡ record self.old { live = (typed self.old.queue d (actor_of self.old.live.objects player) line.now self.old.live).0; queue = processes_after_line d (actor_of self.old.live.objects player) line.now self.old.live self.old.queue }) }
         ensures outcome { IfOk result (λ outcome. outcome ≡ (typed self.old.queue d (actor_of self.old.live.objects player) line.now self.old.live).1) }
     {
         let actor = actor_of(&self.db, player);

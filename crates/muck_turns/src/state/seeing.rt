@@ -1,9 +1,9 @@
 // Slices of whose units a watch is told.
 ghost use Rattle.std.specs.Prelude.{◌≡◌, OnOk, IfOk};
 ghost use Rattle.muck_model.specs.declared.event.Event.{Event};
-ghost use Rattle.muf_debug.specs.Views.{seen_at};
+ghost use Rattle.muf_debug.specs.Views.{view_at};
 ghost use Rattle.muf_debug.specs.Watching.{SeesAll};
-ghost use Rattle.spec_events.specs.Slices.{last_world, run_of};
+ghost use Rattle.spec_events.specs.Slices.{last_world, units_run};
 ghost use Rattle.spec_events.specs.Steps.{happened, hooked_by};
 ghost use Rattle.muck_turns.specs.inner.Hooks.{AreTold};
 ghost use Rattle.spec_live.specs.Stood.{IsStill};
@@ -21,7 +21,7 @@ use std::alloc::Global;
 
 // The watch is told of a process before a unit.
 fn show<W: Watch>(alloc: Global, pid: i32, running: &Running, watch: &mut W) -> Result<(), NoMemory>
-    ensures { OnOk result (W.tells watch.old (seen_at pid running.now) watch.new) }
+    ensures { OnOk result (W.tells watch.old (view_at pid running.now) watch.new) }
 {
     let view = View::of(alloc, pid, running)?;
     watch.saw(&view);
@@ -62,7 +62,7 @@ impl State {
         most: u64,
         watch: &mut W,
     ) -> Result<(), NoMemory>
-        ensures same { OnOk result (self.new ≡ last_world self.old (run_of tune.now most pid self.old)) }
+        ensures same { OnOk result (self.new ≡ last_world self.old (units_run tune.now most pid self.old)) }
         ensures seen { OnOk result (SeesAll W.tells (views tune.now most pid self.old) watch.old watch.new) }
     {
         let mut left = most;

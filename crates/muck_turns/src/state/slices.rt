@@ -2,8 +2,8 @@
 ghost use Rattle.std.specs.Prelude.{◌≡◌, OnOk, IfOk};
 ghost use Rattle.muck_model.specs.declared.event.Event.{Event};
 ghost use Rattle.muf_model.specs.Chains.{StandsAt};
-ghost use Rattle.muf_model.specs.Unit.{fault};
-ghost use Rattle.spec_events.specs.Slices.{acting, after_deed, broken, deed, last_world, out, run_of, seat, went};
+ghost use Rattle.muf_model.specs.Unit.{fault_met};
+ghost use Rattle.spec_events.specs.Slices.{acting, after_deed, broken, deed, last_world, out, units_run, seat, unit_went};
 ghost use Rattle.spec_events.specs.Steps.{happened, hooked_by};
 ghost use Rattle.muck_turns.specs.inner.Hooks.{AreTold};
 ghost use Rattle.spec_live.specs.Stood.{IsStill};
@@ -47,7 +47,7 @@ impl State {
 
     // The units of a process that has so many.
     fn take_units(&mut self, tune: &Tune, pid: i32, most: u64) -> Result<(), NoMemory>
-        ensures { OnOk result (self.new ≡ last_world self.old (run_of tune.now most pid self.old)) }
+        ensures { OnOk result (self.new ≡ last_world self.old (units_run tune.now most pid self.old)) }
     {
         let mut left = most;
         while let Some(units) = self.stint(tune, pid, left)? {
@@ -170,7 +170,7 @@ impl State {
         running: Running,
         raised: MufFault,
     ) -> Result<bool, NoMemory>
-        ensures { IfOk result (λ goes_on. LeadsTo goes_on self.new (went pid player running.program.number (fault raised running) self.old)) }
+        ensures { IfOk result (λ goes_on. LeadsTo goes_on self.new (unit_went pid player running.program.number (fault_met raised running) self.old)) }
     {
         let program = running.program();
         match running.raise(self.alloc, &raised)? {
@@ -194,7 +194,7 @@ impl State {
         program: Dbref,
         fault: MufFault,
     ) -> Result<(), NoMemory>
-        ensures { OnOk result (self.new ≡ broken pid player program.0 fault self.old) }
+        ensures { OnOk result (self.new ≡ broken pid player program.0 fault_met self.old) }
     {
         self.queue.kill(pid);
         let text = error_text(self.alloc, program, &fault)?;

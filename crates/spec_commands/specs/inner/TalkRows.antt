@@ -2,27 +2,27 @@
 use Rattle.std.specs.Prelude.{◌≡◌, ℕ, Bool, true, false, List, [], ◌∷◌, codes, None, refl}
 use Rattle.std.specs.Fmt.{digits}
 use Rattle.muck_model.specs.Decimal.{decimal_of}
-use Rattle.muck_model.specs.Numbers.{dbref_of as number_named}
-use Rattle.muck_match.specs.Words.{is_same, begins_with, has_word, placed, aliases}
-use Rattle.muck_match.specs.Scenery.{numbers, place_in as sight_place, things_in, exit_order, is_there}
-use Rattle.muck_match.specs.Naming.{fits, answers, objects_near, near, named, player_named, if_there, found_by_sign, found}
+use Rattle.muck_model.specs.Numbers.{dbref_written as number_named}
+use Rattle.muck_match.specs.Words.{is_same, begins_alike, has_word, texts_placed, aliases}
+use Rattle.muck_match.specs.Scenery.{numbers, place_in_scenery as sight_place, things_in, exit_order, is_in_scenery}
+use Rattle.muck_match.specs.Naming.{name_fits, answers_to, objects_near, near, name_matched, player_named, if_there, found_by_sign, thing_found}
 use Rattle.spec_live.specs.declared.object.Object.{Object}
 use Rattle.spec_live.specs.declared.saving.Saving.TheVariants.{Done}
 use Rattle.spec_live.specs.Objects.{Entry, dbref_of, object_at, number_in, kind_in, place_in, object_in, list_in}
 use Rattle.spec_live.specs.Chain.{walk, follower}
-use Rattle.spec_live.specs.Output.{sent_lines, queue_most, lines_bytes, line_sent, lines_sent, sent}
+use Rattle.spec_live.specs.Output.{sent_lines, queue_most, sent_lines_bytes, line_sent, lines_sent, text_sent}
 use Rattle.spec_live.specs.Start.{room_zero, player_one}
 use Rattle.spec_live.specs.Seen.{scenery_of, listed_in, places_of}
 use Rattle.spec_live.specs.Boards.{early_board, told_one, told_player, told_others}
-use Rattle.spec_live.specs.Lives.{Live, followed, reading, either, where_so, unchanged, tell, tell_player, tell_but, tell_others}
+use Rattle.spec_live.specs.Lives.{Live, change_followed, reading, either, where_so, unchanged, tell, tell_player, tell_but, tell_others}
 use Rattle.spec_commands.specs.declared.outcome.Outcome.{Outcome}
 use Rattle.spec_commands.specs.declared.outcome.Outcome.TheVariants.{Done as Finished, Said}
 use Rattle.spec_commands.specs.Replies.{cant_be_done, you_say, says, you_say_to, says_to, not_connected}
-use Rattle.spec_commands.specs.Finding.{finding, finding_player, is_so, shown_others}
+use Rattle.spec_commands.specs.Finding.{finding, finding_player, is_object_so, shown_others}
 use Rattle.spec_commands.specs.Going.{ended}
 use Rattle.spec_commands.specs.Talking.{said, posed, said_to, paged, whispered}
-use Rattle.spec_commands.specs.Reading.{sought, with_fit, with_parts, with_arguments, by_table}
-use Rattle.spec_commands.specs.Commands.{play_words, play_done, signed, play_line}
+use Rattle.spec_commands.specs.Reading.{object_sought, with_fit, with_parts, with_arguments, by_table}
+use Rattle.spec_commands.specs.Commands.{play_words, play_done, said_by_sign, play_line}
 use Rattle.spec_commands.specs.inner.Company.{held, seats, player_two, queues}
 use Rattle.spec_commands.specs.inner.EditRows.{one}
 
@@ -69,5 +69,5 @@ TalkRows =
     × (seen (codes "whisper #4=hi") ≡ see (line (codes "That can't be done.")) [] [])
 
 pub talk_rows : TalkRows
-unfolding TalkRows follower number_named is_same begins_with has_word placed aliases numbers sight_place things_in exit_order is_there fits answers objects_near near named player_named if_there found_by_sign found sent_lines queue_most lines_bytes line_sent lines_sent sent object_at number_in kind_in place_in object_in list_in walk room_zero player_one scenery_of listed_in places_of early_board told_one told_player told_others followed reading either where_so unchanged tell tell_player tell_but tell_others cant_be_done you_say says you_say_to says_to not_connected finding finding_player is_so shown_others ended said posed said_to paged whispered sought with_fit with_parts with_arguments by_table play_words play_done signed play_line decimal_of digits
+unfolding TalkRows follower number_named is_same begins_alike has_word texts_placed aliases numbers sight_place things_in exit_order is_in_scenery name_fits answers_to objects_near near name_matched player_named if_there found_by_sign thing_found sent_lines queue_most sent_lines_bytes line_sent lines_sent text_sent object_at number_in kind_in place_in object_in list_in walk room_zero player_one scenery_of listed_in places_of early_board told_one told_player told_others change_followed reading either where_so unchanged tell tell_player tell_but tell_others cant_be_done you_say says you_say_to says_to not_connected finding finding_player is_object_so shown_others ended said posed said_to paged whispered object_sought with_fit with_parts with_arguments by_table play_words play_done said_by_sign play_line decimal_of digits
 talk_rows = (refl, refl, refl, refl, refl, refl, refl, refl, refl)

@@ -9,14 +9,14 @@ use Rattle.spec_rights.specs.Levels.{is_player_at}
 use Rattle.muf_model.specs.declared.code.Offer.TheVariants.{All}
 use Rattle.muf_model.specs.Tree.{stop, Tree}
 use Rattle.muck_library.specs.Library.{form_at, formed}
-use Rattle.muck_queue.specs.Queues.{empty_queue, number_most, is_full, added}
+use Rattle.muck_queue.specs.Queues.{empty_queue, number_most, is_queue_full, process_added}
 use Rattle.spec_hooks.specs.declared.cause.Fire.{Fire}
 use Rattle.spec_hooks.specs.Causes.{causes}
 use Rattle.spec_hooks.specs.Firing.{firing}
 use Rattle.spec_hooks.specs.inner.Worked.{scene, live_at, moved_in, moved_out, fire, in_fires, out_fires}
 use Rattle.spec_events.specs.declared.starting.Call.{Call}
-use Rattle.spec_events.specs.World.{World, booted, starting}
-use Rattle.spec_events.specs.Starting.{new_process, begun}
+use Rattle.spec_events.specs.World.{World, world_booted, starting_world}
+use Rattle.spec_events.specs.Starting.{new_process, program_begun}
 use Rattle.spec_events.specs.Hooked.{hook_command, call_of, started_all, hooked}
 
 -- `#3` is built, and `#4` has no word to begin with
@@ -27,7 +27,7 @@ abbrev pub wordless : Tree
 wordless = record { words = []; variables = 0 }
 
 abbrev pub world_at : ℕ → List ℕ → World
-world_at place players = record starting { live = live_at place players; library = None ∷ None ∷ None ∷ Some built ∷ Some wordless ∷ [] }
+world_at place players = record starting_world { live = live_at place players; library = None ∷ None ∷ None ∷ Some built ∷ Some wordless ∷ [] }
 
 -- so many processes may be there
 abbrev pub limited : ℕ → World → World
@@ -52,7 +52,7 @@ abbrev all_called : List Fire → List Fire → World
 all_called out came = started_all (map (call_of moved_out) out ++ (map (call_of moved_in) came ++ [])) (world_at 2 (1 ∷ []))
 
 pub hook_rows : HookRows
-unfolding HookRows causes stands_in hooked started_all begun booted starting first_tune early_board object_at number_in kind_in object_in place_in room_zero player_one is_player_at empty_queue number_most is_full added new_process form_at formed hook_command
+unfolding HookRows causes stands_in hooked started_all program_begun world_booted starting_world first_tune early_board object_at number_in kind_in object_in place_in room_zero player_one is_player_at empty_queue number_most is_queue_full process_added new_process form_at formed hook_command
 hook_rows = (
   refl,
   refl,

@@ -7,14 +7,14 @@ use Rattle.std.proofs.Common.{ap, ◌∙◌}
 use Rattle.muck_model.specs.declared.dbref.Dbref.{Dbref}
 use Rattle.muck_model.specs.declared.dbref.Kind.TheVariants.{Room, Program, Player}
 use Rattle.muck_model.specs.Decimal.{decimal_of}
-use Rattle.muck_model.specs.Numbers.{dbref_of as number_named}
+use Rattle.muck_model.specs.Numbers.{dbref_written as number_named}
 use Rattle.muck_prop.specs.declared.value.PropValue.{PropValue}
 use Rattle.muck_prop.specs.declared.value.PropValue.TheVariants.{Text}
 use Rattle.muck_prop.specs.Order.{path_cmp}
 use Rattle.muck_prop.specs.Store.{PropMap}
 use Rattle.spec_live.specs.declared.object.Object.{Object}
 use Rattle.spec_live.specs.declared.saving.Saving.TheVariants.{Done}
-use Rattle.spec_live.specs.Objects.{Entry, dbref_of, plain, object_at, number_in, kind_in, object_in, place_in, list_in}
+use Rattle.spec_live.specs.Objects.{Entry, dbref_of, bare_object, object_at, number_in, kind_in, object_in, place_in, list_in}
 use Rattle.spec_live.specs.Chain.{walk}
 use Rattle.spec_live.specs.Seen.{listed_in, places_of}
 use Rattle.spec_live.specs.Stood.{standing, stands_in}
@@ -62,13 +62,13 @@ abbrev pub room_hooked : Object
 room_hooked = record room_zero { props = props_of zero_hooks }
 
 abbrev pub den_hooked : Object
-den_hooked = record (plain Room (codes "Den") (dbref_of 1)) { place = dbref_of 0; props = props_of den_hooks }
+den_hooked = record (bare_object Room (codes "Den") (dbref_of 1)) { place = dbref_of 0; props = props_of den_hooks }
 
 abbrev pub program_of : ℕ → Object
-program_of owner = record (plain Program (codes "hook") (dbref_of owner)) { place = dbref_of 1; level = 1 }
+program_of owner = record (bare_object Program (codes "hook") (dbref_of owner)) { place = dbref_of 1; level = 1 }
 
 abbrev pub player_two : Object
-player_two = record (plain Player (codes "Two") (dbref_of 5)) { place = dbref_of 0; home = dbref_of 0; level = 1 }
+player_two = record (bare_object Player (codes "Two") (dbref_of 5)) { place = dbref_of 0; home = dbref_of 0; level = 1 }
 
 abbrev pub stored_as : List ℕ → Object → Entry
 stored_as contents o = record { object = o; contents = contents; exits = []; mark = None; saving = Done; stood = standing o }

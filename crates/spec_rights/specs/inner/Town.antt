@@ -6,14 +6,14 @@ use Rattle.muck_prop.specs.declared.value.PropValue.TheVariants.{Number}
 use Rattle.spec_live.specs.declared.object.Object.{Object}
 use Rattle.spec_live.specs.declared.saving.Saving.TheVariants.{Done}
 use Rattle.spec_live.specs.Flags.{builder, chown, haven, jump, link, quell, setuid, wizard}
-use Rattle.spec_live.specs.Objects.{Entry, dbref_of, plain}
+use Rattle.spec_live.specs.Objects.{Entry, dbref_of, bare_object}
 use Rattle.spec_live.specs.Setting.{with_prop}
 use Rattle.spec_live.specs.Start.{room_zero, player_one}
 use Rattle.spec_rights.specs.declared.act.Actor.{Actor}
 
 -- what has that owner and place, those flags and that level
 abbrev pub made : Kind → ℕ → ℕ → ℕ → ℕ → Object
-made kind owner place flags level = record (plain kind (codes "it") (dbref_of owner)) { place = dbref_of place; flags = record { 0 = flags }; level = level }
+made kind owner place flags level = record (bare_object kind (codes "it") (dbref_of owner)) { place = dbref_of place; flags = record { 0 = flags }; level = level }
 
 -- with a number for a lock, which opens for nobody
 abbrev pub shut : Object → Object

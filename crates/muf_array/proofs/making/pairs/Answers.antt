@@ -6,15 +6,15 @@ use Rattle.laws.proofs.Options.{none_where_never}
 use Rattle.laws.proofs.Places.{get_drop}
 use Rattle.muf_model.specs.Datum.{Datum}
 use Rattle.muf_model.specs.inner.View.{view, pair_view}
-use Rattle.muf_model.specs.ArrayRows.{key_of}
+use Rattle.muf_model.specs.ArrayRows.{map_key_of}
 use Rattle.muf_frame.specs.inner.Shown.{flat}
 use Rattle.muf_array.specs.inner.Shapes.{pairs_in, pairs_before, key_in}
 use Rattle.muf_array.proofs.Counting.{pairs_more, pairs_none}
 use Rattle.muf_array.proofs.making.pairs.Goals as goal
 
 -- the key of the next pair
-key_next : (st : List Datum) (at : ℕ) → option_and_then key_of (slice_get (drop (at + at + 1) st) 1) ≡ key_in (at + at + 2) st
-key_next st at = let z : at + at + 1 + 1 ≡ at + at + 2 = omega arith in ap (option_and_then key_of) (get_drop (at + at + 1) 1 st ∙ ap (slice_get st) z)
+key_next : (st : List Datum) (at : ℕ) → option_and_then map_key_of (slice_get (drop (at + at + 1) st) 1) ≡ key_in (at + at + 2) st
+key_next st at = let z : at + at + 1 + 1 ≡ at + at + 2 = omega arith in ap (option_and_then map_key_of) (get_drop (at + at + 1) 1 st ∙ ap (slice_get st) z)
 
 pub returns-in_default : goal.returns-in_default
 returns-in_default c =

@@ -1,6 +1,6 @@
 use Rattle.std.proofs.Common.{◌≡◌, ◌≤◌, ℕ, true, length, Some, Ok, Err, refl, sym, ap, ◌∙◌, subst, arith}
 use Rattle.laws.proofs.Numbers.{too_few}
-use Rattle.muck_log.specs.World.{World}
+use Rattle.muck_log.specs.World.{StoredWorld}
 use Rattle.muck_log.specs.Store.{LogState}
 use Rattle.muck_log.specs.Append.{base_of, payload_of}
 use Rattle.muck_log.proofs.Deltas.{left_payload}
@@ -68,7 +68,7 @@ returns-in-Err-clause-marks g c = λ es tune b. unmounted_holds c.close-in-Err.n
 pub returns-in-Ok-clause-wrote : goal.returns-in-Ok-clause-wrote
 returns-in-Ok-clause-wrote g c = λ log es tune tells is left_out tuned count fit two covers.
     let m = c.requires.mounted c.in-Some.log tells c.in-Some.is in
-    let made : World = record { objects = persist es; tune = tune } in
+    let made : StoredWorld = record { objects = persist es; tune = tune } in
     let P : LogState → Type 0 = λ l. LeavesOut (base_of l) (persist es) c.args.pending.batch.records → length l.chosen.held.world.objects ≤ length es → Appended g.D.Disk.seen g.D.Disk.moment g.D.Disk.images (payload_of l (world_batch es tune)) made l (Some c.append.new.self) c.args.first.now c.args.second.now c.append.new.first c.append.new.second (Ok tt) in
     subst P (one_log c.args.self.now.log c.in-Some.log log c.in-Some.is is)
     (λ left fewer. appended_ok g.D.Disk.seen g.D.Disk.moment g.D.Disk.images c.in-Some.log c.append.new.self c.args.first.now c.args.second.now c.append.new.first c.append.new.second c.args.pending.batch made m
@@ -81,7 +81,7 @@ returns-in-Ok-clause-wrote g c = λ log es tune tells is left_out tuned count fi
 pub returns-in-Err-clause-wrote : goal.returns-in-Err-clause-wrote
 returns-in-Err-clause-wrote g c = λ log es tune tells is left_out tuned count fit two covers.
     let m = c.requires.mounted c.in-Some.log tells c.in-Some.is in
-    let made : World = record { objects = persist es; tune = tune } in
+    let made : StoredWorld = record { objects = persist es; tune = tune } in
     let P : LogState → Type 0 = λ l. LeavesOut (base_of l) (persist es) c.args.pending.batch.records → length l.chosen.held.world.objects ≤ length es → Appended g.D.Disk.seen g.D.Disk.moment g.D.Disk.images (payload_of l (world_batch es tune)) made l (c.close-in-Err.new.self.log) c.args.first.now c.args.second.now c.append.new.first c.append.new.second (Err c.in-Err.fault) in
     subst P (one_log c.args.self.now.log c.in-Some.log log c.in-Some.is is)
     (λ left fewer. appended_err g.D.Disk.seen g.D.Disk.moment g.D.Disk.images c.in-Some.log c.append.new.self c.args.first.now c.args.second.now c.append.new.first c.append.new.second c.args.pending.batch made m
