@@ -2,7 +2,7 @@
 use Rattle.std.proofs.Common.{◌≡◌, ℕ, ◌+◌, ◌<◌, ◌≤◌, Bool, true, false, List, [], ◌∷◌, length, drop, get_or, Result, Ok, Err, inl, inr, refl, sym, ◌∙◌, ap, subst, arith}
 use Rattle.std.proofs.lemmas.List.{drop_all}
 use Rattle.std.specs.List.{filter}
-use Rattle.laws.proofs.Places.{split_here}
+use Rattle.muck_laws.proofs.Places.{split_here}
 use Rattle.muck_model.specs.declared.memory.NoMemory.{NoMemory}
 use Rattle.spec_live.specs.Lives.{Live, Change, ◌▸◌, change_followed, reading, unchanged, tell}
 use Rattle.spec_rights.specs.declared.act.Actor.{Actor}

@@ -1,7 +1,7 @@
 -- What a move does that was allowed, and what showing keeps.
 use Rattle.std.proofs.Common.{◌≡◌, ℕ, true, false, List, refl, sym, ap, ◌∙◌, Option, Some, None, Result, Ok, Err, OnOk, ◌&&◌, ◌||◌}
 use Rattle.std.specs.Option.{option_map_or}
-use Rattle.laws.proofs.Truths.{hand_by}
+use Rattle.muck_laws.proofs.Truths.{hand_by}
 use Rattle.muck_model.specs.declared.dbref.Dbref.{Dbref}
 use Rattle.muck_model.specs.declared.memory.NoMemory.{NoMemory}
 use Rattle.spec_live.specs.declared.fault.DbFault.{DbFault}

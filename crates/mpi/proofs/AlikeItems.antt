@@ -9,9 +9,9 @@ use Rattle.std.specs.declared.cmp.Ordering.TheVariants.{Less, Equal, Greater}
 use Rattle.std.proofs.lemmas.Bool.{false≢true}
 use Rattle.std.proofs.lemmas.List.{append-nil}
 use Rattle.std.proofs.lemmas.List.Splits.{slice_split-cons_yes, slice_split-cons_no, length-slice_split, join_with_byte-slice_split}
-use Rattle.laws.proofs.Lists.{behind_byte, short_ahead}
-use Rattle.laws.proofs.Tests.{all_head, all_tail}
-use Rattle.laws.proofs.Texts.{behind_onto, join_grown, join_longer}
+use Rattle.muck_laws.proofs.Lists.{behind_byte, short_ahead}
+use Rattle.muck_laws.proofs.Tests.{all_head, all_tail}
+use Rattle.muck_laws.proofs.Texts.{behind_onto, join_grown, join_longer}
 use Rattle.mpi.specs.declared.fault.MpiFault.{MpiFault}
 use Rattle.mpi.specs.declared.fault.MpiFault.TheVariants.{Unclosed, UnknownFunction, BadCount, BadValue, TooManyCommands, TooLong, Denied, NoMemory}
 use Rattle.mpi.specs.declared.functions.Keep.{Keep}

@@ -2,7 +2,7 @@
 use Rattle.std.proofs.Common.{◌≡◌, ℕ, ◌-◌, ◌<◌, zero, suc, true, false, cond, List, [], refl, sym, subst, ap, ◌∙◌, arith}
 use Rattle.std.specs.Prelude.{Result, Ok, Err, Option, Some, None, ℤ, ◌==◌}
 use Rattle.std.specs.FinMap.{get}
-use Rattle.laws.proofs.Numbers.{not_zero}
+use Rattle.muck_laws.proofs.Numbers.{not_zero}
 use Rattle.mpi.specs.declared.fault.MpiFault.{MpiFault}
 use Rattle.mpi.specs.declared.fault.MpiFault.TheVariants.{TooManyCommands, NoMemory}
 use Rattle.mpi.specs.declared.functions.Function.{Function}

@@ -10,7 +10,7 @@ use Rattle.std.specs.List.{position_or_len}
 use Rattle.std.proofs.lemmas.Bool.{le-ltb, lt-ltb, cases_lt}
 use Rattle.std.proofs.lemmas.List.{length-take, length-drop}
 use Rattle.std.proofs.lemmas.List.Sums.{prefix_len-le-length}
-use Rattle.laws.proofs.Tests.{all_append, all_drop, all_prefix, all_take, prefix_all}
+use Rattle.muck_laws.proofs.Tests.{all_append, all_drop, all_prefix, all_take, prefix_all}
 use Rattle.muck_model.specs.Bytes.{is_outside, fault_of_bytes, text_fault, text_most}
 use Rattle.mpi.specs.Made.{Inside}
 

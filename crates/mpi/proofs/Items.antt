@@ -4,8 +4,8 @@ use Rattle.std.specs.Prelude.{is_none, ◌==◌, bytes_eq}
 use Rattle.std.specs.List.{list_all, slice_split, onto_first}
 use Rattle.std.proofs.lemmas.Bool.{le-ltb, lt-ltb, ltb-true}
 use Rattle.std.proofs.lemmas.List.Sums.{position_or_len_is}
-use Rattle.laws.proofs.Options.{none_of}
-use Rattle.laws.proofs.Tests.{all_cons, all_head, all_tail}
+use Rattle.muck_laws.proofs.Options.{none_of}
+use Rattle.muck_laws.proofs.Tests.{all_cons, all_head, all_tail}
 use Rattle.muck_model.specs.Bytes.{text_fault, text_most}
 use Rattle.mpi.specs.Made.{is_text}
 use Rattle.mpi.specs.Values.{items, from_one, place_of_item}

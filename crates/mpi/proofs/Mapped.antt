@@ -3,7 +3,7 @@ use Rattle.std.proofs.Common.{◌≡◌, ℕ, ℤ, ◌-◌, ◌<◌, ◌≤◌, 
 use Rattle.std.specs.Prelude.{is_none}
 use Rattle.std.specs.List.{list_all}
 use Rattle.std.proofs.lemmas.List.{get_or-map, take-map, drop-map, length-map}
-use Rattle.laws.proofs.Tests.{all_append, all_cons}
+use Rattle.muck_laws.proofs.Tests.{all_append, all_cons}
 use Rattle.muck_model.specs.Bytes.{text_fault}
 use Rattle.mpi.specs.Made.{is_text}
 use Rattle.mpi.specs.Values.{nth, above_zero, part_between}

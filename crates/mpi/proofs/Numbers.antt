@@ -3,8 +3,8 @@ use Rattle.std.proofs.Common.{◌≡◌, ◌<◌, ◌^◌, ◌∷◌, None, refl
 use Rattle.std.specs.Prelude.{ℤ}
 use Rattle.std.specs.Fmt.{signed_decimal}
 use Rattle.std.specs.Int.Signed.{mag}
-use Rattle.laws.proofs.Tests.{all_cons}
-use Rattle.laws.proofs.Texts.{number_short}
+use Rattle.muck_laws.proofs.Tests.{all_cons}
+use Rattle.muck_laws.proofs.Texts.{number_short}
 use Rattle.muck_model.specs.Bytes.{text_fault}
 use Rattle.mpi.proofs.Inside.{is_inside, made_is_text, inside_number}
 

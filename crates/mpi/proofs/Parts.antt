@@ -5,7 +5,7 @@ use Rattle.std.specs.Char.{to_ascii_lowercase, to_ascii_uppercase}
 use Rattle.std.specs.List.{list_all, slice_split, onto_first, join_with_byte}
 use Rattle.std.proofs.lemmas.Bool.{le-ltb, lt-ltb, cases_lt}
 use Rattle.std.proofs.lemmas.List.{reverse-append}
-use Rattle.laws.proofs.Tests.{all_append, all_cons, all_drop, all_head, all_tail, all_take}
+use Rattle.muck_laws.proofs.Tests.{all_append, all_cons, all_drop, all_head, all_tail, all_take}
 use Rattle.muck_model.specs.Bytes.{text_fault}
 use Rattle.mpi.specs.Made.{Inside}
 use Rattle.mpi.specs.Values.{past_spaces, stripped, items, part_between, above_zero, sublist}

@@ -6,7 +6,7 @@ use Rattle.std.proofs.Math.Seq.{drop-cons}
 use Rattle.std.proofs.lemmas.Bool.{cases_Bool, cases_eq, cond-true, cond-false, eq-eqb, ne_eqb, false≢true}
 use Rattle.std.proofs.lemmas.List.{drop_all, length-take, length-drop}
 use Rattle.std.proofs.lemmas.Slice.Eq.{bytes_eq-Decides}
-use Rattle.laws.proofs.Options.{mapped_on, mapped_zero}
+use Rattle.muck_laws.proofs.Options.{mapped_on, mapped_zero}
 use Rattle.memchr.specs.Find.{OccursAt, IsFirst, FindsNeedle}
 use Rattle.memchr.proofs.lemmas.MatchLemmas.{OccursAt-part, OccursAt-from_part}
 use Rattle.mpi.specs.Values.{begins_with, place_in_text}

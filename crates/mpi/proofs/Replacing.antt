@@ -3,9 +3,9 @@ use Rattle.std.proofs.Common.{◌≡◌, ℕ, ◌+◌, ◌-◌, ◌<◌, ◌≤�
 use Rattle.std.proofs.lemmas.Bool.{cases_Bool}
 use Rattle.std.specs.Prelude.{Ok, Err, Option, ◌==◌}
 use Rattle.std.specs.Option.{option_map}
-use Rattle.laws.proofs.Lists.{further_fits}
-use Rattle.laws.proofs.Options.{not_mapped}
-use Rattle.laws.proofs.Truths.{and_rest}
+use Rattle.muck_laws.proofs.Lists.{further_fits}
+use Rattle.muck_laws.proofs.Options.{not_mapped}
+use Rattle.muck_laws.proofs.Truths.{and_rest}
 use Rattle.muck_model.specs.Bytes.{text_most}
 use Rattle.mpi.specs.declared.fault.MpiFault.{MpiFault}
 use Rattle.mpi.specs.Hosting.{Means}

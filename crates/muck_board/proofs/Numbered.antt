@@ -5,7 +5,7 @@ use Rattle.std.specs.List.{position, position_or_len, remove, insert}
 use Rattle.std.specs.Option.{option_map_or}
 use Rattle.std.proofs.lemmas.Bool.{cond_both}
 use Rattle.std.proofs.lemmas.List.{drop_all}
-use Rattle.laws.proofs.Tests.{first_at, position_none}
+use Rattle.muck_laws.proofs.Tests.{first_at, position_none}
 use Rattle.muck_model.specs.declared.dbref.Dbref.{Dbref}
 use Rattle.spec_live.specs.Output.{bytes_of, output_taken}
 use Rattle.spec_live.specs.Connections.{Connection, is_connection, changed_in, without_connection, connection_placed}

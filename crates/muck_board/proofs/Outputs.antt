@@ -5,7 +5,7 @@ use Rattle.std.proofs.lemmas.List.{drop-append-le, take-append-le, drop-drop, dr
 use Rattle.std.proofs.lemmas.Grind.{flat_map-append}
 use Rattle.std.proofs.Math.Seq.{take-add}
 use Rattle.std.specs.List.{flat_map}
-use Rattle.laws.proofs.Parts.{drop_behind}
+use Rattle.muck_laws.proofs.Parts.{drop_behind}
 use Rattle.spec_live.specs.Output.{Output, sent_form, notice, notice_of, sent_lines_bytes, bytes_of, newest, lines_taken, notice_taken, output_taken}
 
 -- Counts.

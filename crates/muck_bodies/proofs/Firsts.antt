@@ -3,7 +3,7 @@ use Rattle.std.proofs.Common.{◌≡◌, ℕ, suc, ◌+◌, ◌<◌, ◌≤◌, 
 use Rattle.std.proofs.lemmas.List.{drop-drop}
 use Rattle.std.proofs.lemmas.Bool.{cond-true, cond-false, eq-eqb, ne_eqb, le-leb, lt-leb}
 use Rattle.std.specs.Int.{w64, from_be_bytes}
-use Rattle.laws.proofs.Lists.{nil_either_way}
+use Rattle.muck_laws.proofs.Lists.{nil_either_way}
 use Rattle.muck_bodies.specs.Bodies.{bodies_up_to}
 
 -- there is none where the file is too short, or its gate isn't open

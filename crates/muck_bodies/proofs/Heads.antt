@@ -5,9 +5,9 @@ use Rattle.std.proofs.lemmas.List.{drop-drop, take-take}
 use Rattle.std.proofs.lemmas.Bool.{le-leb, lt-leb}
 use Rattle.std.specs.Int.{w64, from_be_bytes}
 use Rattle.std.specs.Option.{option_map_or}
-use Rattle.laws.proofs.Parts.{body_front, nine}
-use Rattle.laws.proofs.Places.{first_byte}
-use Rattle.laws.proofs.Texts.{same_word, size_word}
+use Rattle.muck_laws.proofs.Parts.{body_front, nine}
+use Rattle.muck_laws.proofs.Places.{first_byte}
+use Rattle.muck_laws.proofs.Texts.{same_word, size_word}
 use Rattle.muck_log.specs.Body.{Body, body_of, magic}
 use Rattle.muck_bodies.specs.Bodies.{bodies_up_to, bodies_of, body_numbered, body_number, generation_of}
 use Rattle.muck_bodies.proofs.Firsts.{first_short, first_shut, first_cut, first_whole}

@@ -4,8 +4,8 @@ use Rattle.std.specs.Prelude.{if◌then◌else◌, option_map, ◌&&◌}
 use Rattle.std.specs.Option.{option_map_or}
 use Rattle.std.specs.Int.{w64, from_be_bytes}
 use Rattle.std.proofs.lemmas.Bool.{cond-true, cond-false, and_parts, eqb-true, leb-true}
-use Rattle.laws.proofs.Lists.{firsts_same, no_first}
-use Rattle.laws.proofs.Options.{and_then_some, cond_some, map_some}
+use Rattle.muck_laws.proofs.Lists.{firsts_same, no_first}
+use Rattle.muck_laws.proofs.Options.{and_then_some, cond_some, map_some}
 use Rattle.muck_log.specs.Body.{Body, body_of}
 use Rattle.muck_log.specs.World.{laid}
 use Rattle.muck_log.specs.File.{Held, ReadingEnd, Opened, join, follows, begin, file_of, header, is_gate_open}

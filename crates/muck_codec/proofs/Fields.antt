@@ -6,8 +6,8 @@ use Rattle.std.proofs.lemmas.List.{take_at, drop_at}
 use Rattle.std.proofs.lemmas.Nat.{be_bytes_2, be_bytes_4, be_bytes_8, from_be_bytes-to_be_bytes_2, from_be_bytes-to_be_bytes_4, from_be_bytes-to_be_bytes_8}
 use Rattle.std.proofs.lemmas.Int.{to_z-of_z, of_z-to_z}
 use Rattle.std.proofs.Math.Facts.{sfits_to_z, Fits-of_z, Fits-of_lt}
-use Rattle.laws.proofs.Options.{some_is}
-use Rattle.laws.proofs.Results.{guard_ok, skip_ok}
+use Rattle.muck_laws.proofs.Options.{some_is}
+use Rattle.muck_laws.proofs.Results.{guard_ok, skip_ok}
 use Rattle.muck_model.specs.Bytes.{text_fault}
 use Rattle.muck_model.specs.declared.dbref.Dbref.{Dbref}
 use Rattle.muck_model.specs.declared.dbref.Flags.{Flags}

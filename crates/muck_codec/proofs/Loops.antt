@@ -4,7 +4,7 @@ use Rattle.std.proofs.lemmas.List.{append-nil, drop_all}
 use Rattle.std.specs.Int.{w32}
 use Rattle.std.specs.Option.{option_map}
 use Rattle.std.specs.Prelude.{slice_get}
-use Rattle.laws.proofs.Places.{got_last}
+use Rattle.muck_laws.proofs.Places.{got_last}
 use Rattle.muck_codec.specs.declared.fault.Unread.{Unread}
 use Rattle.muck_codec.specs.declared.fault.Unread.TheVariants as unread
 use Rattle.muck_model.specs.declared.tune.Tune.{Tune}

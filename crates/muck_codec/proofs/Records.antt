@@ -4,8 +4,8 @@ use Rattle.std.specs.Prelude.{FitsSigned, bytes_eq, IfOk}
 use Rattle.std.specs.Int.{w16, w32, w64, to_be_bytes, cast_unsigned}
 use Rattle.std.specs.Ordering.{int_eq}
 use Rattle.std.proofs.lemmas.Bool.{and_parts, and_from, cond-true, cond-false}
-use Rattle.laws.proofs.Results.{guard_ok, test_ok}
-use Rattle.laws.proofs.Texts.{bytes_equal, same_bytes}
+use Rattle.muck_laws.proofs.Results.{guard_ok, test_ok}
+use Rattle.muck_laws.proofs.Texts.{bytes_equal, same_bytes}
 use Rattle.muck_model.specs.Bytes.{lines_most, text_most}
 use Rattle.muck_model.specs.declared.dbref.Dbref.{Dbref}
 use Rattle.muck_prop.specs.Paths.{IsPath, path_text, path_fault, segments_of, is_filled}

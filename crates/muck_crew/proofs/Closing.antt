@@ -5,7 +5,7 @@ use Rattle.std.proofs.lemmas.Option.{same_Some, none-some, slice_get_within}
 use Rattle.std.proofs.lemmas.Bool.{both_ways}
 use mathlib.Core.Option.{some, some-ne-none, some-injective}
 use lib.ListN.{get_elem?}
-use Rattle.laws.proofs.Places.{got_index}
+use Rattle.muck_laws.proofs.Places.{got_index}
 use Rattle.atomic_table.specs.Seated.{TableId}
 use Rattle.turn_lock.specs.Histories.{StartsWith, entry_kept, own_of, Has}
 use Rattle.turn_lock.specs.declared.view.Taken.{Taken}

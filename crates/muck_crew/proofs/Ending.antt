@@ -4,8 +4,8 @@ use Rattle.std.specs.Prelude.{slice_get}
 use Rattle.std.proofs.lemmas.List.{append-nil}
 use mathlib.Core.Option.{some, some-ne-none, some-injective}
 use lib.ListN.{get_elem?}
-use Rattle.laws.proofs.Numbers.{too_many}
-use Rattle.laws.proofs.Places.{some_at}
+use Rattle.muck_laws.proofs.Numbers.{too_many}
+use Rattle.muck_laws.proofs.Places.{some_at}
 use Rattle.atomic_table.specs.Seated.{TableId}
 use Rattle.turn_lock.specs.Histories.{StartsWith, own_of, Has, AllOf, IsKnown}
 use Rattle.turn_lock.specs.declared.view.Taken.{Taken}

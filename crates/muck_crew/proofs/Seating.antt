@@ -4,7 +4,7 @@ use Rattle.std.specs.Prelude.{slice_get}
 use Rattle.std.proofs.lemmas.Option.{none-some}
 use mathlib.Core.Option.{some, some-ne-none, some-injective}
 use lib.ListN.{get_elem?}
-use Rattle.laws.proofs.Places.{got_before, got_last, place_snoc}
+use Rattle.muck_laws.proofs.Places.{got_before, got_last, place_snoc}
 use Rattle.atomic_table.specs.Seated.{TableId}
 use Rattle.turn_lock.specs.Histories.{Has}
 use Rattle.turn_lock.specs.inner.Turns.{left_after, newcomer, taken_in}

@@ -4,8 +4,8 @@ use Rattle.std.proofs.lemmas.Bool.{cases_eq, cases_lt, false≢true}
 use Rattle.std.proofs.lemmas.Nat.{div-add-mod'}
 use Rattle.std.proofs.Math.Nat.{mod-lt}
 use Rattle.std.specs.List.{slice_get, slice_set}
-use Rattle.laws.proofs.Numbers.{same_block}
-use Rattle.laws.proofs.Places.{get_elsewhere, get_more}
+use Rattle.muck_laws.proofs.Numbers.{same_block}
+use Rattle.muck_laws.proofs.Places.{get_elsewhere, get_more}
 use Rattle.muck_db.specs.declared.slot.Slot.{Slot}
 use Rattle.muck_db.specs.declared.blocks.Flag.{Flag}
 use Rattle.muck_db.specs.declared.blocks.Flag.TheVariants.{Unsaved, Garbage, Marked}

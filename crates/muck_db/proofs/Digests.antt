@@ -6,7 +6,7 @@ use Rattle.std.proofs.lemmas.List.Elements.{All-nil, All-cons}
 use Rattle.std.proofs.lemmas.List.Quantifiers.{position-Some}
 use Rattle.std.specs.List.{AllPass, position}
 use Rattle.std.specs.Int.{bytes_high_first}
-use Rattle.laws.proofs.Texts.{byte_small, length-bytes_high}
+use Rattle.muck_laws.proofs.Texts.{byte_small, length-bytes_high}
 use Rattle.hex.specs.Hex.{IsBytes, encode_with, encode_lower, decode_of, lower_digits}
 use Rattle.hex.proofs.HexLemmas.{length-encode_with, decode_of-ok}
 use Rattle.sha2.specs.Sha256.{digest_bytes, sha256}

@@ -4,8 +4,8 @@ use Rattle.std.proofs.lemmas.Bool.{cases_eq, false≢true}
 use Rattle.std.proofs.lemmas.Option.{slice_get-map}
 use Rattle.std.specs.List.{slice_get}
 use Rattle.std.specs.Option.{option_map, option_and_then, option_map_or}
-use Rattle.laws.proofs.Places.{get_ext}
-use Rattle.laws.proofs.Truths.{whether}
+use Rattle.muck_laws.proofs.Places.{get_ext}
+use Rattle.muck_laws.proofs.Truths.{whether}
 use Rattle.muck_model.specs.declared.dbref.Kind.TheVariants.{Garbage}
 use Rattle.spec_live.specs.declared.object.Object.{Object}
 use Rattle.spec_live.specs.Chain.{walk, IsChain, Ends, Member, IsApart, without_number}

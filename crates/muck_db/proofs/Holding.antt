@@ -1,7 +1,7 @@
 -- Whether something in a list passes a test.
 use Rattle.std.proofs.Common.{◌≡◌, ℕ, List, Option, Some, None, refl, ◌∙◌, ap, length, Bool, true, false, ◌||◌}
 use Rattle.std.specs.List.{list_any}
-use Rattle.laws.proofs.Tests.{any_same}
+use Rattle.muck_laws.proofs.Tests.{any_same}
 use Rattle.spec_live.specs.Chain.{walk, Ends}
 use Rattle.spec_live.specs.Objects.{is_player, kind_in, list_in}
 use Rattle.spec_live.specs.Setting.{holds_player}

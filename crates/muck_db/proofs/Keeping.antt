@@ -4,7 +4,7 @@ use Rattle.std.proofs.lemmas.List.{drop_all}
 use Rattle.std.proofs.lemmas.Option.{slice_get_cases}
 use Rattle.std.specs.List.{slice_get}
 use Rattle.std.specs.Option.{option_map, option_and_then}
-use Rattle.laws.proofs.Places.{drop_here}
+use Rattle.muck_laws.proofs.Places.{drop_here}
 use Rattle.muck_prop.specs.Store.{PropMap}
 use Rattle.muck_prop.specs.declared.value.PropValue.{PropValue}
 use Rattle.spec_live.specs.declared.object.Object.{Object}

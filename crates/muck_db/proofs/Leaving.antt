@@ -1,9 +1,9 @@
 -- The steps of recycling, from the table to its entries.
 use Rattle.std.proofs.Common.{◌≡◌, ℕ, ◌<◌, List, [], ◌∷◌, Option, Some, None, Result, Ok, inl, inr, refl, sym, ◌∙◌, ap, subst, length, arith, Bool, true, false, cond, map}
-use Rattle.laws.proofs.Mapped.{length_map}
-use Rattle.laws.proofs.Options.{kept_then}
-use Rattle.laws.proofs.Places.{some_at}
-use Rattle.laws.proofs.Truths.{whether}
+use Rattle.muck_laws.proofs.Mapped.{length_map}
+use Rattle.muck_laws.proofs.Options.{kept_then}
+use Rattle.muck_laws.proofs.Places.{some_at}
+use Rattle.muck_laws.proofs.Truths.{whether}
 use Rattle.muck_model.proofs.Dbrefs.{eq_same}
 use Rattle.std.proofs.lemmas.Bool.{cases_eq, ne_eqb, eq-eqb, false≢true, and_parts}
 use Rattle.std.proofs.lemmas.Option.{slice_get-map}

@@ -1,6 +1,6 @@
 -- Every change keeps a world within its limits.
 use Rattle.std.proofs.Common.{Bor, ◌≡◌, ℕ, ◌<◌, ◌≤◌, ◌^◌, zero, suc, List, [], ◌∷◌, ◌++◌, Option, Some, None, Ok, inl, inr, refl, sym, ◌∙◌, ap, subst, length, arith, Bool, true, false, ◌&&◌, ◌||◌, cond, map}
-use Rattle.laws.proofs.Texts.{length-bytes_high}
+use Rattle.muck_laws.proofs.Texts.{length-bytes_high}
 use Rattle.muck_model.specs.Bytes.{lines_most}
 use Rattle.std.specs.Prelude.{nat_lt}
 use Rattle.std.proofs.lemmas.Bool.{and_parts, cases_eq}

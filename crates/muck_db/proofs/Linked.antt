@@ -2,7 +2,7 @@
 use Rattle.std.proofs.Common.{◌≡◌, ◌⊎◌, ℕ, ◌<◌, List, [], ◌∷◌, Option, Some, None, inl, inr, refl, sym, ◌∙◌, ap, subst, length, arith, Bool, true, false}
 use Rattle.std.proofs.lemmas.Bool.{cases_eq, ne_eqb, eq-eqb}
 use Rattle.std.specs.Option.{option_and_then}
-use Rattle.laws.proofs.Numbers.{same_place}
+use Rattle.muck_laws.proofs.Numbers.{same_place}
 use Rattle.spec_live.specs.declared.saving.Saving.TheVariants.{Due}
 use Rattle.spec_live.specs.Chain.{IsChain, Ends, Member, IsApart, follower, without_number, put_at}
 use Rattle.spec_live.specs.Objects.{Entry, changed_at, is_exit, kind_in, place_in, list_in}

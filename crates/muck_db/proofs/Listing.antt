@@ -4,7 +4,7 @@ use Rattle.std.proofs.lemmas.Bool.{false≢true}
 use Rattle.std.proofs.lemmas.Option.{slice_get_within}
 use Rattle.std.specs.Prelude.{slice_get}
 use Rattle.std.specs.Option.{option_map, option_map_or, option_and_then}
-use Rattle.laws.proofs.Places.{get_still, got_last}
+use Rattle.muck_laws.proofs.Places.{get_still, got_last}
 use Rattle.muck_model.specs.Numbers.{dbref_numbered}
 use Rattle.muck_model.specs.declared.dbref.Kind.TheVariants.{Garbage}
 use Rattle.spec_live.specs.declared.object.Object.{Object}

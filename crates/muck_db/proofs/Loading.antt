@@ -7,7 +7,7 @@ use Rattle.std.proofs.lemmas.Bool.{and_parts, ne_eqb}
 use Rattle.std.proofs.lemmas.Bool.Decides.{nat_tests}
 use Rattle.std.proofs.lemmas.List.Sums.{AllPass-from_list_all}
 use Rattle.std.proofs.lemmas.Option.{slice_get-map}
-use Rattle.laws.proofs.Mapped.{length_map}
+use Rattle.muck_laws.proofs.Mapped.{length_map}
 use Rattle.muck_model.specs.Bytes.{lines_most}
 use Rattle.muck_codec.specs.declared.stored.Stored.{Stored}
 use Rattle.muck_store.specs.Forms.{next_of_stored as record_next, entry_of_stored as record_entry, stored_object, loaded}

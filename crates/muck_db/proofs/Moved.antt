@@ -6,7 +6,7 @@ use Rattle.std.proofs.lemmas.Option.{slice_get-map, slice_get_past, same_Some}
 use Rattle.std.proofs.Common.{append_assoc}
 use Rattle.std.specs.List.{slice_get, slice_set}
 use Rattle.std.specs.Option.{option_map}
-use Rattle.laws.proofs.Places.{get_elsewhere, get_more}
+use Rattle.muck_laws.proofs.Places.{get_elsewhere, get_more}
 use Rattle.muck_model.specs.declared.dbref.Dbref.{Dbref}
 use Rattle.muck_model.proofs.Dbrefs.{same_eq, eq_same}
 use Rattle.spec_live.specs.declared.moved.Move.{Move}

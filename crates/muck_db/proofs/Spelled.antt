@@ -5,7 +5,7 @@ use Rattle.std.specs.List.{AllByRecursion}
 use Rattle.std.specs.FinMap.{entries, entries_sorted}
 use Rattle.std.specs.FinMap.Entries.{below_all, is_sorted}
 use Rattle.std.proofs.lemmas.List.Elements.{All-head, All-tail, All-push}
-use Rattle.laws.proofs.Truths.{is_true, left_of, right_of}
+use Rattle.muck_laws.proofs.Truths.{is_true, left_of, right_of}
 use Rattle.muck_model.specs.Bytes.{text_most, lines_most}
 use Rattle.muck_prop.specs.Order.{path_cmp}
 use Rattle.muck_prop.specs.Store.{PropMap, IsKept}

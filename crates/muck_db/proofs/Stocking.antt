@@ -8,9 +8,9 @@ use Rattle.std.specs.Cmp.{IsTotalOrder}
 use Rattle.std.specs.FinMap.{from_entries, insert, remove, find, from_entries_push}
 use Rattle.std.proofs.lemmas.List.{map-append}
 use Rattle.std.proofs.lemmas.Option.{slice_get_read}
-use Rattle.laws.proofs.Lists.{some_text}
-use Rattle.laws.proofs.Orders.{is_less}
-use Rattle.laws.proofs.Places.{take_next}
+use Rattle.muck_laws.proofs.Lists.{some_text}
+use Rattle.muck_laws.proofs.Orders.{is_less}
+use Rattle.muck_laws.proofs.Places.{take_next}
 use Rattle.muck_prop.specs.declared.value.PropValue.{PropValue}
 use Rattle.muck_prop.specs.declared.value.PropValue.TheVariants.{Text, Number}
 use Rattle.muck_prop.specs.Order.{path_cmp, path_cmp_total}

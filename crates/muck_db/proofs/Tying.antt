@@ -6,10 +6,10 @@ use Rattle.std.specs.Ordering.{nat_cmp}
 use Rattle.std.specs.BTreeMap.{is_at}
 use Rattle.std.specs.List.{slice_get, slice_set, list_any}
 use Rattle.std.specs.Option.{option_map, option_and_then, option_map_or}
-use Rattle.laws.proofs.Found.{later}
-use Rattle.laws.proofs.Mapped.{length_map}
-use Rattle.laws.proofs.Places.{get_ext, get_more}
-use Rattle.laws.proofs.Truths.{either_so, whether}
+use Rattle.muck_laws.proofs.Found.{later}
+use Rattle.muck_laws.proofs.Mapped.{length_map}
+use Rattle.muck_laws.proofs.Places.{get_ext, get_more}
+use Rattle.muck_laws.proofs.Truths.{either_so, whether}
 use Rattle.muck_model.specs.declared.dbref.Dbref.{Dbref}
 use Rattle.muck_model.specs.declared.dbref.Kind.{Kind}
 use Rattle.muck_model.specs.declared.dbref.Kind.TheVariants.{Thing, Player}

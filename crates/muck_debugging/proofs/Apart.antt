@@ -7,9 +7,9 @@ use Rattle.std.proofs.lemmas.Bool.{cond-false, lt-ltb, ltb-false, and_parts, not
 use Rattle.std.proofs.lemmas.Bool.Decides.{nat_tests}
 use Rattle.std.proofs.lemmas.Grind.{flat_map-append}
 use Rattle.std.proofs.lemmas.List.Folds.{list_all-append}
-use Rattle.laws.proofs.Tests.{filter_first, filter_none, filter_whole}
-use Rattle.laws.proofs.Texts.{shown_ended}
-use Rattle.laws.proofs.Truths.{double}
+use Rattle.muck_laws.proofs.Tests.{filter_first, filter_none, filter_whole}
+use Rattle.muck_laws.proofs.Texts.{shown_ended}
+use Rattle.muck_laws.proofs.Truths.{double}
 use Rattle.muck_model.specs.Bytes.{is_outside, text_fault, fault_of_bytes}
 use Rattle.muck_model.specs.declared.event.Entry.{Entry}
 use Rattle.muck_model.specs.declared.event.Event.{Event}

@@ -2,7 +2,7 @@
 use Rattle.std.proofs.Common.{◌≡◌, ℕ, cond, List, [], ◌∷◌, ◌++◌, length, refl, sym, ◌∙◌, ap, suc, append_assoc, append-nil}
 use Rattle.std.proofs.lemmas.Grind.{flat_map-append}
 use Rattle.std.specs.List.{flat_map}
-use Rattle.laws.proofs.Lists.{kept_more, no_parts}
+use Rattle.muck_laws.proofs.Lists.{kept_more, no_parts}
 use Rattle.muck_model.specs.declared.event.Entry.{Entry}
 use Rattle.spec_events.specs.World.{World}
 use Rattle.spec_events.specs.Steps.{effect}

@@ -1,7 +1,7 @@
 -- A dump that is made at once.
 use Rattle.std.proofs.Common.{◌≡◌, ℕ, Bool, true, false, ◌&&◌, List, refl, sym, ap, ◌∙◌, subst, Option, Some, None, Ok, Err}
 use Rattle.std.specs.Prelude.{is_none, ◌||◌, ◌==◌, IsSome}
-use Rattle.laws.proofs.Truths.{and_first}
+use Rattle.muck_laws.proofs.Truths.{and_first}
 use Rattle.muck_model.specs.declared.event.Event.TheVariants.{Cut, Died}
 use Rattle.muck_model.specs.declared.note.Note.{Note}
 use Rattle.muck_log.specs.Store.{LogState, IsMounted}

@@ -1,7 +1,7 @@
 -- The log is mounted again.
 use Rattle.std.proofs.Common.{◌≡◌, ◌⊎◌, inl, inr, ℕ, ◌≤◌, List, refl, sym, subst, arith, Option, Some, None, IsSome}
 use Rattle.std.specs.Prelude.{is_some, false}
-use Rattle.laws.proofs.Results.{never_ok_err}
+use Rattle.muck_laws.proofs.Results.{never_ok_err}
 use Rattle.muck_io.specs.Faults.{Rose}
 use Rattle.muck_log.specs.inner.Mount.{IsMountedAs, IsMountFault}
 use Rattle.muck_log.specs.Store.{LogState, LeavesOnly, store_of}

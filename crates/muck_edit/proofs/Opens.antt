@@ -1,6 +1,6 @@
 -- An editor stays open, and what a line of it does is open to its actor.
 use Rattle.std.proofs.Common.{◌≡◌, ℕ, zero, suc, ◌+◌, ◌-◌, ◌<◌, ◌≤◌, ◌==◌, Bool, true, false, ◌&&◌, cond, nat_lt, nat_le, List, ◌++◌, length, take, drop, codes, bytes_eq, Option, Some, None, Result, Ok, Err, IfSome, OnOk, refl, sym, ◌∙◌, ap, subst, slice_get, arith}
-use Rattle.laws.proofs.Parts.{inserted_few, removed_few}
+use Rattle.muck_laws.proofs.Parts.{inserted_few, removed_few}
 use Rattle.spec_live.proofs.Keeping.{keeps_followed}
 use Rattle.std.proofs.lemmas.Bool.{ltb-true, leb-true, ltb-false}
 use Rattle.std.specs.Option.{option_map, option_and_then, option_map_or}

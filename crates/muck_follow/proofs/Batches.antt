@@ -8,9 +8,9 @@ use Rattle.std.proofs.lemmas.Bool.{cond-true, cond-false, eq-eqb, and_parts, eqb
 use Rattle.std.proofs.lemmas.Nat.{be_bytes_8}
 use Rattle.std.proofs.lemmas.Slice.Eq.{bytes_eq-Decides}
 use Rattle.std.proofs.lemmas.Option.{same_Some, none-some}
-use Rattle.laws.proofs.Options.{and_then_some, cond_some, map_some}
-use Rattle.laws.proofs.Places.{past}
-use Rattle.laws.proofs.Truths.{either_true}
+use Rattle.muck_laws.proofs.Options.{and_then_some, cond_some, map_some}
+use Rattle.muck_laws.proofs.Places.{past}
+use Rattle.muck_laws.proofs.Truths.{either_true}
 use Rattle.muck_codec.specs.declared.stored.Batch.{Batch}
 use Rattle.muck_codec.specs.Batches.{whole_batch}
 use Rattle.muck_codec.specs.Reading.{number_at, ◌>>=◌}

@@ -3,8 +3,8 @@ use Rattle.std.proofs.Common.{◌≡◌, ℕ, ◌+◌, List, [], ◌∷◌, ◌+
 use Rattle.std.specs.Prelude.{MatchOption}
 use Rattle.std.specs.List.{filter, filter_map, flat_map, cons_option}
 use Rattle.std.specs.FinMap.{entries}
-use Rattle.laws.proofs.Lists.{joined}
-use Rattle.laws.proofs.Parts.{one_longer}
+use Rattle.muck_laws.proofs.Lists.{joined}
+use Rattle.muck_laws.proofs.Parts.{one_longer}
 use Rattle.muck_model.specs.declared.dbref.Dbref.{Dbref}
 use Rattle.muck_prop.specs.declared.value.PropValue.{PropValue}
 use Rattle.muck_prop.specs.Order.{is_below}

@@ -2,8 +2,8 @@
 use Rattle.std.proofs.Common.{◌≡◌, ℕ, ◌<◌, List, [], ◌++◌, length, take, drop, sym, ◌∙◌, ap, subst, append_assoc, Option, Some, None}
 use Rattle.std.proofs.lemmas.List.{append-nil}
 use Rattle.std.proofs.Math.Seq.{take-append_seam}
-use Rattle.laws.proofs.Lists.{short_of}
-use Rattle.laws.proofs.Parts.{regroup}
+use Rattle.muck_laws.proofs.Lists.{short_of}
+use Rattle.muck_laws.proofs.Parts.{regroup}
 use Rattle.muck_io.specs.Faults.{Rose}
 use Rattle.muck_io.specs.Sink.{Appends, AppendsFront, BrokeWriting}
 

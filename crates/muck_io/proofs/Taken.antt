@@ -1,8 +1,8 @@
 -- Lemmas on what was read so far.
 use Rattle.std.proofs.Common.{◌≡◌, ℕ, ◌+◌, ◌<◌, ◌≤◌, List, ◌++◌, length, drop, refl, sym, ◌∙◌, ap, subst, arith, Option, Some, None}
 use Rattle.std.proofs.lemmas.List.{drop_at}
-use Rattle.laws.proofs.Lists.{length_both}
-use Rattle.laws.proofs.Parts.{drop_both}
+use Rattle.muck_laws.proofs.Lists.{length_both}
+use Rattle.muck_laws.proofs.Parts.{drop_both}
 use Rattle.muck_io.specs.Faults.{Rose}
 use Rattle.muck_io.specs.Source.{Gives, TookFront, BrokeReading}
 

@@ -2,7 +2,7 @@
 use Rattle.std.proofs.Common.{◌≡◌, ℕ, zero, suc, Bool, true, false, List, [], ◌∷◌, ◌++◌, length, map, take, refl, sym, ap, ◌∙◌, subst, append_assoc, eqb-true}
 use Rattle.std.specs.Prelude.{◌==◌, ◌&&◌, nat_lt, if◌then◌else◌}
 use Rattle.std.proofs.lemmas.List.{append-nil}
-use Rattle.laws.proofs.Parts.{take_snoc}
+use Rattle.muck_laws.proofs.Parts.{take_snoc}
 use Rattle.muck_links.specs.declared.cutter.Mode.{Mode}
 use Rattle.muck_links.specs.declared.cutter.Mode.TheVariants.{Plain, Command, Choice, Inside, Ending}
 use Rattle.muck_links.specs.Lines.{next_mode, bare_bytes, onto_first, line_pieces, is_shown_byte, only_shown, line_most, text, lines}

@@ -2,9 +2,9 @@
 use Rattle.std.proofs.Common.{◌≡◌, ℕ, ◌+◌, ◌<◌, ◌≤◌, true, false, not, cond, List, [], ◌∷◌, ◌++◌, length, length-append, Some, None, Err, refl, ap, ◌∙◌, arith, ltb-true}
 use Rattle.std.specs.Prelude.{◌&&◌, ◌||◌, ◌==◌, nat_lt, nat_le, if◌then◌else◌}
 use Rattle.std.specs.List.{position_or_len}
-use Rattle.laws.proofs.Numbers.{not_less}
-use Rattle.laws.proofs.Options.{no_both}
-use Rattle.laws.proofs.Truths.{and_first, and_rest}
+use Rattle.muck_laws.proofs.Numbers.{not_less}
+use Rattle.muck_laws.proofs.Options.{no_both}
+use Rattle.muck_laws.proofs.Truths.{and_first, and_rest}
 use Rattle.muck_model.specs.Bytes.{is_outside, text_fault, text_most}
 use Rattle.muck_model.specs.Bytes as model
 use Rattle.muck_model.specs.inner.Text.{IsTextOrFault}

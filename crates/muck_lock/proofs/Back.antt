@@ -5,7 +5,7 @@ use Rattle.std.specs.List.{position, position_or_len}
 use Rattle.std.specs.Fmt.{decimal, signed_decimal}
 use Rattle.std.proofs.lemmas.Bool.{lt-ltb, ltb-true, leb-true, eqb-true, ne_eqb, false≢true, not-true}
 use Rattle.std.proofs.lemmas.List.{length-append, append-nil, take_at, drop_at}
-use Rattle.laws.proofs.Truths.{and_first, and_rest}
+use Rattle.muck_laws.proofs.Truths.{and_first, and_rest}
 use Rattle.muck_model.specs.Decimal.{is_digit}
 use Rattle.muck_model.specs.Numbers.{dbref_written}
 use Rattle.muck_model.specs.declared.dbref.Dbref.{Dbref}

@@ -6,7 +6,7 @@ use Rattle.std.specs.List.{list_all}
 use Rattle.std.specs.Fmt.{decimal, signed_decimal}
 use Rattle.std.proofs.lemmas.Bool.{cases_lt, le-leb, ltb-true, leb-true, ne_eqb}
 use Rattle.std.proofs.lemmas.Fmt.{decimal_digit, decimal_nonempty, first_decimal}
-use Rattle.laws.proofs.Truths.{and_first, and_rest}
+use Rattle.muck_laws.proofs.Truths.{and_first, and_rest}
 use Rattle.muck_model.specs.Decimal.{is_digit, is_decimal, decimal_of}
 use Rattle.muck_model.specs.Numbers.{minus, dbref_numbered, signed_of, dbref_written}
 use Rattle.muck_model.proofs.Decimals.{decimal_within, value_of}

@@ -3,8 +3,8 @@ use Rattle.std.proofs.Common.{◌≡◌, ℕ, ◌<◌, ◌≤◌, ◌^◌, suc, 
 use Rattle.std.specs.Prelude.{ℤ, pos, negsuc, ◌&&◌, nat_le, nat_lt}
 use Rattle.std.specs.Fmt.{decimal, signed_decimal}
 use Rattle.std.proofs.lemmas.Bool.{ltb-true, leb-true, le-ltb}
-use Rattle.laws.proofs.Options.{none_of}
-use Rattle.laws.proofs.Truths.{and_first, and_rest}
+use Rattle.muck_laws.proofs.Options.{none_of}
+use Rattle.muck_laws.proofs.Truths.{and_first, and_rest}
 use Rattle.muck_model.specs.Bytes.{text_fault}
 use Rattle.muck_model.specs.Decimal.{is_digit}
 use Rattle.muck_model.specs.declared.lock.Lock.{Lock}

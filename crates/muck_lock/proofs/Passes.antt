@@ -1,7 +1,7 @@
 -- Lists of which each byte passes a test.
 use Rattle.std.proofs.Common.{◌≡◌, ℕ, ◌+◌, zero, suc, Bool, true, false, cond, List, [], ◌∷◌, ◌++◌, length, take, drop, refl, sym, subst, arith}
 use Rattle.std.specs.List.{list_all, prefix_len}
-use Rattle.laws.proofs.Truths.{and_first, and_rest}
+use Rattle.muck_laws.proofs.Truths.{and_first, and_rest}
 
 abbrev pub Passes : (ℕ → Bool) → List ℕ → Type 0
 Passes q xs = prefix_len q xs ≡ length xs

@@ -1,8 +1,8 @@
 -- One step of reading in one pass leaves the outcome.
 use Rattle.std.proofs.Common.{◌≡◌, ℕ, ◌+◌, ◌-◌, ◌<◌, ◌≤◌, true, false, List, [], ◌∷◌, ◌++◌, length, take, drop, reverse, Some, None, Option, Result, Ok, Err, refl, sym, ◌∙◌, ap, subst, arith}
-use Rattle.laws.proofs.Parts.{length-from}
-use Rattle.laws.proofs.Places.{drop-here, drop-past}
-use Rattle.laws.proofs.Truths.{and_first, and_rest}
+use Rattle.muck_laws.proofs.Parts.{length-from}
+use Rattle.muck_laws.proofs.Places.{drop-here, drop-past}
+use Rattle.muck_laws.proofs.Truths.{and_first, and_rest}
 use Rattle.std.specs.Prelude.{not, ◌&&◌, ◌==◌, if◌then◌else◌, slice_get}
 use Rattle.std.specs.List.{before_first, position_or_len}
 use Rattle.std.proofs.lemmas.List.{length-drop, reverse-append, length-reverse, drop-drop, drop_all}

@@ -4,9 +4,9 @@ use Rattle.std.proofs.lemmas.List.{take-append-le, drop_more}
 use Rattle.std.proofs.lemmas.Bool.{cases_eq, cond-true, cond-false, ne_eqb, eqb-true, le-leb, and_from, cases_Bool}
 use Rattle.std.proofs.lemmas.Nat.{from_be_bytes-to_be_bytes_8}
 use Rattle.std.specs.Int.{w64, to_be_bytes, from_be_bytes}
-use Rattle.laws.proofs.Options.{cond_some, map_some}
-use Rattle.laws.proofs.Parts.{part}
-use Rattle.laws.proofs.Places.{get_or_front}
+use Rattle.muck_laws.proofs.Options.{cond_some, map_some}
+use Rattle.muck_laws.proofs.Parts.{part}
+use Rattle.muck_laws.proofs.Places.{get_or_front}
 use Rattle.muck_log.specs.Body.{Body, body_of, body_bytes, magic}
 use Rattle.muck_log.specs.File.{Held, ReadingEnd, Opened, gate_at, begin, byte_step, run, join, reading_end, is_gate_open, header, file_of}
 use Rattle.muck_log.specs.Store.{framed, IsKept, IsDone}

@@ -3,7 +3,7 @@ use Rattle.std.proofs.Common.{◌≡◌, ◌≢◌, ◌⊎◌, inl, inr, ⊎_eli
 use Rattle.std.proofs.lemmas.List.{append-nil, take-append-le, take_all, get_or_push, get_or_append_left}
 use Rattle.std.proofs.lemmas.Bool.{eq-eqb, ne_eqb, cond_both, eqb-true, eqb-false, leb-true, and_parts, or_left, or_right, or_from, le-leb, lt-leb}
 use Rattle.std.specs.Int.{w64, from_be_bytes}
-use Rattle.laws.proofs.Options.{and_then_some, cond_some, map_some}
+use Rattle.muck_laws.proofs.Options.{and_then_some, cond_some, map_some}
 use Rattle.muck_log.specs.Body.{Body, body_of}
 use Rattle.muck_log.specs.World.{laid}
 use Rattle.muck_log.specs.File.{Held, FileReading, ReadingEnd, gate_at, begin, byte_step, run, body_judged, forgotten, join, follows, reading_end, mode_end}

@@ -2,8 +2,8 @@
 use Rattle.std.proofs.Common.{◌≡◌, inl, inr, ℕ, ◌+◌, ◌≤◌, Bool, true, false, not, eqb, ltb, ◌||◌, List, [], ◌∷◌, length, take, drop, Option, Some, None, Ok, Err, option_map, refl, sym, ◌∙◌, ap, subst, arith, length-take, take-append-drop}
 use Rattle.std.proofs.lemmas.List.{take_all, take-take}
 use Rattle.std.proofs.lemmas.Bool.{cases_lt, cond-true, cond-false, lt-leb, cond_both}
-use Rattle.laws.proofs.Lists.{at_files}
-use Rattle.laws.proofs.Parts.{part, take_add}
+use Rattle.muck_laws.proofs.Lists.{at_files}
+use Rattle.muck_laws.proofs.Parts.{part, take_add}
 use Rattle.muck_log.specs.File.{Opened, FileReading, begin, gate_at, run, reading_end, is_gate_open, header, file_of, reached}
 use Rattle.muck_log.specs.Store.{store_of, file_picked, file_loaded, must_close, pick, LeavesOnly, LogState}
 use Rattle.muck_log.specs.inner.Mount.{IsFirst, IsLook, IsChoice, IsLoaded, IsLoadFault, IsMountFault, IsMountedAs, choice}

@@ -6,7 +6,7 @@ use Rattle.std.specs.Int.{w32, to_be_bytes}
 use Rattle.std.proofs.lemmas.List.Concat.{flat_map-cons}
 use Rattle.std.proofs.lemmas.List.Elements.{All-head, All-tail}
 use Rattle.std.proofs.lemmas.Option.{same_Some, none-some}
-use Rattle.laws.proofs.Results.{test_ok}
+use Rattle.muck_laws.proofs.Results.{test_ok}
 use Rattle.muck_model.specs.declared.dbref.Dbref.{Dbref}
 use Rattle.muck_model.specs.declared.tune.Tune.{Tune}
 use Rattle.muck_codec.specs.declared.stored.Stored.{Stored}

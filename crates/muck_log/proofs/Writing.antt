@@ -2,8 +2,8 @@
 use Rattle.std.proofs.Common.{◌≡◌, ◌≢◌, ◌⊎◌, inl, inr, ℕ, ◌+◌, ◌-◌, ◌<◌, ◌≤◌, true, false, eqb, leb, List, [], ◌∷◌, ◌++◌, length, take, drop, get_or, refl, sym, ◌∙◌, ap, arith, length-append, length-take, length-drop, append_assoc}
 use Rattle.std.proofs.lemmas.List.{drop_at, drop_more, get_or_at}
 use Rattle.std.proofs.lemmas.Bool.{cases_eq, cases_lt, leb-true, leb-false, eqb-true, eqb-false, or_cases, or_parts, or_from, lt-leb, ne_eqb}
-use Rattle.laws.proofs.Parts.{front_less}
-use Rattle.laws.proofs.Places.{get_or_front, same_back}
+use Rattle.muck_laws.proofs.Parts.{front_less}
+use Rattle.muck_laws.proofs.Places.{get_or_front, same_back}
 use Rattle.muck_disk.specs.Images.{Torn, bytes_written}
 use Rattle.muck_disk.specs.inner.Memory.{Torn-written}
 use Rattle.muck_log.specs.Store.{IsKept, IsDone, MayBe, must_close}

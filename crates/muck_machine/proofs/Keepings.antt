@@ -3,7 +3,7 @@ use Rattle.std.proofs.Common.{◌≡◌, ◌≢◌, ℕ, zero, suc, Bool, true, 
 use Rattle.std.proofs.lemmas.Bool.{cond-true, cond-false}
 use Rattle.std.specs.Prelude.{ℤ}
 use Rattle.std.specs.Option.{option_map}
-use Rattle.laws.proofs.Truths.{alive_where}
+use Rattle.muck_laws.proofs.Truths.{alive_where}
 use Rattle.muck_model.specs.Told.{Told}
 use Rattle.muck_model.specs.declared.event.Entry.{Entry}
 use Rattle.muck_model.specs.declared.event.Event.{Event}

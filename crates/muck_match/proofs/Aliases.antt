@@ -1,7 +1,7 @@
 -- The aliases of a name, taken off its front one after another.
 use Rattle.std.proofs.Common.{◌≡◌, ℕ, ◌<◌, ◌+◌, Bool, true, false, List, [], ◌∷◌, Option, Some, None, refl, sym, ◌∙◌, ap, subst, length, take, drop, map, arith, eqb}
-use Rattle.laws.proofs.Options.{cond_is}
-use Rattle.laws.proofs.Texts.{split_none}
+use Rattle.muck_laws.proofs.Options.{cond_is}
+use Rattle.muck_laws.proofs.Texts.{split_none}
 use Rattle.std.proofs.lemmas.List.{length-take-le}
 use Rattle.std.proofs.lemmas.List.Splits.{slice_split_first}
 use Rattle.std.proofs.lemmas.List.Quantifiers.{position-Some}

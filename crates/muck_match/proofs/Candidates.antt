@@ -1,7 +1,7 @@
 -- One candidate, none or several, and numbers that are gone over.
 use Rattle.std.proofs.Common.{◌≡◌, ℕ, ◌<◌, ◌+◌, ◌-◌, suc, pos, Bool, false, List, [], ◌∷◌, ◌++◌, Option, refl, sym, ◌∙◌, ap, map, arith}
 use Rattle.std.specs.List.{filter, find, range_with_len}
-use Rattle.laws.proofs.Tests.{filter_append}
+use Rattle.muck_laws.proofs.Tests.{filter_append}
 use Rattle.muck_model.specs.declared.dbref.Dbref.{Dbref}
 use Rattle.muck_model.specs.Numbers.{dbref_numbered}
 use Rattle.muck_match.specs.Scenery.{Scenery, place_in_scenery, numbers}

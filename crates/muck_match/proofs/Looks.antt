@@ -2,7 +2,7 @@
 use Rattle.std.proofs.Common.{◌≡◌, ℕ, Bool, true, false, List, [], ◌∷◌, ◌++◌, Option, Some, None, refl, sym, ◌∙◌, ap, subst}
 use Rattle.std.specs.Option.{option_or, option_map}
 use Rattle.std.specs.List.{filter, flat_map}
-use Rattle.laws.proofs.Tests.{filter_append, filter_no, filter_yes}
+use Rattle.muck_laws.proofs.Tests.{filter_append, filter_no, filter_yes}
 use Rattle.muck_model.specs.declared.dbref.Dbref.{Dbref}
 use Rattle.muck_match.specs.Scenery.{Scenery, sees, is_thing, is_nothing, chain, place_in_scenery, things_in}
 use Rattle.muck_match.specs.Exits.{first_item, hits, hits_on}

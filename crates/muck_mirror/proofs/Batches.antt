@@ -3,7 +3,7 @@ use Rattle.std.proofs.Common.{◌≡◌, inl, inr, ℕ, zero, suc, ◌+◌, ◌-
 use Rattle.std.specs.Prelude.{slice_get, ◌||◌, if◌then◌else◌}
 use Rattle.std.proofs.lemmas.Bool.{cond-true, cond-false, eq-eqb, ne_eqb, eqb-true, eqb-false, lt-ltb, le-ltb, ltb-true, ltb-false}
 use Rattle.std.proofs.lemmas.Option.{same_Some, none-some}
-use Rattle.laws.proofs.Places.{some_at, within}
+use Rattle.muck_laws.proofs.Places.{some_at, within}
 use Rattle.muck_log.specs.World.{StoredWorld, start}
 use Rattle.muck_mirror.specs.Laying.{laid_in}
 use Rattle.muck_mirror.specs.Bodies.{FedBody, fed_body_in}

@@ -5,8 +5,8 @@ use Rattle.std.proofs.lemmas.List.Elements.{All-head, All-tail}
 use Rattle.std.proofs.lemmas.Option.{same_Some}
 use Rattle.std.proofs.Common.{eqb, ltb}
 use Rattle.std.proofs.lemmas.Bool.{eqb-true, eqb-false, ltb-true, ltb-false}
-use Rattle.laws.proofs.Places.{within}
-use Rattle.laws.proofs.Truths.{none}
+use Rattle.muck_laws.proofs.Places.{within}
+use Rattle.muck_laws.proofs.Truths.{none}
 use Rattle.muck_log.specs.World.{start}
 use Rattle.muck_mirror.specs.Mirrors.{Mirror, mirror_made, fed}
 use Rattle.muck_mirror.specs.Fronts.{AreBatches, AllOneOf, Call, HoldsFront, Holds, IsOneOf, IsTaken, WasFed, after_calls, front_world, is_full_answer, mirror_after_call}

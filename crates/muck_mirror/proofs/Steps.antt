@@ -2,7 +2,7 @@
 use Rattle.std.proofs.Common.{◌≡◌, ◌⊎◌, inl, inr, ℕ, suc, ◌+◌, ◌-◌, ◌<◌, ◌≤◌, ◌%◌, ◌^◌, Bool, true, false, eqb, ltb, leb, List, length, map, Some, refl, sym, ◌∙◌, ap, subst, arith}
 use Rattle.std.specs.Prelude.{slice_get, ◌||◌, if◌then◌else◌}
 use Rattle.std.proofs.lemmas.Bool.{cond-true, eqb-true, eqb-false, ltb-true, ltb-false, le-leb, lt-leb}
-use Rattle.laws.proofs.Places.{within}
+use Rattle.muck_laws.proofs.Places.{within}
 use Rattle.muck_mirror.specs.declared.mirror.Fed.{Fed}
 use Rattle.muck_mirror.specs.declared.mirror.Fed.TheVariants.{Applied, Known, Early, Full}
 use Rattle.muck_log.specs.World.{start}

@@ -2,7 +2,7 @@
 use Rattle.std.proofs.Common.{◌≡◌, ℕ, ◌≤◌, List, [], ◌∷◌, ◌++◌, length, take, get_or, refl, sym, ◌∙◌, ap, arith}
 use Rattle.std.specs.Prelude.{slice_set}
 use Rattle.std.proofs.lemmas.List.{set_past, take-append-le, take_all}
-use Rattle.laws.proofs.Places.{restored}
+use Rattle.muck_laws.proofs.Places.{restored}
 use Rattle.muck_codec.specs.declared.stored.Stored.{Stored}
 use Rattle.muck_mirror.specs.declared.world.Replaced.{Replaced}
 use Rattle.muck_mirror.specs.inner.Undoing.{put_back, undone}

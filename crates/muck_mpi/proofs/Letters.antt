@@ -4,8 +4,8 @@ use Rattle.std.specs.Prelude.{codes, Result, Ok, Err}
 use Rattle.std.specs.List.{filter, flat_map}
 use Rattle.std.proofs.lemmas.Bool.{lt-ltb}
 use Rattle.std.proofs.lemmas.List.{append-nil, length-append, length-drop}
-use Rattle.laws.proofs.Lists.{sign_put}
-use Rattle.laws.proofs.Tests.{all_append, all_cons, all_drop, all_filter, few_filter}
+use Rattle.muck_laws.proofs.Lists.{sign_put}
+use Rattle.muck_laws.proofs.Tests.{all_append, all_cons, all_drop, all_filter, few_filter}
 use Rattle.muck_model.specs.declared.dbref.Dbref.{Dbref}
 use Rattle.mpi.specs.declared.fault.MpiFault.{MpiFault}
 use Rattle.mpi.specs.declared.fault.MpiFault.TheVariants.{TooLong}

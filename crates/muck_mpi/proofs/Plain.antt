@@ -1,7 +1,7 @@
 -- A text without brackets and without `\` means itself, and changes nothing.
 use Rattle.std.proofs.Common.{◌≡◌, ℕ, ◌+◌, ◌≤◌, Bool, true, false, cond, List, [], ◌∷◌, ◌++◌, length, refl, sym, ap, ◌∙◌, arith, append_assoc, append-nil, length-append, None}
-use Rattle.laws.proofs.Tests.{all_head, all_tail}
-use Rattle.laws.proofs.Truths.{plain_free}
+use Rattle.muck_laws.proofs.Tests.{all_head, all_tail}
+use Rattle.muck_laws.proofs.Truths.{plain_free}
 use Rattle.mpi.specs.declared.fault.MpiFault.TheVariants.{Unclosed}
 use Rattle.std.specs.Prelude.{Ok, Err, ◌==◌, not, ◌&&◌, nat_lt}
 use Rattle.std.specs.List.{list_all}

@@ -1,6 +1,6 @@
 -- What making an object, and then setting a field of it, makes of the world of a guard.
 use Rattle.std.proofs.Common.{◌≡◌, ℕ, Bool, true, false, cond, eqb, not, ◌||◌, ◌&&◌, Option, Some, None, Result, Ok, Err, refl, sym, ◌∙◌, ap, subst, List}
-use Rattle.laws.proofs.Places.{set_back}
+use Rattle.muck_laws.proofs.Places.{set_back}
 use Rattle.muck_db.proofs.Showing.{alive_number}
 use Rattle.std.proofs.lemmas.Bool.{false≢true, eq-eqb}
 use Rattle.std.specs.Prelude.{nat_lt}

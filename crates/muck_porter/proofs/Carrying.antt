@@ -5,7 +5,7 @@ use Rattle.std.specs.List.{remove}
 use Rattle.std.proofs.lemmas.List.{append-nil}
 use mathlib.Core.Option.{some}
 use lib.ListN.{get_elem?}
-use Rattle.laws.proofs.Places.{set_same}
+use Rattle.muck_laws.proofs.Places.{set_same}
 use Rattle.turn_lock.specs.Histories.{StartsWith, own_of}
 use Rattle.muck_links.specs.Sessions.{LinksTold, on_session, shut}
 use Rattle.muck_model.specs.declared.event.Entry.{Entry}

@@ -3,7 +3,7 @@ use Rattle.std.proofs.Common.{◌≡◌, ℕ, Bool, true, false, List, [], set, 
 use Rattle.std.specs.Prelude.{is_some}
 use mathlib.Core.Option.{some, some-injective}
 use lib.ListN.{get_elem?}
-use Rattle.laws.proofs.Places.{set_set, set_there}
+use Rattle.muck_laws.proofs.Places.{set_set, set_there}
 use Rattle.muck_links.specs.Sessions.{LinksTold, on_session, shut}
 use Rattle.muck_model.specs.declared.event.Event.{Event}
 use Rattle.muck_model.specs.declared.event.Event.TheVariants.{Died}

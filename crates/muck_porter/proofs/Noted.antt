@@ -3,8 +3,8 @@ use Rattle.std.proofs.Common.{◌≡◌, ℕ, zero, suc, ◌+◌, ◌<◌, ◌==
 use Rattle.std.specs.Prelude.{is_some, slice_get}
 use Rattle.std.proofs.lemmas.Option.{none-some}
 use Rattle.std.proofs.lemmas.Bool.Decides.{nat_tests}
-use Rattle.laws.proofs.Numbers.{is_zero}
-use Rattle.laws.proofs.Truths.{all_true, is_due, none_due, not_all, or_false}
+use Rattle.muck_laws.proofs.Numbers.{is_zero}
+use Rattle.muck_laws.proofs.Truths.{all_true, is_due, none_due, not_all, or_false}
 use Rattle.atomic_table.proofs.Lists.{at_longer}
 use Rattle.turn_lock.specs.Histories.{StartsWith, own_of, entry_kept}
 use Rattle.muck_links.specs.Sessions.{LinksTold}

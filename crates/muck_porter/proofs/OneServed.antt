@@ -5,7 +5,7 @@ use Rattle.std.proofs.lemmas.List.{length-set}
 use Rattle.std.proofs.lemmas.List.Edits.{length-remove}
 use mathlib.Core.Option.{some}
 use lib.ListN.{get_elem?}
-use Rattle.laws.proofs.Places.{at_below, set_same, set_there}
+use Rattle.muck_laws.proofs.Places.{at_below, set_same, set_there}
 use Rattle.muck_links.specs.Sessions.{LinksTold}
 use Rattle.muck_model.specs.declared.event.Event.{Event}
 use Rattle.muck_model.specs.declared.event.Event.TheVariants.{Input, Closed, Take, Moment}

@@ -3,7 +3,7 @@ use Rattle.std.proofs.Common.{◌≡◌, ℕ, Bool, true, false, List, [], ◌�
 use Rattle.std.specs.Prelude.{◌==◌, is_some}
 use Rattle.std.proofs.lemmas.Bool.{and_parts}
 use Rattle.std.proofs.lemmas.List.{append-nil}
-use Rattle.laws.proofs.Truths.{allowed_one, opposed}
+use Rattle.muck_laws.proofs.Truths.{allowed_one, opposed}
 use Rattle.turn_lock.specs.Histories.{own_of, StartsWith}
 use Rattle.muck_links.specs.Sessions.{LinksTold}
 use Rattle.muck_model.specs.declared.event.Entry.{Entry}

@@ -12,11 +12,11 @@ use Rattle.std.specs.List.Sorted.{IsStrictlySortedBy}
 use Rattle.std.specs.Map.{keys_of}
 use Rattle.std.specs.FinMap.{get, keys, entries, entries_sorted, is_sorted, contains_key-keys}
 use Rattle.std.specs.FinMap.Entries.{below_all}
-use Rattle.laws.proofs.Options.{some_is}
-use Rattle.laws.proofs.Orders.{less_of, then_less}
-use Rattle.laws.proofs.Tests.{at_any, later_any}
-use Rattle.laws.proofs.Texts.{bytes_equal_itself, same_bytes}
-use Rattle.laws.proofs.Truths.{both_of}
+use Rattle.muck_laws.proofs.Options.{some_is}
+use Rattle.muck_laws.proofs.Orders.{less_of, then_less}
+use Rattle.muck_laws.proofs.Tests.{at_any, later_any}
+use Rattle.muck_laws.proofs.Texts.{bytes_equal_itself, same_bytes}
+use Rattle.muck_laws.proofs.Truths.{both_of}
 use Rattle.muck_prop.specs.declared.value.PropValue.{PropValue}
 use Rattle.muck_prop.specs.Order.{segment_cmp, path_cmp, path_cmp_total, is_below, child}
 use Rattle.muck_prop.specs.Store.{PropMap, is_dir, is_after, next_among, next_child, IsChild, IsLeastChild}

@@ -8,8 +8,8 @@ use Rattle.std.specs.Option.{option_map_or}
 use Rattle.std.specs.Map.{lookup}
 use Rattle.std.specs.BTreeMap.{is_at}
 use Rattle.std.specs.FinMap.{get, from_entries}
-use Rattle.laws.proofs.Found.{lookup_same}
-use Rattle.laws.proofs.Orders.{equal_then}
+use Rattle.muck_laws.proofs.Found.{lookup_same}
+use Rattle.muck_laws.proofs.Orders.{equal_then}
 use Rattle.muck_prop.specs.declared.value.PropValue.{PropValue}
 use Rattle.muck_prop.specs.declared.path.PropFault.{PropFault}
 use Rattle.muck_prop.specs.Order.{path_cmp, path_eq, path_ties}

@@ -4,9 +4,9 @@ use Rattle.std.proofs.lemmas.Bool.{ltb-false, eqb-false}
 use Rattle.std.specs.Prelude.{Option, None, Some, if◌then◌else◌, ◌==◌}
 use Rattle.std.specs.Char.{to_ascii_lowercase}
 use Rattle.std.specs.List.{AllByRecursion, filter, list_any, slice_split, onto_first}
-use Rattle.laws.proofs.Tests.{both_hold, no_place, none_passes}
-use Rattle.laws.proofs.Texts.{onto_first_part}
-use Rattle.laws.proofs.Truths.{none_of_three}
+use Rattle.muck_laws.proofs.Tests.{both_hold, no_place, none_passes}
+use Rattle.muck_laws.proofs.Texts.{onto_first_part}
+use Rattle.muck_laws.proofs.Truths.{none_of_three}
 use Rattle.muck_model.specs.Bytes.{is_outside, text_fault, text_most}
 use Rattle.muck_model.specs.Bytes as model
 use Rattle.muck_prop.specs.Paths.{is_slash, is_filled, is_barred, segments_of, path_text, is_bad_path, fault_of_path, IsSegmentByte, IsSegment, IsPath}

@@ -11,7 +11,7 @@ use Rattle.std.specs.declared.cmp.Ordering.{Ordering}
 use Rattle.std.specs.declared.cmp.Ordering.TheVariants.{Less, Equal, Greater}
 use Rattle.std.specs.List.{AllByRecursion, list_any, find}
 use Rattle.std.specs.List.Sorted.{IsStrictlySortedBy}
-use Rattle.laws.proofs.Orders.{equal_then, is_less, then_less, zero_least}
+use Rattle.muck_laws.proofs.Orders.{equal_then, is_less, then_less, zero_least}
 use Rattle.muck_prop.specs.Order.{segment_cmp, path_cmp, path_cmp_total, is_below, child, past}
 use Rattle.muck_prop.specs.Store.{is_after, next_among, found_child}
 

@@ -4,7 +4,7 @@ use Rattle.std.specs.List.{filter, reduce}
 use Rattle.std.specs.Option.{option_map_or}
 use Rattle.std.proofs.lemmas.List.Elements.{filter_more}
 use Rattle.std.proofs.lemmas.List.{append-nil}
-use Rattle.laws.proofs.Mapped.{reduce_push}
+use Rattle.muck_laws.proofs.Mapped.{reduce_push}
 use Rattle.muck_queue.specs.declared.process.Process.{Process}
 use Rattle.muck_queue.specs.Queues.{earlier, earliest}
 

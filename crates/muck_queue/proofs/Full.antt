@@ -3,8 +3,8 @@ use Rattle.std.proofs.Common.{◌≡◌, ◌≢◌, false, length}
 use Rattle.std.specs.Prelude.{nat_le}
 use Rattle.std.specs.List.{count_by}
 use Rattle.std.specs.Ordering.{int_eq}
-use Rattle.laws.proofs.Numbers.{int_equal}
-use Rattle.laws.proofs.Truths.{last_of}
+use Rattle.muck_laws.proofs.Numbers.{int_equal}
+use Rattle.muck_laws.proofs.Truths.{last_of}
 use Rattle.muck_model.specs.declared.dbref.Dbref.{Dbref}
 use Rattle.muck_model.specs.declared.tune.Tune.{Tune}
 use Rattle.muck_queue.specs.Queues.{Queue, is_queue_full, is_process_of, number_most}

@@ -6,9 +6,9 @@ use Rattle.std.specs.Option.{option_map}
 use Rattle.std.proofs.lemmas.Bool.{cond_both, le-leb}
 use Rattle.std.proofs.lemmas.List.{take_more}
 use Rattle.std.proofs.Math.Bool.{or-true}
-use Rattle.laws.proofs.Numbers.{event_of, lower_of, not_due}
-use Rattle.laws.proofs.Options.{untied_of}
-use Rattle.laws.proofs.Truths.{or_last, taken_of, waiting_of}
+use Rattle.muck_laws.proofs.Numbers.{event_of, lower_of, not_due}
+use Rattle.muck_laws.proofs.Options.{untied_of}
+use Rattle.muck_laws.proofs.Truths.{or_last, taken_of, waiting_of}
 use Rattle.muck_model.specs.declared.dbref.Dbref.{Dbref}
 use Rattle.muf_model.specs.Datum.{Datum}
 use Rattle.muck_queue.specs.declared.claim.Claim.{Claim}

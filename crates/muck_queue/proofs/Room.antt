@@ -7,8 +7,8 @@ use Rattle.std.proofs.lemmas.Bool.{cond_both}
 use Rattle.std.proofs.lemmas.Int.{ints}
 use Rattle.std.proofs.Math.Bool.{or-false}
 use Rattle.std.proofs.lemmas.Cmp.{int_eq_equiv}
-use Rattle.laws.proofs.Numbers.{at_most_more, both_more, fewer_one, taken_here, taken_later}
-use Rattle.laws.proofs.Truths.{or_assoc}
+use Rattle.muck_laws.proofs.Numbers.{at_most_more, both_more, fewer_one, taken_here, taken_later}
+use Rattle.muck_laws.proofs.Truths.{or_assoc}
 use Rattle.muck_model.specs.declared.dbref.Dbref.{Dbref}
 use Rattle.muck_queue.specs.declared.claim.Claim.{Claim}
 use Rattle.muck_queue.specs.declared.process.Process.{Process}

@@ -1,6 +1,6 @@
 -- A dump as a part of a run: it begins, and comes out.
 use Rattle.std.proofs.Common.{◌≡◌, inl, inr, ℕ, Bool, true, false, List, [], ◌∷◌, refl, ap, ◌∙◌, Option, Some, None, Ok, Err}
-use Rattle.laws.proofs.Lists.{no_ending}
+use Rattle.muck_laws.proofs.Lists.{no_ending}
 use Rattle.muck_model.specs.declared.event.Event.{Event}
 use Rattle.muck_model.specs.declared.event.Event.TheVariants.{Cut, Stored, DumpFailed, Died}
 use Rattle.muck_model.specs.declared.note.Note.{Note}

@@ -5,8 +5,8 @@ use Rattle.std.specs.List.{list_all}
 use Rattle.std.specs.Option.{option_map_or}
 use Rattle.std.proofs.lemmas.List.Folds.{list_all-append}
 use Rattle.std.proofs.lemmas.Bool.{and_parts}
-use Rattle.laws.proofs.Numbers.{apart_above, le_more}
-use Rattle.laws.proofs.Options.{none_where_not_some}
+use Rattle.muck_laws.proofs.Numbers.{apart_above, le_more}
+use Rattle.muck_laws.proofs.Options.{none_where_not_some}
 use Rattle.muck_links.specs.Keyed.{altered, latest}
 use Rattle.muck_model.specs.declared.event.Entry.{Entry}
 use Rattle.muck_model.specs.declared.event.Event.{Event}

@@ -1,6 +1,6 @@
 -- Lemmas on parts of a run.
 use Rattle.std.proofs.Common.{◌≡◌, ℕ, ◌<◌, ◌≤◌, Bool, true, false, cond, List, [], ◌∷◌, ◌++◌, length, take, drop, refl, sym, ◌∙◌, ap, subst, arith, append_assoc, append-nil, Option, Some, None, Result, Ok, Err, min}
-use Rattle.laws.proofs.Lists.{no_ending}
+use Rattle.muck_laws.proofs.Lists.{no_ending}
 use Rattle.muck_io.proofs.Appended.{appends_twice}
 use Rattle.std.proofs.lemmas.Bool.{lt-ltb, cond-true, cond-false}
 use Rattle.std.proofs.lemmas.List.{take-append-drop}

@@ -1,7 +1,7 @@
 -- The turns after a line: nothing is written of them, they leave the world alive, and no dump is among them.
 use Rattle.std.proofs.Common.{◌≡◌, ℕ, ℤ, false, List, [], ◌∷◌, ◌++◌, refl, sym, ◌∙◌, ap, Option, Some, None, suc, zero, subst}
 use Rattle.std.specs.List.{list_any}
-use Rattle.laws.proofs.Lists.{no_ending}
+use Rattle.muck_laws.proofs.Lists.{no_ending}
 use Rattle.muck_model.specs.declared.event.Entry.{Entry}
 use Rattle.muck_model.specs.declared.event.Event.TheVariants.{Exec, Claim, Slice, Died}
 use Rattle.spec_events.specs.Logged.{is_dump}

@@ -2,7 +2,7 @@
 use Rattle.std.proofs.Common.{◌≡◌, ℕ, zero, suc, ◌<◌, Bool, true, false, List, [], ◌∷◌, ◌++◌, refl, sym, ap, ◌∙◌, subst, arith, eqb-true, Option, Some}
 use Rattle.std.specs.Prelude.{◌==◌, map, slice_get, is_some}
 use Rattle.std.proofs.lemmas.Option.{none-some, same_Some}
-use Rattle.laws.proofs.Truths.{opposed}
+use Rattle.muck_laws.proofs.Truths.{opposed}
 use Rattle.turn_lock.specs.Histories.{entry_kept, own_of}
 use Rattle.muck_model.specs.declared.event.Entry.{Entry}
 use Rattle.muck_model.specs.declared.event.Event.{Event}

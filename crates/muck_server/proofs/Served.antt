@@ -1,8 +1,8 @@
 -- What a run comes to, from what all its parts left and how it ended.
 use Rattle.std.proofs.Common.{◌≡◌, ◌⊎◌, inl, inr, ℕ, ◌<◌, ◌≤◌, ◌^◌, Bool, true, false, List, [], ◌∷◌, ◌++◌, length, refl, sym, ap, ◌∙◌, subst, arith, length-append, Option}
 use Rattle.std.specs.Prelude.{is_some}
-use Rattle.laws.proofs.Numbers.{few_left}
-use Rattle.laws.proofs.Truths.{opposed}
+use Rattle.muck_laws.proofs.Numbers.{few_left}
+use Rattle.muck_laws.proofs.Truths.{opposed}
 use Rattle.muck_io.specs.Faults.{Rose}
 use Rattle.muck_log.specs.Store.{LogState}
 use Rattle.muck_model.specs.declared.event.Entry.{Entry}

@@ -4,7 +4,7 @@ use Rattle.std.specs.Prelude.{◌==◌, if◌then◌else◌, slice_get, is_some}
 use Rattle.std.specs.Option.{option_and_then}
 use Rattle.std.proofs.lemmas.List.{append-nil}
 use Rattle.std.proofs.lemmas.Option.{none-some, same_Some}
-use Rattle.laws.proofs.Truths.{not_so}
+use Rattle.muck_laws.proofs.Truths.{not_so}
 use Rattle.turn_lock.specs.Histories.{entry_kept, own_of}
 use Rattle.turn_lock.proofs.Parts.{own_append}
 use Rattle.muck_model.specs.declared.event.Entry.{Entry}

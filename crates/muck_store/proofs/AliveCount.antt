@@ -4,8 +4,8 @@ use Rattle.std.specs.Prelude.{not, if◌then◌else◌}
 use Rattle.std.proofs.lemmas.Bool.{false≢true}
 use Rattle.std.proofs.lemmas.List.Sums.{sum_by-cons}
 use Rattle.std.specs.List.{slice_get, count_by}
-use Rattle.laws.proofs.Lists.{count_step}
-use Rattle.laws.proofs.Places.{some_at}
+use Rattle.muck_laws.proofs.Lists.{count_step}
+use Rattle.muck_laws.proofs.Places.{some_at}
 use Rattle.spec_live.specs.Chain.{Member, IsApart}
 use Rattle.spec_live.specs.Objects.{Entry, is_garbage, kind_in}
 use Rattle.muck_codec.specs.declared.stored.Stored.{Stored}

@@ -3,7 +3,7 @@ use Rattle.std.proofs.Common.{◌≡◌, ℕ, List, [], Option, Some, None, refl
 use Rattle.std.proofs.lemmas.Option.{slice_get-map, same_Some, none-some}
 use Rattle.std.specs.List.{slice_get}
 use Rattle.std.specs.Option.{option_map, option_and_then, option_map_or}
-use Rattle.laws.proofs.Mapped.{length_map}
+use Rattle.muck_laws.proofs.Mapped.{length_map}
 use Rattle.muck_model.specs.declared.dbref.Kind.TheVariants.{Garbage}
 use Rattle.muck_codec.specs.declared.stored.Stored.{Stored}
 use Rattle.spec_live.specs.declared.object.Object.{Object}

@@ -6,7 +6,7 @@ use Rattle.std.proofs.Math.ListN.{length-replicate, length-set}
 use Rattle.std.proofs.lemmas.List.Folds.{list_any-append, sum_by-replicate}
 use Rattle.std.proofs.lemmas.List.Sums.{sum_by-set, count_by-le-length}
 use Rattle.std.specs.List.{count_by}
-use Rattle.laws.proofs.Truths.{or_false}
+use Rattle.muck_laws.proofs.Truths.{or_false}
 use Rattle.spec_live.specs.Chain.{has}
 use Rattle.muck_store.specs.inner.Marks.{IsMarked}
 

@@ -6,8 +6,8 @@ use Rattle.std.proofs.lemmas.Map.Steps.{length-le_from_distinct_below}
 use Rattle.std.proofs.lemmas.Option.{same_Some, none-some, slice_get_within, option_and_then_some}
 use Rattle.std.specs.List.{slice_get}
 use Rattle.std.specs.Option.{option_and_then, option_map_or}
-use Rattle.laws.proofs.Places.{get_left, get_none}
-use Rattle.laws.proofs.Truths.{exit_or_not}
+use Rattle.muck_laws.proofs.Places.{get_left, get_none}
+use Rattle.muck_laws.proofs.Truths.{exit_or_not}
 use Rattle.muck_model.proofs.Dbrefs.{eq_same}
 use Rattle.muck_codec.specs.declared.stored.Stored.{Stored}
 use Rattle.spec_live.specs.Chain.{walk, IsChain, Member, IsApart, has}

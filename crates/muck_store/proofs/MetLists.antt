@@ -3,7 +3,7 @@ use Rattle.std.proofs.Common.{◌≡◌, ◌⊎◌, ℕ, ◌<◌, ◌≤◌, zer
 use Rattle.std.proofs.lemmas.Bool.{cases_eq, ne_eqb, eq-eqb}
 use Rattle.std.proofs.lemmas.Map.Steps.{length-le_from_distinct_below}
 use Rattle.std.specs.List.{slice_get}
-use Rattle.laws.proofs.Lists.{fewer_by}
+use Rattle.muck_laws.proofs.Lists.{fewer_by}
 use Rattle.spec_live.specs.Chain.{Member, IsApart, without_number}
 use Rattle.spec_live.proofs.Chains.{apart_distinct, member_any, member_without}
 

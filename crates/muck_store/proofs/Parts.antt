@@ -4,7 +4,7 @@ use Rattle.std.proofs.lemmas.Bool.{and_parts, cases_Bool, eqb-true, false≢true
 use Rattle.std.proofs.lemmas.Option.{none-some}
 use Rattle.std.specs.List.{count_by, slice_get}
 use Rattle.std.specs.Option.{option_map_or, option_and_then}
-use Rattle.laws.proofs.Options.{nowhere_by}
+use Rattle.muck_laws.proofs.Options.{nowhere_by}
 use Rattle.muck_model.specs.declared.dbref.Kind.{Kind}
 use Rattle.muck_model.specs.declared.dbref.Kind.TheVariants.{Room, Player, Garbage}
 use Rattle.muck_model.proofs.Dbrefs.{eq_same}

@@ -9,8 +9,8 @@ use Rattle.std.specs.List.Sorted.{IsStrictlySortedBy}
 use Rattle.std.specs.Map.{keys_of}
 use Rattle.std.specs.Option.{option_and_then}
 use Rattle.std.specs.declared.cmp.Ordering.TheVariants.{Less}
-use Rattle.laws.proofs.Orders.{is_less}
-use Rattle.laws.proofs.Tests.{all_get}
+use Rattle.muck_laws.proofs.Orders.{is_less}
+use Rattle.muck_laws.proofs.Tests.{all_get}
 use Rattle.muck_model.specs.declared.dbref.Dbref.{Dbref}
 use Rattle.muck_model.proofs.Dbrefs.{eq_same}
 use Rattle.muck_prop.specs.Order.{path_cmp, path_cmp_total}

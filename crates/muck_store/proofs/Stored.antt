@@ -1,6 +1,6 @@
 -- The stored form of a consistent world is whole: a dump of it can be read back.
 use Rattle.std.proofs.Common.{◌≡◌, List, ◌∙◌, ap, true}
-use Rattle.laws.proofs.Truths.{all_three}
+use Rattle.muck_laws.proofs.Truths.{all_three}
 use Rattle.spec_live.specs.Objects.{Entry, is_player}
 use Rattle.spec_live.specs.Consistent.{IsConsistent}
 use Rattle.muck_store.specs.Forms.{persist}

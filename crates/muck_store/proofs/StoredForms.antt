@@ -4,7 +4,7 @@ use Rattle.std.specs.Prelude.{pos, negsuc, not, ◌&&◌, if◌then◌else◌}
 use Rattle.std.proofs.lemmas.Bool.{and_from, false≢true, cases_lt}
 use Rattle.std.specs.List.{slice_get}
 use Rattle.std.specs.Option.{option_map, option_and_then, option_map_or}
-use Rattle.laws.proofs.Truths.{exits_agree}
+use Rattle.muck_laws.proofs.Truths.{exits_agree}
 use Rattle.muck_model.specs.declared.dbref.Dbref.{Dbref}
 use Rattle.muck_model.specs.declared.dbref.Kind.TheVariants.{Garbage}
 use Rattle.muck_model.proofs.Dbrefs.{same_eq}

@@ -4,8 +4,8 @@ use Rattle.std.specs.Prelude.{not, ◌&&◌, nat_lt}
 use Rattle.std.proofs.lemmas.Bool.{cases_eq, ne_eqb, eq-eqb, lt-ltb, or_right, false≢true}
 use Rattle.std.specs.List.{slice_get}
 use Rattle.std.specs.List.Sorted.{IsStrictlySortedBy}
-use Rattle.laws.proofs.Options.{or_none}
-use Rattle.laws.proofs.Truths.{all_five, all_three, either_way, one_of_three}
+use Rattle.muck_laws.proofs.Options.{or_none}
+use Rattle.muck_laws.proofs.Truths.{all_five, all_three, either_way, one_of_three}
 use Rattle.muck_model.specs.declared.dbref.Dbref.{Dbref}
 use Rattle.muck_model.specs.declared.dbref.Kind.{Kind}
 use Rattle.muck_model.specs.declared.dbref.Kind.TheVariants.{Thing, Player}

@@ -5,8 +5,8 @@ use Rattle.std.proofs.lemmas.Option.{slice_get_past, slice_get_within}
 use Rattle.std.specs.Prelude.{not}
 use Rattle.std.specs.List.{slice_get, count_by}
 use Rattle.std.specs.Option.{option_and_then}
-use Rattle.laws.proofs.Options.{or_none}
-use Rattle.laws.proofs.Places.{get_front, some_at}
+use Rattle.muck_laws.proofs.Options.{or_none}
+use Rattle.muck_laws.proofs.Places.{get_front, some_at}
 use Rattle.spec_live.specs.Chain.{walk, IsChain, Ends, Member, IsApart}
 use Rattle.spec_live.specs.Objects.{Entry, is_exit, is_garbage, list_in, kind_in, place_in, is_vehicle_in, fits_in}
 use Rattle.spec_live.specs.Consistent.{IsOrdered, IsConsistent}

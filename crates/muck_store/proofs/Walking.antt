@@ -3,7 +3,7 @@ use Rattle.std.proofs.Common.{◌≡◌, ℕ, ◌+◌, ◌-◌, ◌<◌, ◌≤�
 use Rattle.std.proofs.lemmas.Option.{slice_get-get_or, slice_get_past}
 use Rattle.std.specs.List.{slice_get, count_by}
 use Rattle.std.specs.Option.{option_and_then, option_map_or}
-use Rattle.laws.proofs.Truths.{and_not}
+use Rattle.muck_laws.proofs.Truths.{and_not}
 use Rattle.spec_live.specs.Chain.{has}
 use Rattle.spec_live.specs.Objects.{is_garbage}
 use Rattle.muck_codec.specs.declared.stored.Stored.{Stored}

@@ -4,7 +4,7 @@ use Rattle.std.proofs.lemmas.List.{drop_more, drop_all}
 use Rattle.std.proofs.lemmas.Bool.{cond-true, cond-false}
 use Rattle.std.specs.List.{flat_map}
 use Rattle.std.specs.Option.{option_and_then}
-use Rattle.laws.proofs.Results.{on_ok_as}
+use Rattle.muck_laws.proofs.Results.{on_ok_as}
 use Rattle.muck_model.specs.declared.dbref.Dbref.{Dbref}
 use Rattle.muck_model.specs.declared.event.Event.TheVariants.{Exec, Slice, Closed}
 use Rattle.muck_model.specs.declared.memory.NoMemory.{NoMemory}

@@ -4,7 +4,7 @@ use Rattle.std.specs.Prelude.{ℤ}
 use Rattle.std.specs.Option.{option_map_or}
 use Rattle.std.proofs.lemmas.Bool.{cond-true, cond-false, lt-leb}
 use Rattle.std.proofs.Math.Nat.{min-le_left, min-le_right}
-use Rattle.laws.proofs.Numbers.{through_not}
+use Rattle.muck_laws.proofs.Numbers.{through_not}
 use Rattle.muck_model.specs.declared.tune.Tune.{Tune}
 use Rattle.muf_model.specs.declared.fault.MufFault.{MufFault}
 use Rattle.muf_model.specs.declared.fault.MufFault.TheVariants.{PreemptTooLong, TooManyUnits}

@@ -3,8 +3,8 @@ use Rattle.std.proofs.Common.{◌≡◌, inl, inr, ℕ, zero, suc, ◌+◌, Bool
 use Rattle.std.specs.Prelude.{OnOk, is_some, is_none, nat_lt}
 use Rattle.std.specs.List.{flat_map}
 use Rattle.std.proofs.lemmas.List.Folds.{list_all-append}
-use Rattle.laws.proofs.Lists.{no_ending}
-use Rattle.laws.proofs.Truths.{opposed}
+use Rattle.muck_laws.proofs.Lists.{no_ending}
+use Rattle.muck_laws.proofs.Truths.{opposed}
 use Rattle.muck_io.specs.Sink.{Appends}
 use Rattle.muck_io.proofs.Appended.{appends_twice}
 use Rattle.muck_model.specs.Bytes.{text_fault}

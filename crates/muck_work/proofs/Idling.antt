@@ -4,10 +4,10 @@ use Rattle.std.specs.Prelude.{find}
 use Rattle.std.specs.List.{list_any}
 use Rattle.std.specs.Option.{option_map}
 use Rattle.std.proofs.lemmas.Bool.{cond-false, lt-ltb}
-use Rattle.laws.proofs.Mapped.{reduced_none}
-use Rattle.laws.proofs.Options.{mapped_none}
-use Rattle.laws.proofs.Tests.{found_none, none_passes_idling}
-use Rattle.laws.proofs.Truths.{none_going}
+use Rattle.muck_laws.proofs.Mapped.{reduced_none}
+use Rattle.muck_laws.proofs.Options.{mapped_none}
+use Rattle.muck_laws.proofs.Tests.{found_none, none_passes_idling}
+use Rattle.muck_laws.proofs.Truths.{none_going}
 use Rattle.muck_model.specs.declared.event.Event.TheVariants.{Idle}
 use Rattle.spec_live.specs.Connections.{Connection}
 use Rattle.muck_queue.specs.declared.process.Process.{Process}

@@ -3,7 +3,7 @@ use Rattle.std.proofs.Common.{◌≡◌, ◌∙◌, ap, sym, refl, ℕ, zero, su
 use Rattle.std.specs.Prelude.{Option, ℤ, pos, negsuc, nat_lt, slice_get}
 use Rattle.std.specs.Option.{option_or, option_and_then}
 use Rattle.std.proofs.lemmas.List.{length-map, append_assoc}
-use Rattle.laws.proofs.Numbers.{enough}
+use Rattle.muck_laws.proofs.Numbers.{enough}
 use Rattle.muf_model.specs.declared.fault.MufFault.{MufFault}
 use Rattle.muf_model.specs.declared.fault.MufFault.TheVariants.{BadType, BadArgument}
 use Rattle.muf_model.specs.declared.needs.Need.{Need}

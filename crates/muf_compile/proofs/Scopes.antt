@@ -4,7 +4,7 @@ use Rattle.std.specs.Prelude.{Option, Some, None, is_some, option_map, find, cod
 use Rattle.std.specs.Str.{bytes_eq}
 use Rattle.std.specs.Map.{lookup}
 use Rattle.std.specs.Option.{option_or}
-use Rattle.laws.proofs.Texts.{bytes_equal_itself, same_bytes}
+use Rattle.muck_laws.proofs.Texts.{bytes_equal_itself, same_bytes}
 use Rattle.indexmap.specs.IndexMap.{insert_entry}
 use Rattle.muf_model.specs.declared.code.VarId.{VarId}
 use Rattle.muf_model.specs.declared.code.Word.{Word}

@@ -2,7 +2,7 @@
 use Rattle.std.proofs.Common.{◌≡◌, ℕ, ◌+◌, ◌≤◌, Bool, true, false, cond, List, [], ◌∷◌, ◌++◌, length, Option, Some, None, refl, ap, arith, length-append, subst, ◌∙◌}
 use Rattle.std.specs.Prelude.{option_map, ◌==◌}
 use Rattle.std.proofs.lemmas.Bool.Decides.{Decides-eqb}
-use Rattle.laws.proofs.Lists.{cond_mapped}
+use Rattle.muck_laws.proofs.Lists.{cond_mapped}
 use Rattle.muck_model.specs.Bytes.{text_fault, text_most}
 use Rattle.muf_token.specs.inner.Bytes.{are_inside}
 use Rattle.muf_token.proofs.Texts.{inside_text, text_inside, inside_head, inside_tail, inside_cons}

@@ -1,6 +1,6 @@
 -- What a tracer keeps.
 use Rattle.std.proofs.Common.{◌≡◌, ◌⊎◌, inl, inr, true, List, [], ◌∷◌, ◌∙◌, ap}
-use Rattle.laws.proofs.Truths.{opposed}
+use Rattle.muck_laws.proofs.Truths.{opposed}
 use Rattle.muf_debug.specs.declared.view.View.{View}
 use Rattle.muf_debug.specs.Watching.{SeesAll}
 use Rattle.muf_debug.specs.Shown.{Tracer, view_told, views_told, TellsSo, KeepsShown}

@@ -6,7 +6,7 @@ use Rattle.std.specs.Ordering.{is_eq, int_cmp}
 use Rattle.std.specs.Map.{lookup}
 use Rattle.std.specs.BTreeMap.{is_at}
 use Rattle.std.specs.FinMap.{get, insert, from_entries, find, get-from_entries, get-insert, same_map, int_cmp-IsAntisymmetric}
-use Rattle.laws.proofs.Found.{turned}
+use Rattle.muck_laws.proofs.Found.{turned}
 use Rattle.muf_debug.specs.declared.places.Spot.{Spot}
 
 found : (q : ℤ) (es : List (ℤ × Spot)) → find int_cmp q es ≡ lookup (is_at (int_cmp q)) es

@@ -5,7 +5,7 @@ use Rattle.std.proofs.lemmas.Bool.{le-ltb}
 use Rattle.std.proofs.lemmas.List.{length-map, drop_all, take_all, take_more, drop_more, reverse-append}
 use Rattle.std.proofs.lemmas.Option.{slice_get_within, get_or_from_slice_get, slice_get-map}
 use Rattle.std.specs.Option.{option_map}
-use Rattle.laws.proofs.Places.{none_past}
+use Rattle.muck_laws.proofs.Places.{none_past}
 use Rattle.muf_model.specs.Answer.{Scope, variable_at}
 use Rattle.muf_model.specs.Datum.{Datum}
 use Rattle.muf_model.specs.declared.value.Value.{Value}

@@ -2,8 +2,8 @@
 use Rattle.std.proofs.Common.{◌≡◌, ℕ, ◌+◌, ◌-◌, ◌≤◌, List, ◌++◌, length, take, drop, map, sym, ap, ◌∙◌}
 use Rattle.std.specs.Prelude.{reverse}
 use Rattle.std.proofs.lemmas.List.{reverse-reverse}
-use Rattle.laws.proofs.Mapped.{map_drop, map_join, map_take}
-use Rattle.laws.proofs.Turned.{above_depth, below_depth, map_reverse}
+use Rattle.muck_laws.proofs.Mapped.{map_drop, map_join, map_take}
+use Rattle.muck_laws.proofs.Turned.{above_depth, below_depth, map_reverse}
 use Rattle.muf_model.specs.declared.value.Value.{Value}
 use Rattle.muf_model.specs.inner.View.{view}
 

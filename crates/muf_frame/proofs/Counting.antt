@@ -1,7 +1,7 @@
 -- The innermost mark changed in place.
 use Rattle.std.proofs.Common.{◌≡◌, ◌<◌, ◌-◌, ◌+◌, ℕ, List, [], ◌∷◌, length, map, take, drop, reverse, slice_index_or, slice_set, Option, ℤ, refl, sym, ap, ◌∙◌, arith}
 use Rattle.std.proofs.lemmas.List.{take-set, drop-set, drop_more, drop_all}
-use Rattle.laws.proofs.Turned.{reversed_last}
+use Rattle.muck_laws.proofs.Turned.{reversed_last}
 use Rattle.muf_frame.specs.declared.mark.Mark.{Mark}
 use Rattle.muf_frame.specs.declared.mark.Mark.TheVariants.{Loop, Guard, Back, Leave}
 use Rattle.muf_frame.specs.declared.mark.Turns.TheVariants.{Plain, Indices, Values, Pairs}

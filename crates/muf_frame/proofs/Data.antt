@@ -3,7 +3,7 @@ use Rattle.std.proofs.Common.{◌≡◌, ◌≤◌, ℕ, ◌-◌, arith, List, [
 use Rattle.std.proofs.lemmas.List.{length-map, map-set, set_past, take-replicate}
 use Rattle.std.proofs.lemmas.Option.{slice_get-map}
 use Rattle.std.specs.Prelude.{pos}
-use Rattle.laws.proofs.Mapped.{map_drop, map_take}
+use Rattle.muck_laws.proofs.Mapped.{map_drop, map_take}
 use Rattle.muf_model.specs.declared.value.Value.{Value}
 use Rattle.muf_model.specs.Datum.{Datum, int}
 use Rattle.muf_model.specs.Source.{zeros, fitted}

@@ -7,9 +7,9 @@ use Rattle.std.proofs.lemmas.Int.{ints}
 use Rattle.std.proofs.lemmas.List.{length-map}
 use Rattle.std.specs.Cmp.Lexicographic.{slice_cmp}
 use Rattle.std.proofs.lemmas.Cmp.{nat_list_cmp_total}
-use Rattle.laws.proofs.Numbers.{fitting, place_at_most, small}
-use Rattle.laws.proofs.Orders.{is_less, not_less_turned}
-use Rattle.laws.proofs.Places.{map_remove}
+use Rattle.muck_laws.proofs.Numbers.{fitting, place_at_most, small}
+use Rattle.muck_laws.proofs.Orders.{is_less, not_less_turned}
+use Rattle.muck_laws.proofs.Places.{map_remove}
 use Rattle.muf_model.specs.declared.size.Size.{Size}
 use Rattle.muf_model.specs.declared.value.MapKey.{MapKey}
 use Rattle.muf_model.specs.declared.value.Pair.{Pair}

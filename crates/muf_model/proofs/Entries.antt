@@ -9,8 +9,8 @@ use Rattle.std.proofs.lemmas.Map.Text.{is_eq-slice_cmp}
 use Rattle.std.proofs.lemmas.Bool.Decides.{Decides-int_eq}
 use Rattle.std.proofs.lemmas.Slice.Eq.{bytes_eq-Decides}
 use Rattle.std.proofs.lemmas.List.{map-set}
-use Rattle.laws.proofs.Numbers.{number_above, place_at_most}
-use Rattle.laws.proofs.Places.{map_insert}
+use Rattle.muck_laws.proofs.Numbers.{number_above, place_at_most}
+use Rattle.muck_laws.proofs.Places.{map_insert}
 use Rattle.muf_model.specs.declared.value.MapKey.{MapKey}
 use Rattle.muf_model.specs.declared.value.MapKey.TheVariants.{Number, Name}
 use Rattle.muf_model.specs.declared.value.Pair.{Pair}

@@ -3,8 +3,8 @@ use Rattle.std.proofs.Common.{◌≡◌, ℕ, zero, suc, ◌+◌, ◌<◌, ◌�
 use Rattle.std.specs.Prelude.{nat_le, ◌&&◌, if◌then◌else◌, slice_get}
 use Rattle.std.proofs.lemmas.List.{map-set, length-map, length-set}
 use Rattle.std.specs.List.{insert}
-use Rattle.laws.proofs.Numbers.{beyond, both_within, fitting}
-use Rattle.laws.proofs.Places.{map_insert, mapped_read}
+use Rattle.muck_laws.proofs.Numbers.{beyond, both_within, fitting}
+use Rattle.muck_laws.proofs.Places.{map_insert, mapped_read}
 use Rattle.muf_model.specs.declared.size.Size.{Size}
 use Rattle.muf_model.specs.declared.value.MapKey.{MapKey}
 use Rattle.muf_model.specs.declared.value.Pair.{Pair}

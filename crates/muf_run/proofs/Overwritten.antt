@@ -4,8 +4,8 @@ use Rattle.std.specs.Prelude.{ℤ, Option, Some, None, slice_get, slice_set, is_
 use Rattle.std.specs.Ordering.{int_eq}
 use Rattle.std.proofs.lemmas.Bool.{le-ltb}
 use Rattle.std.proofs.lemmas.List.{set-set, length-drop}
-use Rattle.laws.proofs.Numbers.{int_equal_itself}
-use Rattle.laws.proofs.Places.{get_drop}
+use Rattle.muck_laws.proofs.Numbers.{int_equal_itself}
+use Rattle.muck_laws.proofs.Places.{get_drop}
 use Rattle.muf_model.specs.declared.code.Code.{Code}
 use Rattle.muf_model.specs.declared.code.VarId.{VarId}
 use Rattle.muf_model.specs.declared.code.Word.{Word}

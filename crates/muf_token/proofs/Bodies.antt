@@ -1,6 +1,6 @@
 -- The pieces between a `$define`'s name and its `$enddef`.
 use Rattle.std.proofs.Common.{◌≡◌, ℕ, ◌<◌, true, false, cond, List, [], ◌∷◌, ◌++◌, length, None, Result, Ok, Err, refl, ap, sym, ◌∙◌, arith, zero, suc, append_assoc}
-use Rattle.laws.proofs.Lists.{append_none}
+use Rattle.muck_laws.proofs.Lists.{append_none}
 use Rattle.muf_token.specs.declared.fault.FaultKind.{FaultKind}
 use Rattle.muf_token.specs.declared.fault.FaultKind.TheVariants.{BadDirective}
 use Rattle.muf_token.specs.declared.fault.Refusal.{Refusal}

@@ -4,8 +4,8 @@ use Rattle.std.specs.Str.{bytes_eq}
 use Rattle.std.specs.Ordering.{int_eq}
 use Rattle.std.specs.List.{IsDistinct, AllByRecursion}
 use Rattle.std.specs.Map.{lookup, keys_of}
-use Rattle.laws.proofs.Numbers.{int_equal_itself, lt_false, lt_true}
-use Rattle.laws.proofs.Texts.{bytes_equivalence}
+use Rattle.muck_laws.proofs.Numbers.{int_equal_itself, lt_false, lt_true}
+use Rattle.muck_laws.proofs.Texts.{bytes_equivalence}
 use Rattle.muf_token.specs.declared.includes.Definition.{Definition}
 use Rattle.muf_token.specs.declared.piece.Piece.{Piece}
 use Rattle.muf_token.specs.declared.layers.Lent.{Lent}

@@ -1,7 +1,7 @@
 -- Where a line ends.
 use Rattle.std.proofs.Common.{◌≡◌, ℕ, ◌+◌, true, not, cond, List, [], ◌∷◌, ◌++◌, length, take, drop, refl, ap, ◌∙◌, arith}
 use Rattle.std.specs.List.{position_or_len}
-use Rattle.laws.proofs.Parts.{drop_front, take_front}
+use Rattle.muck_laws.proofs.Parts.{drop_front, take_front}
 use Rattle.muf_token.specs.inner.Bytes.{are_inside}
 use Rattle.muf_token.specs.Pieces.{lines_below}
 use Rattle.muf_token.specs.Directives.{is_line_end, rest_of_line}

@@ -4,7 +4,7 @@ use Rattle.std.specs.Str.{bytes_eq}
 use Rattle.std.specs.List.{IsDistinct, AllByRecursion}
 use Rattle.std.specs.Map.{lookup, keys_of, remove_entry}
 use Rattle.std.proofs.lemmas.Map.{lookup-remove_entry}
-use Rattle.laws.proofs.Texts.{bytes_equivalence}
+use Rattle.muck_laws.proofs.Texts.{bytes_equivalence}
 use Rattle.indexmap.specs.IndexMap.{insert_entry}
 use Rattle.muf_token.specs.declared.includes.Definition.{Definition}
 use Rattle.muf_token.specs.declared.piece.Piece.{Piece}

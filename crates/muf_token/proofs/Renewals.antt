@@ -5,8 +5,8 @@ use Rattle.std.specs.Str.{bytes_eq}
 use Rattle.std.specs.Ordering.{int_eq}
 use Rattle.std.specs.List.{IsDistinct}
 use Rattle.std.specs.Map.{lookup, keys_of, remove_entry}
-use Rattle.laws.proofs.Found.{lookup_equal}
-use Rattle.laws.proofs.Numbers.{int_equivalence}
+use Rattle.muck_laws.proofs.Found.{lookup_equal}
+use Rattle.muck_laws.proofs.Numbers.{int_equivalence}
 use Rattle.muck_model.specs.declared.dbref.Dbref.{Dbref}
 use Rattle.muf_token.specs.declared.includes.Definition.{Definition}
 use Rattle.muf_token.specs.declared.piece.Piece.{Piece}

@@ -1,7 +1,7 @@
 -- Each piece of a source goes on at a place with less text.
 use Rattle.std.proofs.Common.{◌≡◌, ℕ, ◌≤◌, ◌<◌, Bool, true, false, cond, List, [], length, Option, Some, None, Result, Ok, Err, refl, ap, ◌∙◌, subst, arith, zero, suc}
 use Rattle.std.specs.List.{position_or_len}
-use Rattle.laws.proofs.Parts.{length_drop}
+use Rattle.muck_laws.proofs.Parts.{length_drop}
 use Rattle.muck_model.specs.declared.dbref.Dbref.{Dbref}
 use Rattle.muf_token.specs.declared.fault.FaultKind.{FaultKind}
 use Rattle.muf_token.specs.declared.fault.Refusal.{Refusal}

@@ -3,7 +3,7 @@ use Rattle.std.proofs.Common.{◌≡◌, ℕ, ◌≤◌, Bool, true, false, not,
 use Rattle.std.proofs.lemmas.Bool.{and_parts, and_from}
 use Rattle.std.proofs.lemmas.Bool.Decides.{nat_tests}
 use Rattle.std.specs.List.{position_or_len}
-use Rattle.laws.proofs.Numbers.{inside_step}
+use Rattle.muck_laws.proofs.Numbers.{inside_step}
 use Rattle.muck_model.specs.Bytes.{is_outside, text_fault, fault_of_bytes, text_most}
 use Rattle.muf_token.specs.inner.Bytes.{are_inside}
 

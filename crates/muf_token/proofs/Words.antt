@@ -1,7 +1,7 @@
 -- Words and the white space behind them.
 use Rattle.std.proofs.Common.{◌≡◌, ℕ, ◌≤◌, ◌+◌, true, not, cond, List, [], ◌∷◌, ◌++◌, length, take, drop, refl, ap, sym, ◌∙◌, arith}
-use Rattle.laws.proofs.Parts.{drop_within, length_drop, length_take, take_within}
-use Rattle.laws.proofs.Tests.{position_within}
+use Rattle.muck_laws.proofs.Parts.{drop_within, length_drop, length_take, take_within}
+use Rattle.muck_laws.proofs.Tests.{position_within}
 use Rattle.std.proofs.lemmas.List.{length-map}
 use Rattle.std.proofs.lemmas.Bool.Decides.{nat_tests}
 use Rattle.std.specs.List.{position_or_len}

@@ -4,7 +4,7 @@ use Rattle.std.specs.Prelude.{ℤ, Option, Some, None, slice_get}
 use Rattle.std.specs.Option.{option_and_then}
 use Rattle.std.specs.Ordering.{int_eq}
 use Rattle.std.proofs.lemmas.List.{length-map}
-use Rattle.laws.proofs.Mapped.{map_drop}
+use Rattle.muck_laws.proofs.Mapped.{map_drop}
 use Rattle.muf_model.specs.declared.fault.MufFault.TheVariants.{BadType}
 use Rattle.muf_model.specs.Datum.{Datum, int, object, variable}
 use Rattle.muf_model.specs.Answer.{Answer, refuses, Scope, plain, makes, items_put, answer_unless, needing}

@@ -8,8 +8,8 @@ use Rattle.std.specs.Cmp.{tied_itself}
 use Rattle.std.specs.declared.cmp.Ordering.TheVariants.{Less}
 use Rattle.std.specs.FinMap.{keys, entries, entries_sorted, is_sorted, nat_cmp-IsAntisymmetric, slice_cmp-IsAntisymmetric}
 use Rattle.std.specs.FinMap.Entries.{below_all}
-use Rattle.laws.proofs.Orders.{is_less, then_less}
-use Rattle.laws.proofs.Truths.{both_of, is_true}
+use Rattle.muck_laws.proofs.Orders.{is_less, then_less}
+use Rattle.muck_laws.proofs.Truths.{both_of, is_true}
 use Rattle.muck_prop.specs.declared.value.PropValue.{PropValue}
 use Rattle.muck_prop.specs.Order.{segment_cmp, path_cmp, path_cmp_total, is_below, child}
 use Rattle.muck_prop.specs.Store.{PropMap, is_after, next_among, next_child}

@@ -2,9 +2,9 @@
 use Rattle.std.proofs.Common.{length-take, length-drop, Bool, true, false, ◌≡◌, ℕ, zero, suc, ◌+◌, ◌-◌, ◌<◌, ◌≤◌, List, [], ◌∷◌, ◌++◌, length, map, take, drop, refl, ap, sym, ◌∙◌, arith, rules}
 use Rattle.std.specs.Prelude.{if◌then◌else◌, pos, Option, Some, None, slice_get}
 use Rattle.std.proofs.lemmas.List.{length-map, map-append}
-use Rattle.laws.proofs.Mapped.{map_drop, map_take}
-use Rattle.laws.proofs.Parts.{drop_taken}
-use Rattle.laws.proofs.Places.{first_one, get_drop, get_taken}
+use Rattle.muck_laws.proofs.Mapped.{map_drop, map_take}
+use Rattle.muck_laws.proofs.Parts.{drop_taken}
+use Rattle.muck_laws.proofs.Places.{first_one, get_drop, get_taken}
 use Rattle.muf_model.specs.Datum.{Datum, int}
 use Rattle.muf_model.specs.Measures.{is_true_item}
 use Rattle.muf_model.specs.Answer.{gives, stack_fitting, Scope, makes, needing, items_put, answer_unless}

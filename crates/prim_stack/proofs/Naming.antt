@@ -5,7 +5,7 @@ use Rattle.std.specs.Ordering.{int_eq}
 use Rattle.std.specs.Option.{option_and_then}
 use Rattle.std.proofs.lemmas.List.{length-map}
 use Rattle.std.proofs.lemmas.Option.{slice_get-map}
-use Rattle.laws.proofs.Mapped.{map_drop}
+use Rattle.muck_laws.proofs.Mapped.{map_drop}
 use Rattle.muf_model.specs.declared.fault.MufFault.TheVariants.{BadType, BadArgument, BadAddress, Aborted}
 use Rattle.muf_model.specs.Datum.{Datum, text, variable, address}
 use Rattle.muf_model.specs.Answer.{Answer, stores, calls, refuses, Scope, variable_at, needing, items_put, answer_unless}

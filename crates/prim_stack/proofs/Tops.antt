@@ -4,9 +4,9 @@ use Rattle.std.specs.Prelude.{ℤ, pos, negsuc, Option, Some, None, slice_get, s
 use Rattle.std.proofs.lemmas.List.{length-map, map-append, map-set}
 use Rattle.std.specs.List.{position, position_or_len}
 use Rattle.std.proofs.lemmas.Option.{slice_get-map}
-use Rattle.laws.proofs.Mapped.{map_drop, map_take}
-use Rattle.laws.proofs.Places.{first_one, get_taken}
-use Rattle.laws.proofs.Turned.{map_reverse}
+use Rattle.muck_laws.proofs.Mapped.{map_drop, map_take}
+use Rattle.muck_laws.proofs.Places.{first_one, get_taken}
+use Rattle.muck_laws.proofs.Turned.{map_reverse}
 use Rattle.muf_model.specs.declared.value.Value.{Value}
 use Rattle.muf_model.specs.inner.View.{view}
 use Rattle.muf_model.specs.StackRows.{is_mark, above_locked, rotated, rotated_up, rotated_down, item_put_at}

@@ -3,7 +3,7 @@ use Rattle.std.proofs.Common.{◌≡◌, ◌+◌, ℕ, zero, suc, pos, List, [],
 use Rattle.std.specs.Prelude.{ℤ}
 use Rattle.std.specs.List.{cons_option}
 use Rattle.std.specs.Option.{option_and_then, option_map_or}
-use Rattle.laws.proofs.Places.{get_drop}
+use Rattle.muck_laws.proofs.Places.{get_drop}
 use Rattle.muck_model.specs.declared.dbref.Dbref.{Dbref}
 use Rattle.spec_live.specs.Lives.{Live, tell_but}
 use Rattle.spec_rights.specs.declared.act.Actor.{Actor}

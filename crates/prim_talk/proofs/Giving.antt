@@ -5,7 +5,7 @@ use Rattle.std.specs.Prelude.{◌&&◌, nat_le}
 use Rattle.std.specs.List.{cons_option}
 use Rattle.std.specs.Int.{w32, cast_signed}
 use Rattle.std.proofs.lemmas.List.{length-map, reverse-append}
-use Rattle.laws.proofs.Turned.{map_reverse}
+use Rattle.muck_laws.proofs.Turned.{map_reverse}
 use Rattle.muck_model.specs.declared.dbref.Dbref.{Dbref}
 use Rattle.spec_live.specs.Connections.{Connection, is_connection_of, has_player}
 use Rattle.spec_live.specs.Lives.{Live}

@@ -2,7 +2,7 @@
 use Rattle.std.proofs.Common.{◌≡◌, ℕ, zero, suc, ◌+◌, ◌-◌, ◌<◌, ◌≤◌, true, List, [], ◌∷◌, ◌++◌, Some, None, length, take, drop, refl, sym, ap, ◌∙◌, arith, ⊎_elim, length-drop}
 use Rattle.std.proofs.lemmas.Bool.{cases_Bool, cond-true, cond-false, and_parts, leb-true}
 use Rattle.std.proofs.lemmas.List.{append_assoc}
-use Rattle.laws.proofs.Options.{or_none}
+use Rattle.muck_laws.proofs.Options.{or_none}
 use Rattle.muf_model.specs.Texts.{text_stands_at, first_from, first_place, cut_at, text_cut, text_pieces, texts_joined}
 
 fits_from : (t s : List ℕ) (n k j : ℕ) → first_from t s k n ≡ Some j → j + length t ≤ length s

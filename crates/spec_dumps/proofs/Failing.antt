@@ -2,8 +2,8 @@
 use Rattle.std.proofs.Common.{◌≡◌, inl, inr, ℕ, ◌<◌, suc, List, [], ◌∷◌, ◌++◌, length, take, refl, sym, ap, ◌∙◌, subst, arith, Option, Some}
 use Rattle.std.specs.Prelude.{slice_get}
 use Rattle.std.proofs.lemmas.List.{take_all, take-append-le}
-use Rattle.laws.proofs.Lists.{length_last}
-use Rattle.laws.proofs.Places.{got_last, got_on}
+use Rattle.muck_laws.proofs.Lists.{length_last}
+use Rattle.muck_laws.proofs.Places.{got_last, got_on}
 use Rattle.muck_model.specs.declared.event.Entry.{Entry}
 use Rattle.muck_model.specs.declared.event.Event.TheVariants.{DumpFailed}
 use Rattle.muck_model.specs.declared.note.Note.{Note}

@@ -5,8 +5,8 @@ use Rattle.std.specs.Option.{option_map, option_map_or}
 use Rattle.std.proofs.lemmas.List.{take_all, take-append-le}
 use Rattle.std.proofs.lemmas.Option.{slice_get_within, slice_get_past}
 use Rattle.std.proofs.lemmas.Bool.{cases_lt}
-use Rattle.laws.proofs.Lists.{length_last}
-use Rattle.laws.proofs.Places.{got_last, got_on, got_past}
+use Rattle.muck_laws.proofs.Lists.{length_last}
+use Rattle.muck_laws.proofs.Places.{got_last, got_on, got_past}
 use Rattle.muck_model.specs.declared.event.Entry.{Entry}
 use Rattle.muck_model.specs.declared.event.Event.{Event}
 use Rattle.muck_model.specs.declared.event.Event.TheVariants.{Cut, DumpFailed}

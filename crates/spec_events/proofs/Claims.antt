@@ -6,7 +6,7 @@ use Rattle.std.specs.Option.{option_map}
 use Rattle.std.specs.Ordering.{int_eq}
 use Rattle.std.proofs.lemmas.Bool.{cond-false, or_right, eq-eqb}
 use Rattle.std.proofs.lemmas.Cmp.{int_eq_equiv}
-use Rattle.laws.proofs.Truths.{due_of, lost_gone, slice_there}
+use Rattle.muck_laws.proofs.Truths.{due_of, lost_gone, slice_there}
 use Rattle.muck_model.specs.declared.event.Event.TheVariants.{Claim, Slice, Lost}
 use Rattle.muck_queue.specs.declared.claim.Claim.{Claim as Claimed}
 use Rattle.muck_queue.specs.declared.process.Process.{Process}

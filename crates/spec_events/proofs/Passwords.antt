@@ -5,7 +5,7 @@ use Rattle.std.proofs.lemmas.Option.{none-some}
 use Rattle.std.proofs.lemmas.List.Elements.{All-head, All-tail}
 use Rattle.std.specs.Prelude.{All, find, codes, ltb}
 use Rattle.std.specs.Option.{option_map, option_and_then}
-use Rattle.laws.proofs.Numbers.{apart, less_apart, other_apart, same_numbers}
+use Rattle.muck_laws.proofs.Numbers.{apart, less_apart, other_apart, same_numbers}
 use Rattle.muck_model.specs.declared.dbref.Dbref.{Dbref}
 use Rattle.muck_model.specs.declared.tune.Tune.{Tune}
 use Rattle.muck_model.specs.declared.edit.EditState.{EditState}

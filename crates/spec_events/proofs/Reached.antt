@@ -4,8 +4,8 @@ use Rattle.std.proofs.lemmas.Bool.Decides.{nat_tests}
 use Rattle.std.proofs.lemmas.Bool.{cond-true, cond-false, and_parts, eq-eqb}
 use Rattle.std.specs.Prelude.{find, is_none, is_some, nat_lt, nat_le}
 use Rattle.std.specs.Option.{option_map, option_map_or}
-use Rattle.laws.proofs.Numbers.{apart, differs, test_of_less}
-use Rattle.laws.proofs.Options.{none_of, some_none}
+use Rattle.muck_laws.proofs.Numbers.{apart, differs, test_of_less}
+use Rattle.muck_laws.proofs.Options.{none_of, some_none}
 use Rattle.muck_model.specs.declared.event.Entry.{Entry}
 use Rattle.muck_model.specs.declared.event.Event.{Event}
 use Rattle.muck_model.specs.declared.event.Event.TheVariants.{Opened, Input, Closed, Moment, Exec, Slice, Idle, Take, Stored, DumpFailed, Halt, Died}

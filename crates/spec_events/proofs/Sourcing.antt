@@ -7,9 +7,9 @@ use Rattle.std.specs.List.{filter, list_any}
 use Rattle.std.specs.Option.{option_and_then, option_map, option_map_or}
 use Rattle.std.specs.Ordering.{int_eq}
 use Rattle.std.proofs.lemmas.Bool.{cond_both}
-use Rattle.laws.proofs.Options.{none_some}
-use Rattle.laws.proofs.Places.{get_nil}
-use Rattle.laws.proofs.Truths.{never}
+use Rattle.muck_laws.proofs.Options.{none_some}
+use Rattle.muck_laws.proofs.Places.{get_nil}
+use Rattle.muck_laws.proofs.Truths.{never}
 use Rattle.muck_model.specs.declared.dbref.Dbref.{Dbref}
 use Rattle.spec_live.specs.declared.mark.Mark.{Mark}
 use Rattle.spec_live.specs.declared.mark.Mark.TheVariants.{Lines, Gone}

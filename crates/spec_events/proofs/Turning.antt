@@ -5,8 +5,8 @@ use Rattle.std.proofs.lemmas.List.Elements.{All-head, All-tail}
 use Rattle.std.specs.Prelude.{All, find, codes}
 use Rattle.std.specs.List.{list_any}
 use Rattle.std.specs.Option.{option_map_or, option_and_then}
-use Rattle.laws.proofs.Numbers.{beyond_turning}
-use Rattle.laws.proofs.Truths.{and_false, and_true, never_turning, or_assoc, or_swap}
+use Rattle.muck_laws.proofs.Numbers.{beyond_turning}
+use Rattle.muck_laws.proofs.Truths.{and_false, and_true, never_turning, or_assoc, or_swap}
 use Rattle.muck_model.specs.declared.dbref.Dbref.{Dbref}
 use Rattle.muck_model.specs.declared.edit.EditState.{EditState}
 use Rattle.muck_model.specs.declared.event.Event.TheVariants.{Closed, Exec, Slice}

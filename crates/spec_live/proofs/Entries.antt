@@ -5,8 +5,8 @@ use Rattle.std.proofs.lemmas.Option.{slice_get-map}
 use Rattle.std.specs.List.{slice_get}
 use Rattle.std.specs.Prelude.{unwrap_or}
 use Rattle.std.specs.Option.{option_map, option_and_then}
-use Rattle.laws.proofs.Mapped.{length_map}
-use Rattle.laws.proofs.Places.{read_more}
+use Rattle.muck_laws.proofs.Mapped.{length_map}
+use Rattle.muck_laws.proofs.Places.{read_more}
 use Rattle.spec_live.specs.Objects.{Entry, mark_in, due, changed_at}
 use Rattle.spec_live.specs.Saving.{relinked}
 use Rattle.spec_live.specs.Making.{blank_entry}

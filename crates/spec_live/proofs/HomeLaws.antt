@@ -1,8 +1,8 @@
 -- Untying from an object, and sending home what it holds.
 use Rattle.std.proofs.Common.{◌≡◌, ℕ, ◌<◌, List, [], ◌∷◌, Option, Some, None, inl, inr, refl, sym, ◌∙◌, ap, subst, length, arith, Bool, true, false, cond, not}
-use Rattle.laws.proofs.Mapped.{length_map}
-use Rattle.laws.proofs.Numbers.{way_not_by}
-use Rattle.laws.proofs.Places.{read_mapped}
+use Rattle.muck_laws.proofs.Mapped.{length_map}
+use Rattle.muck_laws.proofs.Numbers.{way_not_by}
+use Rattle.muck_laws.proofs.Places.{read_mapped}
 use Rattle.muck_model.proofs.Dbrefs.{eq_same, same_eq}
 use Rattle.std.proofs.lemmas.Bool.{cases_lt, false≢true, and_parts, not-true}
 use Rattle.std.proofs.lemmas.Option.{slice_get-map}

@@ -2,7 +2,7 @@
 use Rattle.std.proofs.Common.{◌≡◌, refl, sym, Bool, true, false}
 use Rattle.std.specs.Prelude.{not, ◌&&◌, ◌||◌}
 use Rattle.std.proofs.lemmas.Bool.{false≢true, and_parts}
-use Rattle.laws.proofs.Truths.{excluded, never_not}
+use Rattle.muck_laws.proofs.Truths.{excluded, never_not}
 use Rattle.muck_model.specs.declared.dbref.Kind.{Kind}
 use Rattle.muck_model.specs.declared.dbref.Kind.TheVariants.{Room, Thing, Exit, Player, Program, Garbage}
 use Rattle.spec_live.specs.Objects.{is_exit, is_player, is_garbage, may_stand}

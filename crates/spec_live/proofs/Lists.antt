@@ -3,9 +3,9 @@ use Rattle.std.proofs.Common.{◌≡◌, ℕ, List, [], ◌∷◌, Option, Some,
 use Rattle.std.proofs.lemmas.Bool.{cases_eq, ne_eqb, eq-eqb, false≢true}
 use Rattle.std.specs.List.{slice_get, slice_set}
 use Rattle.std.specs.Option.{option_map, option_and_then}
-use Rattle.laws.proofs.Numbers.{same_place}
-use Rattle.laws.proofs.Options.{kept_then}
-use Rattle.laws.proofs.Places.{get_elsewhere, get_set_same, length_slice_set}
+use Rattle.muck_laws.proofs.Numbers.{same_place}
+use Rattle.muck_laws.proofs.Options.{kept_then}
+use Rattle.muck_laws.proofs.Places.{get_elsewhere, get_set_same, length_slice_set}
 use Rattle.spec_live.specs.Chain.{Member, IsApart, has, without_number, put_at}
 use Rattle.spec_live.specs.Objects.{changed_at}
 use Rattle.spec_live.proofs.Chains.{without_member}

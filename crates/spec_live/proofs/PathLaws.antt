@@ -7,7 +7,7 @@ use Rattle.std.proofs.lemmas.Bool.{le-leb, ne_eqb}
 use Rattle.std.proofs.lemmas.Bool.Decides.{nat_tests}
 use Rattle.std.proofs.lemmas.List.{length-map}
 use Rattle.std.proofs.lemmas.List.Recursion.{is_count_by}
-use Rattle.laws.proofs.Texts.{behind_onto}
+use Rattle.muck_laws.proofs.Texts.{behind_onto}
 use Rattle.muck_prop.specs.declared.path.PropFault.TheVariants.{BadPath, TooDeep}
 use Rattle.muck_prop.specs.Paths.{is_slash, is_filled, segments_of, path_text, path_fault}
 use Rattle.muck_lock.specs.Paths.{segments_from, segments_in, is_in_segment, is_barred, is_path}

@@ -1,7 +1,7 @@
 -- Recycling keeps a world consistent.
 use Rattle.std.proofs.Common.{◌≡◌, ℕ, List, [], Option, Some, None, Ok, inl, inr, refl, sym, ◌∙◌, ap, subst, length, Bool, true, false, cond, eqb, not, ◌||◌, map}
-use Rattle.laws.proofs.Mapped.{length_map}
-use Rattle.laws.proofs.Numbers.{same_place}
+use Rattle.muck_laws.proofs.Mapped.{length_map}
+use Rattle.muck_laws.proofs.Numbers.{same_place}
 use Rattle.muck_model.proofs.Dbrefs.{eq_same, same_eq}
 use Rattle.std.proofs.lemmas.Bool.{cases_eq, eqb-true, eqb-false, ne_eqb, false≢true, and_from, and_parts, or_parts, not-true, cases_Bool}
 use Rattle.std.proofs.lemmas.Option.{slice_get-map}

@@ -2,8 +2,8 @@
 use Rattle.std.proofs.Common.{◌≡◌, ℕ, ◌+◌, zero, suc, List, [], ◌∷◌, Option, Some, None, refl, ◌∙◌, ap, length, arith, Bool, true, false, cond, not}
 use Rattle.std.specs.List.{slice_get}
 use Rattle.std.specs.Option.{option_map, option_and_then, option_map_or}
-use Rattle.laws.proofs.Mapped.{length_map}
-use Rattle.laws.proofs.Places.{read_mapped}
+use Rattle.muck_laws.proofs.Mapped.{length_map}
+use Rattle.muck_laws.proofs.Places.{read_mapped}
 use Rattle.spec_live.specs.declared.saving.Saving.{Saving}
 use Rattle.spec_live.specs.declared.saving.Saving.TheVariants.{Due}
 use Rattle.spec_live.specs.Objects.{Entry, object_in, entry_list, list_in, mark_in, kind_in, due}

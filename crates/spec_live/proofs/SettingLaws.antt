@@ -1,6 +1,6 @@
 -- Every setter keeps a world consistent.
 use Rattle.std.proofs.Common.{◌≡◌, ℕ, ◌<◌, List, [], ◌∷◌, Option, Some, None, Result, Ok, inl, inr, refl, sym, ◌∙◌, ap, subst, length, Bool, true, false, cond, not, ◌&&◌, ◌||◌}
-use Rattle.laws.proofs.Truths.{seats_by}
+use Rattle.muck_laws.proofs.Truths.{seats_by}
 use Rattle.muck_model.proofs.Dbrefs.{eq_same}
 use Rattle.std.proofs.lemmas.Bool.{cases_eq, false≢true, and_parts}
 use Rattle.std.specs.List.{list_any, slice_get}

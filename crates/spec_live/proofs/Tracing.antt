@@ -4,9 +4,9 @@ use Rattle.std.proofs.lemmas.Bool.{false≢true}
 use Rattle.std.proofs.lemmas.Option.{slice_get-map}
 use Rattle.std.specs.List.{slice_get}
 use Rattle.std.specs.Option.{option_map, option_map_or, option_and_then}
-use Rattle.laws.proofs.Mapped.{length_map}
-use Rattle.laws.proofs.Options.{kept_then}
-use Rattle.laws.proofs.Places.{read_more}
+use Rattle.muck_laws.proofs.Mapped.{length_map}
+use Rattle.muck_laws.proofs.Options.{kept_then}
+use Rattle.muck_laws.proofs.Places.{read_more}
 use Rattle.spec_live.specs.declared.object.Object.{Object}
 use Rattle.spec_live.specs.declared.saving.Saving.{Saving}
 use Rattle.spec_live.specs.declared.saving.Saving.TheVariants.{Due}

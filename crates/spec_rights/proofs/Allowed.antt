@@ -1,8 +1,8 @@
 -- What is open where the rules allow an act.
 use Rattle.std.proofs.Common.{◌≡◌, ℕ, Bool, true, false, cond, List, refl, sym, ◌∙◌, ap, Option, Some, None}
 use Rattle.std.proofs.lemmas.Bool.{and_from, or_left, or_right, not-false}
-use Rattle.laws.proofs.Numbers.{le_not, some_level}
-use Rattle.laws.proofs.Truths.{mover}
+use Rattle.muck_laws.proofs.Numbers.{le_not, some_level}
+use Rattle.muck_laws.proofs.Truths.{mover}
 use Rattle.muck_model.proofs.Dbrefs.{same_eq}
 use Rattle.std.specs.Prelude.{not, ◌||◌, ◌&&◌, ◌==◌, nat_le, nat_lt}
 use Rattle.std.specs.Option.{option_map, option_map_or}

@@ -2,7 +2,7 @@
 use Rattle.std.proofs.Common.{◌≡◌, ℕ, ◌+◌, ◌-◌, ◌/◌, ◌%◌, ◌==◌, Bool, true, false, cond, List, [], ◌∷◌, refl, ap, subst, arith, inl, inr}
 use Rattle.std.proofs.lemmas.Bool.{or_cases, eqb-true}
 use Rattle.std.specs.List.{list_any}
-use Rattle.laws.proofs.Numbers.{even, odd}
+use Rattle.muck_laws.proofs.Numbers.{even, odd}
 use Rattle.muck_model.specs.declared.dbref.Flags.{Flags}
 use Rattle.spec_live.specs.Flags.{has_flag, with_flag, without_flag, wizard}
 use Rattle.spec_rights.specs.Changing.{flag_values, is_flag}

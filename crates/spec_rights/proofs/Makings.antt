@@ -1,8 +1,8 @@
 -- What is made keeps to the licence.
 use Rattle.std.proofs.Common.{◌≡◌, ℕ, ◌==◌, suc, Bool, true, false, cond, List, [], ◌∷◌, ◌++◌, length, refl, sym, ◌∙◌, ap, subst, Option, Some, None, inl, inr}
-use Rattle.laws.proofs.Numbers.{least_at_most}
-use Rattle.laws.proofs.Places.{read_more}
-use Rattle.laws.proofs.Truths.{and_all, and_three}
+use Rattle.muck_laws.proofs.Numbers.{least_at_most}
+use Rattle.muck_laws.proofs.Places.{read_more}
+use Rattle.muck_laws.proofs.Truths.{and_all, and_three}
 use Rattle.muck_model.proofs.Dbrefs.{same_eq}
 use Rattle.std.specs.Prelude.{Ok, Err, nat_lt, slice_get, min, nat_le, ◌||◌}
 use Rattle.std.specs.Option.{option_map, option_and_then, option_map_or}

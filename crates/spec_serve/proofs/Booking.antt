@@ -6,7 +6,7 @@ use mathlib.Core.Option.{some, some-ne-none, some-injective}
 use mathlib.Core.Logic.{dite}
 use native.Mathlib.Decide.{ℕ_discrete}
 use lib.ListN.{get_elem?}
-use Rattle.laws.proofs.Places.{at_removed, set_there, still_at}
+use Rattle.muck_laws.proofs.Places.{at_removed, set_there, still_at}
 use Rattle.atomic_table.proofs.Lists.{at_set, set_else, at_snoc, at_longer}
 use Rattle.muck_io.specs.Faults.{one_more}
 use Rattle.muck_links.specs.Keyed.{altered, latest}

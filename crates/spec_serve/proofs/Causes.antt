@@ -2,7 +2,7 @@
 use Rattle.std.proofs.Common.{◌≡◌, ℕ, ◌≤◌, true, false, List, [], ◌++◌, length, sym, ap, ◌∙◌, subst, inl, inr}
 use Rattle.std.specs.Prelude.{◌&&◌, not, is_some}
 use Rattle.std.proofs.lemmas.List.{append-nil}
-use Rattle.laws.proofs.Lists.{none_long}
+use Rattle.muck_laws.proofs.Lists.{none_long}
 use Rattle.muck_links.specs.Sessions.{Session}
 use Rattle.muck_links.proofs.Cuts.{cut_is_lines}
 use Rattle.muck_model.specs.declared.event.Event.TheVariants.{Input}

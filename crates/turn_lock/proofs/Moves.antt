@@ -6,7 +6,7 @@ use mathlib.Core.Option.{Option as Maybe, some, none, some-ne-none, some-injecti
 use mathlib.Core.Logic.{dite}
 use native.Mathlib.Decide.{dec_le, ℕ_discrete}
 use lib.ListN.{get_elem?}
-use Rattle.laws.proofs.Places.{length_set}
+use Rattle.muck_laws.proofs.Places.{length_set}
 use Rattle.atomic_table.specs.Table.{State, Me, keeps, takes, gives, Step, step, Allows, stepped, put_back, rest, opening, Splits, Joins, Final, Seen}
 use Rattle.atomic_table.proofs.Lists.{at_set, set_else, at_snoc, at_longer}
 use Rattle.turn_lock.specs.declared.view.Taken.{Taken}

@@ -2,7 +2,7 @@ use Rattle.std.proofs.Common.{rules, arith, refl, sym, subst, ap, ◌∙◌, ◌
 use Rattle.std.proofs.Math.Seq.{drop-cons}
 use Rattle.std.proofs.lemmas.Bool.{ne_eqb}
 use Rattle.std.proofs.lemmas.List.{length-drop}
-use Rattle.laws.proofs.Lists.{no_items}
+use Rattle.muck_laws.proofs.Lists.{no_items}
 use Rattle.muck_model.specs.Bytes.{text_fault}
 use Rattle.mpi.specs.Hosting.{Means}
 use Rattle.mpi.specs.Made.{is_long, text_or_long}

@@ -1,7 +1,7 @@
 use Rattle.std.proofs.Common.{rules, arith, sym, subst, ap, ◌∙◌, ◌≡◌, [], ◌∷◌, ◌++◌, length, length-append}
 use Rattle.std.specs.Prelude.{Some, option_map}
 use Rattle.std.proofs.lemmas.List.{append-nil}
-use Rattle.laws.proofs.Lists.{no_items}
+use Rattle.muck_laws.proofs.Lists.{no_items}
 use Rattle.mpi.specs.Brackets.{formula_pieces, seen_piece, IsPart}
 use Rattle.mpi.specs.Made.{Inside}
 use Rattle.mpi.specs.inner.Alike.{said}

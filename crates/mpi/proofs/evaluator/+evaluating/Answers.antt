@@ -1,7 +1,7 @@
 use Rattle.std.proofs.Common.{rules, arith, refl, sym, subst, ap, ◌∙◌, ◌≡◌, ◌+◌, ◌-◌, ◌≤◌, [], ◌∷◌, ◌++◌, suc, None, Some, Ok, Err, true, false, length, take, drop, get_or, map, option_map}
-use Rattle.laws.proofs.Lists.{no_items}
-use Rattle.laws.proofs.Mapped.{none_mapped}
-use Rattle.laws.proofs.Places.{next_mapped}
+use Rattle.muck_laws.proofs.Lists.{no_items}
+use Rattle.muck_laws.proofs.Mapped.{none_mapped}
+use Rattle.muck_laws.proofs.Places.{next_mapped}
 use Rattle.muck_model.specs.Bytes.{text_fault, text_most}
 use Rattle.mpi.specs.Brackets.{formula_pieces, seen_piece, IsPart}
 use Rattle.mpi.specs.Hosting.{Means}

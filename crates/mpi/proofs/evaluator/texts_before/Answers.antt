@@ -1,7 +1,7 @@
 use Rattle.std.proofs.Common.{arith, sym, subst, ◌≡◌, true, map}
 use Rattle.std.specs.List.{list_all}
-use Rattle.laws.proofs.Mapped.{taken}
-use Rattle.laws.proofs.Tests.{all_take}
+use Rattle.muck_laws.proofs.Mapped.{taken}
+use Rattle.muck_laws.proofs.Tests.{all_take}
 use Rattle.mpi.specs.Made.{is_text}
 use Rattle.mpi.proofs.evaluator.texts_before.Goals as goal
 

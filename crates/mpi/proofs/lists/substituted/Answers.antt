@@ -1,6 +1,6 @@
 use Rattle.std.proofs.Common.{rules, arith, sym, subst, ap, ◌∙◌, ◌≡◌, ◌+◌, ◌<◌, ◌≤◌, [], ◌++◌, Ok, Err, None, length}
 use Rattle.std.proofs.lemmas.Bool.Decides.{nat_tests}
-use Rattle.laws.proofs.Lists.{whole_end, whole_new}
+use Rattle.muck_laws.proofs.Lists.{whole_end, whole_new}
 use Rattle.muck_model.specs.Bytes.{text_fault, text_most}
 use Rattle.mpi.specs.Values.{place_in_text, replaced, text_substituted}
 use Rattle.mpi.proofs.Growing.{grown_inside, grown_short, grown_text}

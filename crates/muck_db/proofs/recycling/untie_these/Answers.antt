@@ -1,5 +1,5 @@
 use Rattle.std.proofs.lemmas.Bool.{false≢true}
-use Rattle.laws.proofs.Lists.{none_left}
+use Rattle.muck_laws.proofs.Lists.{none_left}
 use Rattle.muck_db.proofs.Tying.{unties_none, unties_more, unties_all}
 use Rattle.muck_db.proofs.recycling.untie_these.Goals as goal
 

@@ -1,6 +1,6 @@
 use Rattle.std.proofs.Common.{ℕ, refl, sym, subst, Err}
 use Rattle.std.proofs.lemmas.Result.{err_from_is_err_and}
-use Rattle.laws.proofs.Results.{on_ok}
+use Rattle.muck_laws.proofs.Results.{on_ok}
 use Rattle.muck_log.specs.declared.fault.LogFault.TheVariants.{DiskFault}
 use Rattle.spec_events.specs.Own.{Stage}
 use Rattle.spec_dumps.specs.inner.Holding.{FailedLast}

@@ -1,5 +1,5 @@
 use Rattle.std.proofs.Common.{refl, sym, ◌∙◌, arith, None, Ok, Err}
-use Rattle.laws.proofs.Results.{if_err, on_ok}
+use Rattle.muck_laws.proofs.Results.{if_err, on_ok}
 use Rattle.spec_events.specs.Own.{Stage}
 use Rattle.spec_dumps.specs.Fronts.{at_cut}
 use Rattle.spec_dumps.specs.inner.Holding.{Keeps}

@@ -1,5 +1,5 @@
 use Rattle.std.proofs.Common.{refl, ap, ◌∙◌, subst, true, false}
-use Rattle.laws.proofs.Results.{on_err, on_ok}
+use Rattle.muck_laws.proofs.Results.{on_err, on_ok}
 use Rattle.std.proofs.lemmas.Bool.{both_ways}
 use Rattle.muck_model.specs.declared.event.Event.TheVariants.{Stored, DumpFailed, Died}
 use Rattle.spec_events.specs.Steps.{is_lawful}

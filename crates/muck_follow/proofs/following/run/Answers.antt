@@ -1,5 +1,5 @@
 use Rattle.std.proofs.Common.{refl, ◌∙◌, arith}
-use Rattle.laws.proofs.Results.{on_error}
+use Rattle.muck_laws.proofs.Results.{on_error}
 use Rattle.muck_log.proofs.Mounting.{quiet_too}
 use Rattle.muck_follow.proofs.Replies.{line_done, line_cut_short, lines_done, stopped}
 use Rattle.muck_follow.proofs.following.run.Goals as goal

@@ -1,6 +1,6 @@
 use Rattle.std.proofs.Common.{◌+◌, ◌-◌, ◌<◌, ◌≤◌, length, arith}
-use Rattle.laws.proofs.Parts.{keeps_within}
-use Rattle.laws.proofs.Results.{on_err_given}
+use Rattle.muck_laws.proofs.Parts.{keeps_within}
+use Rattle.muck_laws.proofs.Results.{on_err_given}
 use Rattle.muck_io.proofs.Taken.{took_more, broke_reading}
 use Rattle.muck_io.proofs.source.read_all.Goals as goal
 

@@ -1,6 +1,6 @@
 -- The first step, and a text that ends where a term is wanted.
 use Rattle.std.proofs.Common.{length, sym, ◌∙◌, ap, arith}
-use Rattle.laws.proofs.Numbers.{some_bytes}
+use Rattle.muck_laws.proofs.Numbers.{some_bytes}
 use Rattle.muck_lock.specs.Naming.{Naming, naming}
 use Rattle.muck_lock.specs.Grammar.{lock_of}
 use Rattle.muck_lock.specs.inner.Waiting.{outcome_at}

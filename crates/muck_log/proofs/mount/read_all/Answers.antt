@@ -1,5 +1,5 @@
 use Rattle.std.proofs.Common.{◌++◌, length, take, drop, sym, ◌∙◌, ap, arith, length-take, length-append}
-use Rattle.laws.proofs.Parts.{back_front}
+use Rattle.muck_laws.proofs.Parts.{back_front}
 use Rattle.muck_log.proofs.Mounting.{reached_start, first_so_far, more_so_far, whole_so_far, over_so_far}
 use Rattle.muck_log.proofs.mount.read_all.Goals as goal
 use Rattle.muck_log.proofs.mount.read_all.Goals.{then-loop-at-test+else-not-is_over, else-loop-at-test}

@@ -1,6 +1,6 @@
 use Rattle.std.proofs.Common.{◌∙◌, ap}
 use Rattle.std.specs.Prelude.{slice_set}
-use Rattle.laws.proofs.Places.{same_again}
+use Rattle.muck_laws.proofs.Places.{same_again}
 use Rattle.muck_mirror.specs.declared.world.Replaced.{Replaced}
 use Rattle.muck_mirror.specs.inner.Undoing.{undone}
 use Rattle.muck_mirror.proofs.Undoing.{replaced_back}

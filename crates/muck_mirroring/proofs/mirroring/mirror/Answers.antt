@@ -1,5 +1,5 @@
 use Rattle.std.proofs.Common.{◌≡◌, ◌⊎◌, Err, inl, inr, refl, sym, ap, subst, ◌∙◌}
-use Rattle.laws.proofs.Results.{err_is}
+use Rattle.muck_laws.proofs.Results.{err_is}
 use Rattle.muck_run.proofs.Called.{either_since, holds_still}
 use Rattle.muck_run.proofs.Untouched.{untouched_on}
 use Rattle.muck_io.specs.Faults.{Rose}

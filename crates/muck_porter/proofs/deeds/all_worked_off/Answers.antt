@@ -1,6 +1,6 @@
 use Rattle.std.proofs.Common.{arith, ap, sym, ◌∙◌, length}
 use lib.ListN.{get_elem?}
-use Rattle.laws.proofs.Places.{at_below, one_more}
+use Rattle.muck_laws.proofs.Places.{at_below, one_more}
 use Rattle.atomic_table.proofs.Lists.{at_index}
 use Rattle.spec_events.specs.Histories.{now}
 use Rattle.spec_serve.specs.inner.Keeping.{Peer}

@@ -1,5 +1,5 @@
 use Rattle.std.proofs.Common.{refl, sym, ◌∙◌}
-use Rattle.laws.proofs.Truths.{did_so}
+use Rattle.muck_laws.proofs.Truths.{did_so}
 use Rattle.muck_model.specs.declared.event.Event.TheVariants.{Moment, StopSeen}
 use Rattle.muck_porter.proofs.deeds.leaves.Goals as goal
 

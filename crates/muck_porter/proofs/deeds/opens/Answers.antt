@@ -1,5 +1,5 @@
 use Rattle.std.proofs.Common.{refl, ◌∙◌}
-use Rattle.laws.proofs.Truths.{did_so}
+use Rattle.muck_laws.proofs.Truths.{did_so}
 use Rattle.muck_model.specs.declared.event.Event.TheVariants.{Opened}
 use Rattle.muck_porter.proofs.deeds.opens.Goals as goal
 

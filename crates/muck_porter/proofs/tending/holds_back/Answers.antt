@@ -1,5 +1,5 @@
 use Rattle.std.proofs.Common.{rules, ◌∙◌}
-use Rattle.laws.proofs.Places.{put_same}
+use Rattle.muck_laws.proofs.Places.{put_same}
 use Rattle.atomic_table.proofs.Lists.{at_index}
 use Rattle.muck_porter.proofs.tending.holds_back.Goals as goal
 

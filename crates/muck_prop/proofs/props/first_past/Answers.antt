@@ -8,7 +8,7 @@ use Rattle.std.specs.FinMap.{from_entries}
 use Rattle.std.specs.BTreeMap.Range.{is_from_start}
 use Rattle.std.specs.declared.ops.Bound.TheVariants.{Included}
 use Rattle.std.specs.declared.cmp.Ordering.TheVariants.{Less}
-use Rattle.laws.proofs.Orders.{is_less}
+use Rattle.muck_laws.proofs.Orders.{is_less}
 use Rattle.muck_prop.specs.Order.{path_cmp, past}
 use Rattle.muck_prop.specs.Store.{next_child, found_child}
 use Rattle.muck_prop.proofs.First.{next_from_past, next_from_before, next_from_start}

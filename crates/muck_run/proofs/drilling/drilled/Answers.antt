@@ -1,5 +1,5 @@
 use Rattle.std.proofs.Common.{ap, ◌∙◌}
-use Rattle.laws.proofs.Results.{on_err_as}
+use Rattle.muck_laws.proofs.Results.{on_err_as}
 use Rattle.muck_run.specs.Drill.{summary}
 use Rattle.muck_run.proofs.Drilled.{drilled_as, played_short}
 use Rattle.muck_run.proofs.drilling.drilled.Goals as goal

@@ -1,5 +1,5 @@
 use Rattle.std.proofs.Common.{refl, ap, ◌∙◌, Some}
-use Rattle.laws.proofs.Results.{on_err_as}
+use Rattle.muck_laws.proofs.Results.{on_err_as}
 use Rattle.muck_run.proofs.Drilled.{fresh_alive, fresh_idle, fresh_opens, played_by, fresh_short, broke_short}
 use Rattle.muck_run.proofs.drilling.play_drill.Goals as goal
 

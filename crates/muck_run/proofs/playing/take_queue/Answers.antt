@@ -1,6 +1,6 @@
 use Rattle.std.proofs.Common.{◌<◌, ◌≤◌, [], length, refl, ◌∙◌, arith}
 use Rattle.std.proofs.lemmas.Bool.{cond-true, lt-ltb}
-use Rattle.laws.proofs.Lists.{no_ending}
+use Rattle.muck_laws.proofs.Lists.{no_ending}
 use Rattle.spec_dumps.proofs.Quiet.{quiet_nothing, quiet_one, quiet_on}
 use Rattle.spec_events.specs.World.{queue_of}
 use Rattle.spec_events.specs.Histories.{now}

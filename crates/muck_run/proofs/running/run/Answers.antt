@@ -1,5 +1,5 @@
 use Rattle.std.proofs.Common.{Err, inl, inr, refl, sym, ap, subst}
-use Rattle.laws.proofs.Results.{err_is}
+use Rattle.muck_laws.proofs.Results.{err_is}
 use Rattle.muck_run.specs.Outcome.{HasReadScript}
 use Rattle.muck_run.specs.inner.Ends.{IsScriptWhy, MayEnd}
 use Rattle.muck_run.proofs.Called.{unread_ends, wanted_ends, began_ends, either_since, holds_still, never_begun, has_begun, run_done}

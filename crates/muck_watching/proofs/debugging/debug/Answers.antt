@@ -1,5 +1,5 @@
 use Rattle.std.proofs.Common.{Err, inl, inr, refl, sym, ap, subst}
-use Rattle.laws.proofs.Results.{err_is}
+use Rattle.muck_laws.proofs.Results.{err_is}
 use Rattle.muck_watching.specs.Debugged.{HasReadDebugScript}
 use Rattle.muck_run.specs.inner.Ends.{IsMountWhy, MayRefuse, MayEnd}
 use Rattle.muck_watching.specs.inner.Seen.{IsDebugWhy}

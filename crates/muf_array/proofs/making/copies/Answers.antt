@@ -1,6 +1,6 @@
 use Rattle.std.proofs.Common.{map, ap, sym, ◌∙◌, ◌∷◌, [], ◌++◌, ◌+◌, ◌-◌, ◌≡◌, take, drop, reverse, arith}
 use Rattle.std.proofs.lemmas.List.{map-append}
-use Rattle.laws.proofs.Turned.{turned_more}
+use Rattle.muck_laws.proofs.Turned.{turned_more}
 use Rattle.muf_model.specs.inner.View.{view}
 use Rattle.muf_frame.specs.inner.Shown.{flat}
 use Rattle.muf_array.proofs.Counting.{counted_item}

@@ -2,8 +2,8 @@ use Rattle.std.proofs.Common.{◌≡◌, ℕ, suc, ◌+◌, ◌-◌, map, ap, sy
 use Rattle.std.specs.Prelude.{slice_get}
 use Rattle.std.specs.Option.{option_and_then}
 use Rattle.std.proofs.lemmas.List.{map-append, drop-drop}
-use Rattle.laws.proofs.Options.{none_where_never}
-use Rattle.laws.proofs.Places.{get_drop}
+use Rattle.muck_laws.proofs.Options.{none_where_never}
+use Rattle.muck_laws.proofs.Places.{get_drop}
 use Rattle.muf_model.specs.Datum.{Datum}
 use Rattle.muf_model.specs.inner.View.{view, pair_view}
 use Rattle.muf_model.specs.ArrayRows.{map_key_of}

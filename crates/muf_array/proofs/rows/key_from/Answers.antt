@@ -1,5 +1,5 @@
 use Rattle.std.proofs.Common.{◌≡◌, ◌∙◌, drop}
-use Rattle.laws.proofs.Results.{if_ok_mapped}
+use Rattle.muck_laws.proofs.Results.{if_ok_mapped}
 use Rattle.muf_model.specs.inner.View.{view}
 use Rattle.muf_model.specs.ArrayRows.{entries_in, first_key}
 use Rattle.prim_text.specs.inner.Made.{made_of}

@@ -1,7 +1,7 @@
 use Rattle.std.proofs.Common.{map, ap, sym, ◌∙◌, ◌∷◌, [], ◌++◌, ◌+◌, ◌-◌, ◌≡◌, length, drop, reverse, arith}
 use Rattle.std.specs.Prelude.{pos}
 use Rattle.std.proofs.lemmas.List.{map-append}
-use Rattle.laws.proofs.Turned.{turned_more}
+use Rattle.muck_laws.proofs.Turned.{turned_more}
 use Rattle.muf_model.specs.Datum.{int}
 use Rattle.muf_model.specs.inner.View.{view}
 use Rattle.muf_model.specs.ArrayRows.{entries_in}

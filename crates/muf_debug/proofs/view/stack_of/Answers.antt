@@ -1,6 +1,6 @@
 use Rattle.std.proofs.Common.{◌++◌, ◌∷◌, [], ◌-◌, ◌∙◌, ap, map, sym, arith}
 use Rattle.std.proofs.lemmas.List.{map-append}
-use Rattle.laws.proofs.Places.{none_past}
+use Rattle.muck_laws.proofs.Places.{none_past}
 use Rattle.muf_model.specs.inner.View.{view}
 use Rattle.muf_debug.proofs.Seen.{stack_more}
 use Rattle.muf_debug.proofs.view.stack_of.Goals as goal

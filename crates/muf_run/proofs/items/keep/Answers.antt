@@ -1,6 +1,6 @@
 use Rattle.std.proofs.Common.{rules, ◌≡◌, ◌+◌, ◌≤◌, length, sym, ap, ◌∙◌, false, true}
 use Rattle.std.specs.Prelude.{is_some}
-use Rattle.laws.proofs.Options.{some_mapped}
+use Rattle.muck_laws.proofs.Options.{some_mapped}
 use Rattle.muf_model.specs.inner.View.{view}
 use Rattle.muf_model.specs.Answer.{variable_at}
 use Rattle.muf_frame.specs.inner.Shown.{flat, locked_by}

@@ -1,5 +1,5 @@
 use Rattle.std.proofs.Common.{◌≡◌, ◌<◌, ◌-◌, ◌∷◌, sym, subst, arith}
-use Rattle.laws.proofs.Results.{over_by}
+use Rattle.muck_laws.proofs.Results.{over_by}
 use Rattle.muf_model.specs.Unit.{units}
 use Rattle.muf_model.specs.inner.Flat.{decode}
 use Rattle.muf_frame.specs.inner.Shown.{flat}

@@ -1,6 +1,6 @@
 use Rattle.std.proofs.Common.{rules, ◌≡◌, ◌+◌, List, ◌∷◌, Some, None, ap, ◌∙◌}
 use Rattle.std.specs.Prelude.{slice_get}
-use Rattle.laws.proofs.Results.{if_ok_mapped}
+use Rattle.muck_laws.proofs.Results.{if_ok_mapped}
 use Rattle.muf_model.specs.declared.code.Code.{Code}
 use Rattle.muf_model.specs.Source.{Source}
 use Rattle.muf_model.specs.Unit.{unit}

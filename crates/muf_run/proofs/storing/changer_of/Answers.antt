@@ -1,5 +1,5 @@
 use Rattle.std.proofs.Common.{◌≡◌, ap, sym, ◌∙◌}
-use Rattle.laws.proofs.Options.{if_some_mapped}
+use Rattle.muck_laws.proofs.Options.{if_some_mapped}
 use Rattle.muf_model.specs.declared.code.Word.TheVariants.{Primitive}
 use Rattle.muf_array.specs.inner.Open.{prim_of}
 use Rattle.muf_run.proofs.storing.changer_of.Goals as goal

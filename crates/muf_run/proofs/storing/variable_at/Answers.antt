@@ -1,5 +1,5 @@
 use Rattle.std.proofs.Common.{◌≡◌, subst}
-use Rattle.laws.proofs.Options.{if_some_mapped}
+use Rattle.muck_laws.proofs.Options.{if_some_mapped}
 use Rattle.muf_model.specs.declared.code.Word.TheVariants.{Variable}
 use Rattle.muf_run.specs.inner.Storing.{HasWord}
 use Rattle.muf_run.proofs.storing.variable_at.Goals as goal

@@ -1,5 +1,5 @@
 use Rattle.std.proofs.Common.{◌≡◌, List, ◌∷◌, drop, reverse, sym, ap, subst, ◌∙◌}
-use Rattle.laws.proofs.Results.{if_ok_mapped}
+use Rattle.muck_laws.proofs.Results.{if_ok_mapped}
 use Rattle.muf_model.specs.declared.code.Code.{Code}
 use Rattle.muf_model.specs.inner.Fits.{Fits}
 use Rattle.muf_model.specs.inner.Flat.{decode}

@@ -1,5 +1,5 @@
 use Rattle.std.proofs.Common.{subst, sym}
-use Rattle.laws.proofs.Results.{if_ok_mapped}
+use Rattle.muck_laws.proofs.Results.{if_ok_mapped}
 use Rattle.muf_model.specs.inner.Decode.{tree_of}
 use Rattle.muf_model.specs.inner.Stands.{TreeStands}
 use Rattle.muf_running.proofs.Compiled.{compiled_stands}

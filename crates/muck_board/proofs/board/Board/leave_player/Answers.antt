@@ -1,6 +1,6 @@
 use Rattle.std.proofs.Common.{arith, sym, ◌∙◌, get_or}
 use Rattle.std.proofs.lemmas.Bool.{cond-true, cond-false}
-use Rattle.laws.proofs.Places.{mapped_more}
+use Rattle.muck_laws.proofs.Places.{mapped_more}
 use Rattle.spec_live.specs.Connections.{left_where, is_connection_of}
 use Rattle.muck_board.proofs.board.Board.leave_player.Goals as goal
 use Rattle.muck_board.proofs.board.Board.leave_player.Goals.{then-is_of, else-is_of}

@@ -1,5 +1,5 @@
 use Rattle.std.proofs.Common.{ap, ◌∙◌, ◌≤◌, List, ℕ, length, drop, arith, length-take}
-use Rattle.laws.proofs.Parts.{window_dropped}
+use Rattle.muck_laws.proofs.Parts.{window_dropped}
 use Rattle.muck_board.specs.inner.Sent.{lines_in}
 use Rattle.muck_board.specs.inner.Waiting.{Waiting}
 use Rattle.muck_board.proofs.lines.Lines.advance.Goals as goal

@@ -1,5 +1,5 @@
 use Rattle.std.proofs.Common.{ap, ◌≡◌, ◌∙◌, ◌++◌, length, drop, take, arith, length-append}
-use Rattle.laws.proofs.Parts.{same_window}
+use Rattle.muck_laws.proofs.Parts.{same_window}
 use Rattle.muck_board.specs.inner.Sent.{lines_in}
 use Rattle.muck_board.specs.inner.Waiting.{Waiting}
 use Rattle.muck_board.proofs.Ended.{pushed_at}

@@ -1,5 +1,5 @@
 use Rattle.std.proofs.Common.{sym, ◌∙◌, ap, arith}
-use Rattle.laws.proofs.Numbers.{later_block}
+use Rattle.muck_laws.proofs.Numbers.{later_block}
 use Rattle.muck_db.specs.inner.Table.{Table}
 use Rattle.muck_db.proofs.Blocked.{passed_over}
 use Rattle.muck_db.proofs.slots.Slots.next_flagged.Goals as goal

@@ -1,5 +1,5 @@
 use Rattle.std.proofs.Common.{◌≡◌, ◌≤◌, ℕ, true, length, Some, Ok, Err, refl, sym, ap, ◌∙◌, subst, arith}
-use Rattle.laws.proofs.Numbers.{too_few}
+use Rattle.muck_laws.proofs.Numbers.{too_few}
 use Rattle.muck_log.specs.World.{StoredWorld}
 use Rattle.muck_log.specs.Store.{LogState}
 use Rattle.muck_log.specs.Append.{base_of, payload_of}

@@ -1,5 +1,5 @@
 use Rattle.std.proofs.Common.{refl, sym, ◌∙◌}
-use Rattle.laws.proofs.Results.{on_ok_as}
+use Rattle.muck_laws.proofs.Results.{on_ok_as}
 use Rattle.muck_turns.specs.contracts.state.State as state
 use Rattle.muck_machine.proofs.Keepings.{keeps_concluded}
 use Rattle.muck_machine.proofs.Taken.{opened_so}

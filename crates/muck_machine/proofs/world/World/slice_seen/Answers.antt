@@ -1,6 +1,6 @@
 use Rattle.std.proofs.Common.{◌≡◌, refl, subst, sym, ◌∙◌, ap, true, false, OnOk, to_z, of_z, w32, rules}
 use Rattle.std.proofs.lemmas.Bool.{cond-true}
-use Rattle.laws.proofs.Results.{whatever}
+use Rattle.muck_laws.proofs.Results.{whatever}
 use Rattle.muck_model.specs.declared.event.Event.TheVariants.{Slice}
 use Rattle.muf_debug.specs.Watching.{SeesAll}
 use Rattle.spec_events.specs.Steps.{is_lawful, is_process_there}

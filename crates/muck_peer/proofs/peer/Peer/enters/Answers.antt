@@ -1,5 +1,5 @@
 use Rattle.std.proofs.Common.{true≢false, ap, sym, ◌∙◌, refl}
-use Rattle.laws.proofs.Truths.{did_so}
+use Rattle.muck_laws.proofs.Truths.{did_so}
 use Rattle.muck_model.specs.declared.event.Event.TheVariants.{Input}
 use Rattle.spec_events.specs.Steps.{is_lawful}
 use Rattle.spec_events.specs.Histories.{now, entered, by_porter}

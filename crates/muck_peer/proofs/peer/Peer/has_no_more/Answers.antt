@@ -1,6 +1,6 @@
 use Rattle.std.proofs.Common.{ap, sym, ◌∙◌}
 use Rattle.std.proofs.lemmas.Bool.{both_ways, not-true}
-use Rattle.laws.proofs.Lists.{stable}
+use Rattle.muck_laws.proofs.Lists.{stable}
 use Rattle.spec_serve.specs.inner.Keeping.{Peer}
 use Rattle.spec_serve.proofs.Causes.{heard_none, heard_not}
 use Rattle.muck_machine.specs.declared.world.situation.Situation.{Situation}

@@ -1,5 +1,5 @@
 use Rattle.std.proofs.Common.{◌≡◌, true, take, ap, ◌∙◌, refl}
-use Rattle.laws.proofs.Results.{on_err_given}
+use Rattle.muck_laws.proofs.Results.{on_err_given}
 use Rattle.muck_links.specs.inner.Cutting.{fed}
 use Rattle.muck_links.specs.Sessions.{on_session}
 use Rattle.spec_serve.specs.Marks.{LinksNote}

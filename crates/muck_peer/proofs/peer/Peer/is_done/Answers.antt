@@ -1,6 +1,6 @@
 use Rattle.std.proofs.Common.{◌≡◌, ap, sym, ◌∙◌, arith, length}
 use Rattle.std.proofs.lemmas.Bool.{both_ways, not-true}
-use Rattle.laws.proofs.Lists.{stable}
+use Rattle.muck_laws.proofs.Lists.{stable}
 use Rattle.spec_events.specs.World.{queue_of}
 use Rattle.spec_events.specs.Histories.{now}
 use Rattle.muck_machine.specs.declared.world.situation.Situation.{Situation}

@@ -1,6 +1,6 @@
 use Rattle.std.proofs.Common.{rules, ap, sym, ◌∙◌, refl, subst, ◌<◌, arith, take, length}
 use Rattle.std.proofs.lemmas.List.{with_items_is}
-use Rattle.laws.proofs.Numbers.{took_count, took_some}
+use Rattle.muck_laws.proofs.Numbers.{took_count, took_some}
 use Rattle.muck_model.specs.declared.event.Event.TheVariants.{Take}
 use Rattle.spec_events.specs.World.{queue_of}
 use Rattle.spec_events.specs.Histories.{now, entered, by_porter}

@@ -1,5 +1,5 @@
 use Rattle.std.proofs.Common.{refl, sym, ap, ◌∙◌, inl, inr, rules, ◌≡◌, ℕ, ◌==◌, length, vec_len}
-use Rattle.laws.proofs.Lists.{empty_of}
+use Rattle.muck_laws.proofs.Lists.{empty_of}
 use Rattle.muck_links.specs.Sessions.{LinksTold}
 use Rattle.muck_porter.specs.inner.Desks.{stand}
 use Rattle.muck_porter.proofs.Going.{free_then}

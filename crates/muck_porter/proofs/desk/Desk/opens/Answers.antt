@@ -1,5 +1,5 @@
 use Rattle.std.proofs.Common.{List, [], ◌∷◌, ◌++◌, refl, sym, ap, ◌∙◌, subst}
-use Rattle.laws.proofs.Numbers.{at_most}
+use Rattle.muck_laws.proofs.Numbers.{at_most}
 use Rattle.spec_events.specs.Histories.{now}
 use Rattle.spec_serve.specs.inner.Keeping.{Peer}
 use Rattle.muck_porter.specs.declared.deeds.Did.{Did}

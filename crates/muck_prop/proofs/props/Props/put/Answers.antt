@@ -2,7 +2,7 @@ use Rattle.std.proofs.Common.{ap, sym, subst, ◌∙◌}
 use Rattle.std.specs.Prelude.{if◌then◌else◌}
 use Rattle.std.specs.List.{AllByRecursion}
 use Rattle.std.specs.FinMap.{get, insert, remove}
-use Rattle.laws.proofs.Results.{on_err_given}
+use Rattle.muck_laws.proofs.Results.{on_err_given}
 use Rattle.muck_prop.specs.Store.{IsKept}
 use Rattle.muck_prop.proofs.Maps.{get_is, inserted, kept_inserted}
 use Rattle.muck_prop.proofs.props.Props.put.Goals as goal

@@ -1,6 +1,6 @@
 use Rattle.std.proofs.Common.{ap, ◌∙◌, subst}
 use Rattle.std.proofs.lemmas.Int.{to_z-of_z}
-use Rattle.laws.proofs.Results.{if_ok_as}
+use Rattle.muck_laws.proofs.Results.{if_ok_as}
 use Rattle.spec_events.specs.Following.{settled}
 use Rattle.spec_events.specs.Slices.{deed, process_stands_at}
 use Rattle.muck_turns.specs.inner.Deeds.{DoneAs}

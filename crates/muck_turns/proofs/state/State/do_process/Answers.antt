@@ -1,6 +1,6 @@
 use Rattle.std.proofs.Common.{rules, ◌≡◌, Ok, Err, sym, subst, drop, true, to_z, of_z, w32}
 use Rattle.std.specs.Prelude.{is_some}
-use Rattle.laws.proofs.Truths.{moved}
+use Rattle.muck_laws.proofs.Truths.{moved}
 use Rattle.muck_queue.specs.Queues.{process}
 use Rattle.spec_events.specs.Slices.{place_of_use, queued}
 use Rattle.muck_turns.specs.inner.Deeds.{DoneAs}

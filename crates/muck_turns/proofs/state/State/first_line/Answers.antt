@@ -1,5 +1,5 @@
 use Rattle.std.proofs.Common.{◌≡◌, ◌∙◌, subst, None}
-use Rattle.laws.proofs.Results.{if_ok_as, on_ok_as}
+use Rattle.muck_laws.proofs.Results.{if_ok_as, on_ok_as}
 use Rattle.spec_live.specs.Boards.{editor_in}
 use Rattle.muck_queue.specs.Queues.{reader}
 use Rattle.spec_events.specs.World.{World, connection}

@@ -1,5 +1,5 @@
 use Rattle.std.proofs.lemmas.Int.{to_z-of_z}
-use Rattle.laws.proofs.Results.{on_ok_turns}
+use Rattle.muck_laws.proofs.Results.{on_ok_turns}
 use Rattle.muck_turns.proofs.Hooks.{slice_hooked}
 use Rattle.muck_turns.proofs.state.State.slice_seen.Goals as goal
 

@@ -1,5 +1,5 @@
 use Rattle.std.proofs.Common.{refl, ◌∙◌}
-use Rattle.laws.proofs.Results.{on_ok_as}
+use Rattle.muck_laws.proofs.Results.{on_ok_as}
 use Rattle.muck_turns.proofs.Hooks.{told_next, told_end}
 use Rattle.muck_turns.proofs.state.hook.push_told.Goals as goal
 

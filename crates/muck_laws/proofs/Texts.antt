@@ -14,9 +14,9 @@ use Rattle.std.specs.Int.{byte_at, bytes_high_first, from_be_bytes, w64}
 use Rattle.std.specs.Int.Signed.{mag}
 use Rattle.std.specs.List.{AllByRecursion, join_with_byte, onto_first, position, position_or_len, slice_split}
 use Rattle.std.specs.Prelude.{IsTrue, codes, ◌↔◌}
-use Rattle.laws.proofs.Parts.{word_in}
-use Rattle.laws.proofs.Tests.{position_none}
-use Rattle.laws.proofs.Truths.{and_false}
+use Rattle.muck_laws.proofs.Parts.{word_in}
+use Rattle.muck_laws.proofs.Tests.{position_none}
+use Rattle.muck_laws.proofs.Truths.{and_false}
 
 pub behind_onto : (x : ℕ) (parts : List (List ℕ)) → drop 1 (onto_first x parts) ≡ drop 1 parts
 behind_onto x [] = refl

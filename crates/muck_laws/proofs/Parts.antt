@@ -3,7 +3,7 @@ use Rattle.std.proofs.Common.{Bool, List, [], ap, append_assoc, arith, cond, dro
 use Rattle.std.proofs.Math.Seq.{drop-append-add, take-add}
 use Rattle.std.proofs.lemmas.Bool.{leb-false, leb-true}
 use Rattle.std.proofs.lemmas.List.{drop-append-le, drop-drop, drop-take, drop_at, take-append-le, take-take}
-use Rattle.laws.proofs.Numbers.{one_added}
+use Rattle.muck_laws.proofs.Numbers.{one_added}
 
 pub same_window : (bytes new more : List ℕ) (at begun : ℕ) → at + begun ≤ length bytes → new ≡ bytes ++ more → take begun (drop at new) ≡ take begun (drop at bytes)
 same_window bytes new more at begun h is =

@@ -10,8 +10,8 @@ use Rattle.std.specs.Option.{option_eq}
 use Rattle.std.specs.Ordering.{eq_by_cmp, int_cmp, is_eq, nat_cmp}
 use Rattle.std.specs.declared.cmp.Ordering.{Ordering}
 use Rattle.std.specs.declared.cmp.Ordering.TheVariants.{Equal, Greater, Less}
-use Rattle.laws.proofs.Texts.{bytes_equivalence}
-use Rattle.laws.proofs.Truths.{either_so}
+use Rattle.muck_laws.proofs.Texts.{bytes_equivalence}
+use Rattle.muck_laws.proofs.Truths.{either_so}
 
 pub at_same : (k x : ℕ) → is_at (nat_cmp k) x ≡ true → k ≡ x
 at_same k x h = exact_unsigned k x (equal_from (nat_cmp k x) h)
