@@ -17,7 +17,7 @@ use spec_rights::Act;
 
 // Tells the connection what came of making an object.
 fn tell_made(guard: &mut Guard, d: u32, made: Result<Dbref, DbFault>) -> Result<(), NoMemory>
-    ensures { IsTold d object_made guard.old guard.new result }
+    ensures { IsTold d made guard.old guard.new result }
 {
     match made {
         Ok(x) => show_created(guard, d, number_of(x)),

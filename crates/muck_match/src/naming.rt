@@ -74,7 +74,7 @@ pub fn joined(before: Found, behind: Found) -> Found
 
 // Whether nothing was found.
 pub fn is_nobody(found: Found) -> bool
-    ensures { result ≡ is_nobody thing_found }
+    ensures { result ≡ is_nobody found }
 {
     matches!(found, Found::None)
 }

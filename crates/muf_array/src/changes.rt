@@ -25,7 +25,7 @@ pub(crate) enum Change {
 
 // The fault of what would be too heavy or nested too deep.
 fn weighed(fits: bool) -> Option<MufFault>
-    ensures { result ≡ fault_of value_fits }
+    ensures { result ≡ fault_of fits }
 {
     if fits { None } else { Some(MufFault::TooHeavy) }
 }

@@ -89,7 +89,7 @@ impl Running {
     /// A fault: the process goes on behind the nearest TRY, `None` where no TRY catches it. After `NoMemory` nothing
     /// is left of the process.
     pub fn raise(self, alloc: Global, fault: &MufFault) -> Result<Option<Running>, NoMemory>
-        ensures { IfOk result (λ r. Raised fault_met.now self r) }
+        ensures { IfOk result (λ r. Raised fault.now self r) }
     {
         let Running {
             programs,

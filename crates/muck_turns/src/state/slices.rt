@@ -194,7 +194,7 @@ impl State {
         program: Dbref,
         fault: MufFault,
     ) -> Result<(), NoMemory>
-        ensures { OnOk result (self.new ≡ broken pid player program.0 fault_met self.old) }
+        ensures { OnOk result (self.new ≡ broken pid player program.0 fault self.old) }
     {
         self.queue.kill(pid);
         let text = error_text(self.alloc, program, &fault)?;
