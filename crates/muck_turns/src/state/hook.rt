@@ -236,7 +236,7 @@ fn push_calls(
 
 // Whether others may start behind one that was to start so.
 fn more_is(begun: Result<i32, DeedFault>) -> Result<bool, NoMemory>
-    ensures { MoreIs program_begun result }
+    ensures { MoreIs begun result }
 {
     match begun {
         Ok(_) => Ok(true),
