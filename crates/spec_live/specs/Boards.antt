@@ -7,7 +7,7 @@ use Rattle.rand_pcg.specs.Pcg.{pcg32, pcg32_of_seed}
 use Rattle.muck_model.specs.declared.dbref.Dbref.{Dbref}
 use Rattle.muck_model.specs.declared.edit.EditState.{EditState}
 use Rattle.muck_model.specs.declared.tune.Tune.{Tune}
-pub use Rattle.muck_model.specs.Parameters.{first_tune}
+unfoldable pub use Rattle.muck_model.specs.Parameters.{first_tune}
 use Rattle.spec_live.specs.Output.{bytes_of, output_taken}
 use Rattle.spec_live.specs.Connections.{Connection, is_connection, changed_in, connection_placed, without_connection, newcomer, text_told, left, player_seated, lined, editor_set, edits, edited_where, is_connection_of, hears, told_where, left_where, has_player}
 
