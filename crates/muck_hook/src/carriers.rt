@@ -6,7 +6,7 @@ ghost use Rattle.spec_rights.specs.Levels.{is_player_at};
 ghost use Rattle.spec_hooks.specs.Firing.{directory, fired_by};
 ghost use Rattle.muck_hook.specs.Firing.{fired_unplayed};
 
-use crate::fires::push_fires;
+use crate::firing::push_fires;
 use muck_db::Db;
 use muck_match::Scene;
 use muck_model::{Dbref, NoMemory};
