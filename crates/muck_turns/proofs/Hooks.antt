@@ -142,7 +142,7 @@ line_hooked d w u v before said turned r quiet still rising b e s t done =
     let now : turned ≡ came_on d (player_in d w.live.board) after.live = t ∙ ap (λ (x : World). came_on d before x.live) e ∙ ap (λ o. came_on d o after.live) b in
     on_ok_as r (v ≡ hooked_told turned said u) (v ≡ hooked_by w (Exec d) after)
     (λ h. h ∙ ap (λ (x : World). hooked_told turned said x) e ∙ ap (λ x. hooked_told x said after) now
-        ∙ hooked_by_told (came_on d (player_in d w.live.board) after.live) said w after (turns_exec d w 0 quiet rising still) ∙ ap (λ x. hooked w (rested after) x) s)
+    ∙ hooked_by_told (came_on d (player_in d w.live.board) after.live) said w after (turns_exec d w 0 quiet rising still) ∙ ap (λ x. hooked w (rested after) x) s)
     done
 
 -- behind a slice
