@@ -41,7 +41,7 @@ fired_below es cause carrier dir m = by_entries (entries m)
     by_entries (p ∷ ps) = step p (is_below dir p.0) (eqb (length p.0) (length dir + 1)) (filter (λ q. is_below dir q.0) ps) (filter_map (direct dir) ps) (one_longer (length dir) p.0) (by_entries ps)
 
 -- those that aren't players, one by one
-pub fired_others : (es : List Entry) (cause : Cause) (ds : List Dbref) → flat_map (fired_unplayed es cause) ds ≡ flat_map (fired_by es cause) (filter (λ d. not (is_player_at es d)) ds)
+fired_others : (es : List Entry) (cause : Cause) (ds : List Dbref) → flat_map (fired_unplayed es cause) ds ≡ flat_map (fired_by es cause) (filter (λ d. not (is_player_at es d)) ds)
 fired_others es cause [] = refl
 fired_others es cause (d ∷ ds) = by (is_player_at es d) (fired_others es cause ds)
   where
@@ -49,6 +49,13 @@ fired_others es cause (d ∷ ds) = by (is_player_at es d) (fired_others es cause
         cond b [] (fired_by es cause d) ++ flat_map (fired_unplayed es cause) ds ≡ flat_map (fired_by es cause) (cond (not b) (d ∷ filter (λ x. not (is_player_at es x)) ds) (filter (λ x. not (is_player_at es x)) ds))
     by true rest = rest
     by false rest = ap (λ fs. fired_by es cause d ++ fs) rest
+
+-- a place, and those in it that aren't players
+pub fired_around : (es : List Entry) (cause : Cause) (place : Dbref) (ds held : List Dbref) (fs gs hs : List Fire) → ds ≡ held → gs ≡ fs ++ fired_by es cause place → hs ≡ gs ++ flat_map (fired_unplayed es cause) ds →
+    hs ≡ fs ++ flat_map (fired_by es cause) (place ∷ filter (λ d. not (is_player_at es d)) held)
+fired_around es cause place ds held fs gs hs is first rest =
+    rest ∙ ap (λ xs. xs ++ flat_map (fired_unplayed es cause) ds) first ∙ append_assoc fs (fired_by es cause place) (flat_map (fired_unplayed es cause) ds)
+    ∙ ap (λ xs. fs ++ (fired_by es cause place ++ xs)) (fired_others es cause ds ∙ ap (λ xs. flat_map (fired_by es cause) (filter (λ d. not (is_player_at es d)) xs)) is)
 
 -- one place more upward
 pub upward_more : (es : List Entry) (cause : Cause) (at : Dbref) (next : Option Dbref) (fs gs : List Fire) → MatchOption next (places_of es at ≡ []) (λ up. places_of es at ≡ up ∷ places_of es up) → gs ≡ fs ++ fired_by es cause at →

@@ -1,5 +1,5 @@
 // The objects that a cause meets: a place or a player and its places upward, or a place and what is in it.
-ghost use Rattle.std.specs.Prelude.{◌≡◌, ◌++◌, ◌∷◌, [], false, not, MatchOption, OnOk};
+ghost use Rattle.std.specs.Prelude.{◌≡◌, ◌++◌, ◌∷◌, [], false, not, MatchOption, IfOk, OnOk};
 ghost use Rattle.std.specs.List.{filter, flat_map};
 ghost use Rattle.spec_live.specs.Seen.{listed_in, places_of};
 ghost use Rattle.spec_rights.specs.Levels.{is_player_at};
@@ -83,8 +83,15 @@ fn push_others(
     Ok(())
 }
 
+// What is in a place.
+fn things_in(alloc: Global, db: &Db, place: Dbref) -> Result<Vec<Dbref>, NoMemory>
+    ensures { IfOk result (λ things. things.items ≡ listed_in false place db.now) }
+{
+    let things = db.contents(place).collect(alloc)?;
+    Ok(things)
+}
+
 // By a place and by what is in it but players.
-#[tactic(auto, using(crate::proofs::Listed::fired_others))]
 pub fn around(
     alloc: Global,
     db: &Db,
@@ -96,7 +103,7 @@ pub fn around(
     requires { dir.now ≡ directory cause.now }
     ensures { OnOk result (fires.new.items ≡ fires.old.items ++ flat_map (fired_by db.now cause.now) (place ∷ filter (λ d. not (is_player_at db.now d)) (listed_in false place db.now))) }
 {
-    let things: Vec<Dbref> = db.contents(place).collect(alloc)?;
+    let things = things_in(alloc, db, place)?;
     push_fires(alloc, db, cause, dir, place, fires)?;
     push_others(alloc, db, cause, dir, &things, fires)
 }
