@@ -91,7 +91,7 @@ fn heard_as(alloc: Global, pose: bool, name: &[u8], text: &[u8]) -> Result<Line,
 }
 
 fn push_move(causes: &mut Vec<Cause>, moved: &Move) -> Result<(), NoMemory>
-    ensures { OnOk result (causes.new.items ≡ causes.old.items ++ of_move moved) }
+    ensures { OnOk result (causes.new.items ≡ causes.old.items ++ of_move moved.now) }
 {
     causes.push(Cause::Depart {
         player: moved.player,
@@ -107,7 +107,7 @@ fn push_move(causes: &mut Vec<Cause>, moved: &Move) -> Result<(), NoMemory>
 // Before one that moved: one whose last connection went with a number up to this one, or whose first one came with one below; what is still to be told of.
 #[tactic(auto, using(crate::proofs::Hooks::nobody_more, crate::proofs::Hooks::went_more, crate::proofs::Hooks::went_here, crate::proofs::Hooks::came_more, crate::proofs::Hooks::came_here))]
 fn push_before(causes: &mut Vec<Cause>, turned: Turned, moved: &Move) -> Result<Turned, NoMemory>
-    ensures { IfOk result (λ rest. (ms : List Move) → (causes.new.items ++ of_move moved) ++ told rest ms ≡ causes.old.items ++ told turned (moved ∷ ms)) }
+    ensures { IfOk result (λ rest. (ms : List Move) → (causes.new.items ++ of_move moved.now) ++ told rest ms ≡ causes.old.items ++ told turned (moved.now ∷ ms)) }
 {
     match turned {
         Turned::Nobody => Ok(Turned::Nobody),
@@ -130,7 +130,7 @@ fn push_before(causes: &mut Vec<Cause>, turned: Turned, moved: &Move) -> Result<
 
 // One that moved, with what is told of before it.
 fn push_next(causes: &mut Vec<Cause>, turned: Turned, moved: &Move) -> Result<Turned, NoMemory>
-    ensures { IfOk result (λ rest. (ms : List Move) → causes.new.items ++ told rest ms ≡ causes.old.items ++ told turned (moved ∷ ms)) }
+    ensures { IfOk result (λ rest. (ms : List Move) → causes.new.items ++ told rest ms ≡ causes.old.items ++ told turned (moved.now ∷ ms)) }
 {
     let rest = push_before(causes, turned, moved)?;
     push_move(causes, moved)?;
