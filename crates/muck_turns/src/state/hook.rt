@@ -1,6 +1,6 @@
 // What is hooked to an event: causes, what they fire, and the programs that start.
-ghost use Rattle.std.specs.Prelude.{◌≡◌, ◌++◌, List, [], ◌∷◌, Some, None, if◌then◌else◌, map, IfOk, OnOk};
-ghost use Rattle.std.specs.List.{flat_map};
+ghost use Rattle.std.specs.Prelude.{◌≡◌, ◌&&◌, not, ◌++◌, List, [], ◌∷◌, Some, None, if◌then◌else◌, map, IfOk, OnOk};
+ghost use Rattle.std.specs.List.{flat_map, list_any};
 ghost use Rattle.spec_hooks.specs.Causes.{heard};
 ghost use Rattle.spec_hooks.specs.Firing.{player_of};
 ghost use Rattle.spec_hooks.specs.Told.{of_move, told, is_number, is_alone, came_by, came_on, went_of};
@@ -10,11 +10,13 @@ ghost use Rattle.muck_model.specs.Bytes.{text_fault};
 ghost use Rattle.spec_commands.specs.Replies.{says};
 ghost use Rattle.spec_commands.specs.Talking.{heard_as, pose_tail};
 ghost use Rattle.spec_events.specs.Lines.{spoken_by};
+ghost use Rattle.spec_live.specs.Connections.{is_connection, is_connection_of};
 ghost use Rattle.spec_live.specs.Lives.{name_at};
 ghost use Rattle.muck_turns.specs.inner.Hooks.{GoesOn, MoreIs, hooked_moves, hooked_told, said_of};
 
 use crate::state::State;
 use crate::state::deeds::DeedFault;
+use muck_board::Connection;
 use muck_hook::fires;
 use muck_model::{Dbref, Line, NoMemory, TEXT_MOST};
 use muck_queue::Mode;
@@ -237,6 +239,13 @@ fn more_is(begun: Result<i32, DeedFault>) -> Result<bool, NoMemory>
     }
 }
 
+// It is a connection of this player, and another than `d`.
+fn is_other_of(player: Dbref, d: u32, connection: &Connection) -> bool
+    ensures { result ≡ (is_connection_of player connection.now && not (is_connection d connection.now)) }
+{
+    connection.is_of(player) && connection.number() != d
+}
+
 impl State {
     /// Behind an event: what is hooked to who moved, to whose connections came or went, and to what was said. Where nobody moved, came, went or spoke, nothing is looked at.
     #[tactic(auto, unfolding(crate::specs::inner::Hooks::hooked_told))]
@@ -307,15 +316,21 @@ impl State {
         (player.0 as u32) < self.db.count()
     }
 
+    // Another connection than `d` is of this player.
+    fn has_other(&self, d: u32, player: Dbref) -> bool
+        ensures { result ≡ list_any (λ c. is_connection_of player c && not (is_connection d c)) self.now.live.board.connections }
+    {
+        self.board
+            .connections()
+            .iter()
+            .any(|c| is_other_of(player, d, c))
+    }
+
     // No other connection than `d` is of this player.
     fn is_alone(&self, d: u32, player: Dbref) -> bool
         ensures { result ≡ is_alone d player self.now.live }
     {
-        !self
-            .board
-            .connections()
-            .iter()
-            .any(|c| c.is_of(player) && c.number() != d)
+        !self.has_other(d, player)
     }
 
     /// Of which player the first connection came by a line of the connection `d`, whose player was this one before.
