@@ -167,7 +167,7 @@ line_codes before = record { takes = (text_codes 0 text_most (omega arith)).take
 
 lines_codes : Codes (count_then_items (short_at 0 lines_most) source_lines_at) lines_bytes AreLines
 unfolding lines_bytes
-lines_codes = counted_codes line_key line_at text_bytes IsLine line_codes (short_at 0 lines_most) (to_be_bytes w16) (λ n. (0 ≤ n) × (n ≤ lines_most)) (short_codes 0 text_most (omega arith))
+lines_codes = counted_codes line_key line_at text_bytes IsLine line_codes (short_at 0 lines_most) (to_be_bytes w16) (λ n. (0 ≤ n) × (n ≤ lines_most)) (short_codes 0 lines_most (omega arith))
 
 -- The record.
 

@@ -1,5 +1,5 @@
 -- What objects are written with are texts.
-use Rattle.std.proofs.Common.{◌≡◌, ◌≤◌, ◌<◌, ℕ, Bool, cond, List, [], ◌∷◌, ◌++◌, length, drop, None, refl, arith, sym, ap, ◌∙◌, subst, append_assoc}
+use Rattle.std.proofs.Common.{◌≡◌, ◌≤◌, ◌<◌, ℕ, Bool, cond, List, [], ◌∷◌, ◌++◌, length, drop, None, refl, arith, sym, ap, ◌∙◌, subst, append_assoc, ◌+◌}
 use Rattle.std.specs.Prelude.{codes, Result, Ok, Err}
 use Rattle.std.specs.List.{filter, flat_map}
 use Rattle.std.proofs.lemmas.Bool.{lt-ltb}
@@ -66,10 +66,10 @@ signs_next es text new d rest others all r n h =
     ap (λ ys. ys ++ signs_behind es others) n ∙ append_assoc text (13 ∷ sign_in es d) (signs_behind es others) ∙ ap (λ ds. text ++ signs_behind es ds) (sym r) ∙ h
 
 -- a front that is too long makes all too long
-pub long_signs : (es : List Entry) (ds : List Dbref) (text more : List ℕ) → text ++ more ≡ signs_behind es ds → 4097 < length text → text_or_long (signs_in es ds) ≡ Err TooLong
+pub long_signs : (es : List Entry) (ds : List Dbref) (text more : List ℕ) → text ++ more ≡ signs_behind es ds → text_most + 1 < length text → text_or_long (signs_in es ds) ≡ Err TooLong
 unfolding is_long
 long_signs es ds text more h l =
-    let whole : 4097 < length (signs_behind es ds) = omega (arith, length-append text more, ap length h, l) in
+    let whole : text_most + 1 < length (signs_behind es ds) = omega (arith, length-append text more, ap length h, l) in
     let long : text_most < length (drop 1 (signs_behind es ds)) = omega (arith, length-drop 1 (signs_behind es ds), whole) in
     ap text_or_long (signs_in_are es ds) ∙ ap (λ b. cond b (Err TooLong) (Ok (drop 1 (signs_behind es ds)))) (lt-ltb text_most (length (drop 1 (signs_behind es ds))) long)
 

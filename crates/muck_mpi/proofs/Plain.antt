@@ -1,5 +1,5 @@
 -- A text without brackets and without `\` means itself, and changes nothing.
-use Rattle.std.proofs.Common.{◌≡◌, ℕ, ◌+◌, ◌≤◌, Bool, true, false, cond, List, [], ◌∷◌, ◌++◌, length, refl, sym, ap, ◌∙◌, arith, append_assoc, append-nil, length-append, None}
+use Rattle.std.proofs.Common.{◌≡◌, ℕ, ◌+◌, ◌≤◌, Bool, true, false, cond, List, [], ◌∷◌, ◌++◌, length, refl, sym, ap, ◌∙◌, arith, append_assoc, append-nil, length-append, None, ◌<◌}
 use Rattle.muck_laws.proofs.Tests.{all_head, all_tail}
 use Rattle.muck_laws.proofs.Truths.{plain_free}
 use Rattle.mpi.specs.declared.fault.MpiFault.TheVariants.{Unclosed}
@@ -50,7 +50,7 @@ balances_plain (b ∷ more) h =
     ∙ ap (λ s. balances s more) (plain_passed b (b == 92) (b == 123) (b == 125) refl refl refl plain)
     ∙ balances_plain more (all_tail is_plain_byte b more h)
 
-short : (out : List ℕ) (b n : ℕ) → length out + n ≤ 4095 → is_long (out ++ b ∷ []) ≡ false
+short : (out : List ℕ) (b n : ℕ) → length out + n < text_most → is_long (out ++ b ∷ []) ≡ false
 unfolding is_long
 short out b n h = le-ltb _ _ (omega (arith, h, length-append out (b ∷ [])))
 

@@ -1,5 +1,6 @@
-use Rattle.std.proofs.Common.{◌≡◌, [], ◌∷◌, rules, arith, ◌<◌, length}
+use Rattle.std.proofs.Common.{◌≡◌, [], ◌∷◌, rules, arith, ◌<◌, ◌+◌, length}
 use Rattle.std.proofs.lemmas.List.{nil_from_length}
+use Rattle.muck_model.specs.Bytes.{text_most}
 use Rattle.muck_mpi.proofs.Letters.{signs_begin, signs_next, long_signs, all_signs}
 use Rattle.muck_mpi.proofs.signs.signs.Goals as goal
 
@@ -8,7 +9,7 @@ loop-first-init c = let empty : c.new-text.result.items ≡ [] = search rules in
 
 pub returns-then-len : goal.returns-then-len
 returns-then-len c =
-    let long : 4097 < length c.loop-first.text.items = omega arith in
+    let long : text_most + 1 < length c.loop-first.text.items = omega arith in
     long_signs c.args.db.now c.args.objects.now c.loop-first.text.items _ c.loop-first.invariant.0 long
 
 pub loop-first-preserved : goal.loop-first-preserved
