@@ -17,8 +17,8 @@ use Rattle.muck_lock.specs.Grammar.{LockReading, ends_key, is_colon, object_key,
 use Rattle.muck_lock.specs.inner.Made.{is_short, is_made, is_made_step}
 use Rattle.muck_lock.specs.Printed.{groups_both, groups_either, grouped, lock_written, written_step, lock_printed}
 use Rattle.muck_lock.specs.inner.Law.{has_no_program, has_no_program_step, ReadsBack}
-use Rattle.muck_lock.specs.declared.part.Part.{Part}
-use Rattle.muck_lock.specs.declared.part.Part.TheVariants.{OneOf, AllOf, Term}
+use Rattle.muck_model.specs.declared.part.Part.{Part}
+use Rattle.muck_model.specs.declared.part.Part.TheVariants.{OneOf, AllOf, Term}
 use Rattle.muck_lock.proofs.Locks.{each_lock, at_free, at_object, at_prop, at_not, at_both, at_either}
 use Rattle.muck_lock.proofs.Passes.{Passes, passes-more, passes-append, passes-all, prefix-stops}
 use Rattle.muck_lock.proofs.Digits.{digits_of, dbref_of-written}

@@ -7,8 +7,8 @@ use Rattle.muck_model.specs.declared.lock.Lock.{Lock}
 use Rattle.muck_model.specs.declared.lock.Lock.TheVariants.{Both, Either}
 use Rattle.muck_lock.specs.Naming.{Naming}
 use Rattle.muck_lock.specs.Grammar.{LockReading, ends_key, lock_key_of, key_or_fault, key_in, negated, closed_by, bracket_closed, with_first_lock, sign_followed, locks_joined, term_in, all_of_in, part_in, part_of, part_reading}
-use Rattle.muck_lock.specs.declared.part.Part.{Part}
-use Rattle.muck_lock.specs.declared.part.Part.TheVariants.{OneOf, AllOf, Term}
+use Rattle.muck_model.specs.declared.part.Part.{Part}
+use Rattle.muck_model.specs.declared.part.Part.TheVariants.{OneOf, AllOf, Term}
 
 -- what is left is shorter than n
 abbrev pub IsBelow : ℕ → LockReading → Type 0

@@ -11,8 +11,8 @@ use Rattle.muck_model.specs.declared.lock.Lock.{Lock}
 use Rattle.muck_model.specs.declared.lock.Lock.TheVariants.{Free, Object, Prop, Not, Both, Either}
 use Rattle.muck_lock.specs.inner.Made.{is_short, is_text, is_made, is_made_step}
 use Rattle.muck_lock.specs.Printed.{groups_both, groups_either, grouped, lock_written, written_step}
-use Rattle.muck_lock.specs.declared.part.Part.{Part}
-use Rattle.muck_lock.specs.declared.part.Part.TheVariants.{OneOf, AllOf, Term}
+use Rattle.muck_model.specs.declared.part.Part.{Part}
+use Rattle.muck_model.specs.declared.part.Part.TheVariants.{OneOf, AllOf, Term}
 use Rattle.muck_lock.proofs.Locks.{each_lock, at_free, at_object, at_prop, at_not, at_both, at_either}
 use Rattle.muck_lock.proofs.Passes.{Passes, passes-more, passes-append, passes-all}
 use Rattle.muck_lock.proofs.Places.{is_inside, inside_from}

@@ -10,8 +10,8 @@ use Rattle.muck_model.specs.declared.lock.Lock.TheVariants.{Object, Prop, Both, 
 use Rattle.muck_lock.specs.Naming.{Naming}
 use Rattle.muck_lock.specs.Paths.{is_path}
 use Rattle.muck_lock.specs.Grammar.{LockReading, ends_key, is_colon, object_key, property_key, named_key, lock_key_of, key_or_fault, key_in, negated, closed_by, bracket_closed, with_first_lock, sign_followed, locks_joined, term_in, all_of_in, part_in, part_of}
-use Rattle.muck_lock.specs.declared.part.Part.{Part}
-use Rattle.muck_lock.specs.declared.part.Part.TheVariants.{OneOf, AllOf, Term}
+use Rattle.muck_model.specs.declared.part.Part.{Part}
+use Rattle.muck_model.specs.declared.part.Part.TheVariants.{OneOf, AllOf, Term}
 use Rattle.muck_lock.proofs.Locks.{at_object, at_prop, at_not, at_both, at_either}
 use Rattle.muck_lock.proofs.Passes.{Passes, passes-take, passes-drop, passes-front}
 

@@ -13,8 +13,8 @@ use Rattle.muck_model.specs.declared.lock.Lock.TheVariants as locks
 use Rattle.muck_lock.specs.Naming.{Naming}
 use Rattle.muck_lock.specs.Grammar.{LockReading, ends_key, lock_key_of, key_or_fault, key_in, negated, bracket_closed, with_first_lock, sign_followed, locks_joined, term_in, part_reading, whole, lock_of}
 use Rattle.muck_lock.specs.inner.Waiting.{ends, filled, widened, resumed, place_behind, outcome_at, outcome_behind, LastStays, GoesOn}
-use Rattle.muck_lock.specs.declared.part.Part.{Part}
-use Rattle.muck_lock.specs.declared.part.Part.TheVariants.{OneOf, AllOf, Term}
+use Rattle.muck_model.specs.declared.part.Part.{Part}
+use Rattle.muck_model.specs.declared.part.Part.TheVariants.{OneOf, AllOf, Term}
 use Rattle.muck_lock.specs.declared.reader.Waiting.{Waiting}
 use Rattle.muck_lock.specs.declared.reader.Waiting.TheVariants.{Not, Group, Both, Either}
 use Rattle.muck_lock.specs.declared.reader.Next.{Next}

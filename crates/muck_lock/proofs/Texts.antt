@@ -5,8 +5,8 @@ use Rattle.std.specs.List.{before_first, position_or_len}
 use Rattle.muck_model.specs.declared.dbref.Dbref.{Dbref}
 use Rattle.muck_model.specs.declared.lock.Lock.{Lock}
 use Rattle.muck_model.specs.declared.lock.Lock.TheVariants.{Object, Prop, Not, Both, Either}
-use Rattle.muck_lock.specs.declared.part.Part.{Part}
-use Rattle.muck_lock.specs.declared.part.Part.TheVariants.{OneOf, AllOf, Term}
+use Rattle.muck_model.specs.declared.part.Part.{Part}
+use Rattle.muck_model.specs.declared.part.Part.TheVariants.{OneOf, AllOf, Term}
 use Rattle.muck_lock.specs.Paths.{is_path}
 use Rattle.muck_lock.specs.Grammar.{LockReading, ends_key, object_key, property_key, lock_key_of, key_or_fault, key_in, negated, closed_by, bracket_closed, with_first_lock, sign_followed, locks_joined, term_in, all_of_in, one_of_in, part_of, part_reading, whole_of, whole}
 use Rattle.muck_lock.specs.Opens.{Holdings, object_opens, property_opens, opens_step, opens_for}

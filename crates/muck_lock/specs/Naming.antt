@@ -1,10 +1,2 @@
 -- What the names in a text of a lock stand for.
-use Rattle.std.specs.Prelude.{ℕ, Bool, List, Option}
-use Rattle.muck_model.specs.declared.dbref.Dbref.{Dbref}
-
-pub record Naming : Type 0 where
-  pub find : List ℕ → Option Dbref
-  pub is_program : Dbref → Bool
-
-abbrev pub naming : (List ℕ → Option Dbref) → (Dbref → Bool) → Naming
-naming find is_program = record { find = find; is_program = is_program }
+pub use Rattle.muck_model.specs.locks.Naming.{Naming, naming}

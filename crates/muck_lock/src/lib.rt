@@ -5,7 +5,6 @@ mod fault;
 mod key;
 mod keys;
 mod memory;
-mod part;
 mod path;
 mod printer;
 mod reader;

@@ -6,9 +6,8 @@ ghost use Rattle.muck_lock.specs.inner.Made.{is_made, is_short, is_text};
 ghost use Rattle.muck_lock.specs.Printed.{groups_both, groups_either, opening_bracket, closing, lock_written};
 
 use crate::fault::LockFault;
-use crate::part::Part;
 use itoa::Buffer;
-use muck_model::{Dbref, Line, Lock, NoMemory, TEXT_MOST};
+use muck_model::{Dbref, Line, Lock, NoMemory, Part, TEXT_MOST};
 use std::alloc::Global;
 
 fn groups_both(part: Part) -> bool

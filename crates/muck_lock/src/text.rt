@@ -3,16 +3,15 @@ ghost use Rattle.std.specs.Prelude.{◌≡◌, ◌<◌, ◌≤◌, ◌^◌, ◌�
 ghost use Rattle.std.specs.Option.{option_map, option_and_then};
 ghost use Rattle.std.specs.List.{before_first, list_any, position, position_or_len};
 ghost use Rattle.muck_lock.specs.Grammar.{ends_key, is_colon, object_key, lock_key_of, property_key};
-ghost use Rattle.muck_lock.specs.declared.part.Part.{Part};
+ghost use Rattle.muck_model.specs.declared.part.Part.{Part};
 ghost use Rattle.muck_lock.specs.Opens.{holdings, property_opens, opens_for};
 ghost use Rattle.muck_lock.specs.Answers.{no_names, text_opens};
 ghost use Rattle.muck_lock.specs.inner.Answers.{seen, key_answer, negated_answer, closed_answer, behind, term_answer, all_answer, one_answer, part_answer, whole_opens};
 
 use crate::key::key_end;
 use crate::keys::{Keys, carries_any, object_opens};
-use crate::part::Part;
 use crate::path::is_path;
-use muck_model::{Dbref, Line, byte_at};
+use muck_model::{Dbref, Line, Part, byte_at};
 
 /// Keys whose properties are asked for by bytes, so that the text of a lock can be tried without memory.
 pub trait TextKeys: Keys {

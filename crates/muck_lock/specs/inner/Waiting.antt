@@ -4,8 +4,8 @@ use Rattle.muck_model.specs.declared.lock.Lock.{Lock}
 use Rattle.muck_model.specs.declared.lock.Lock.TheVariants as locks
 use Rattle.muck_lock.specs.Naming.{Naming}
 use Rattle.muck_lock.specs.Grammar.{LockReading, part_reading, negated, bracket_closed, with_first_lock, locks_joined, whole}
-use Rattle.muck_lock.specs.declared.part.Part.{Part}
-use Rattle.muck_lock.specs.declared.part.Part.TheVariants.{OneOf, AllOf, Term}
+use Rattle.muck_model.specs.declared.part.Part.{Part}
+use Rattle.muck_model.specs.declared.part.Part.TheVariants.{OneOf, AllOf, Term}
 use Rattle.muck_lock.specs.declared.fault.LockFault.{LockFault}
 use Rattle.muck_lock.specs.declared.fault.LockFault.TheVariants.{BadLock, NoMemory}
 use Rattle.muck_lock.specs.declared.reader.Waiting.{Waiting}

@@ -2,7 +2,7 @@
 use Rattle.std.proofs.Common.{◌≡◌, ◌<◌, ◌++◌, length, sym, ◌∙◌, ap, subst, refl}
 use Rattle.muck_model.specs.Bytes.{text_most}
 use Rattle.muck_lock.specs.Printed.{lock_printed}
-use Rattle.muck_lock.specs.declared.part.Part.TheVariants.{OneOf}
+use Rattle.muck_model.specs.declared.part.Part.TheVariants.{OneOf}
 use Rattle.muck_lock.proofs.Passes.{Passes}
 use Rattle.muck_lock.proofs.Places.{is_inside, too_many}
 use Rattle.muck_lock.proofs.Inside.{inside-written}

@@ -1,0 +1,5 @@
+pub mod Naming
+pub mod Paths
+pub mod Grammar
+pub mod Printed
+pub mod Kept
