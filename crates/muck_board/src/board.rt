@@ -179,7 +179,7 @@ impl Board {
         self.tell(d, text.as_slice())
     }
 
-    /// Sends a text to the connection: the first 4,096 bytes, as one line for each piece between bytes 13. Older lines
+    /// Sends a text to the connection: the first [`TEXT_MOST`](muck_model::TEXT_MOST) bytes, as one line for each piece between bytes 13. Older lines
     /// give way, and the notice stands, where there is no room.
     #[tactic(auto, using(crate::proofs::Numbered::changes, crate::proofs::Sending::told_is), unfolding(spec_live::specs::Boards::told_one))]
     pub fn tell(&mut self, d: u32, text: &[u8]) -> Result<(), NoMemory>

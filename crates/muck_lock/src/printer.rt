@@ -99,7 +99,7 @@ fn put(lock: &Lock, part: Part, out: &mut Vec<u8>) -> Result<(), NoMemory>
 }
 
 /// The text of a lock: objects are written `#N`, and parentheses stand only where they are needed. `BadLock` comes exactly
-/// where the text would have more than 4,096 bytes, at 4,096. What is printed of a lock that some text is read as is read
+/// where the text would have more than [`TEXT_MOST`] bytes, at that place. What is printed of a lock that some text is read as is read
 /// as that lock again, whatever names stand for, unless one of its keys is taken for a program. It goes as deep as the lock
 /// is nested.
 pub fn print(alloc: Global, lock: &Lock) -> Result<Line, LockFault>

@@ -1,4 +1,4 @@
-// Locks that are nested as deeply as 4,096 bytes allow are read, printed, opened and dropped.
+// Locks that are nested as deeply as a text allows are read, printed, opened and dropped.
 use crate::first_wrong;
 use muck_lock::{MemKeys, NoNames, opens, print, read};
 use muck_model::{Dbref, Line, Row};
@@ -32,10 +32,10 @@ fn printed(alloc: Global, text: &Line) -> Result<Option<usize>, Fail> {
 fn takes_the_deepest_locks(rt: HostRuntime) -> Result<(), Fail> {
     let alloc = rt.alloc();
     let rows = [
-        printed(alloc, &nested(alloc, 4_094, b"!", b"")?)? == Some(4_096),
-        printed(alloc, &nested(alloc, 2_047, b"(", b")")?)? == Some(2),
-        printed(alloc, &nested(alloc, 1_364, b"#2|", b"")?)? == Some(4_094),
-        printed(alloc, &nested(alloc, 818, b"(", b"&#1)")?)? == Some(4_090),
+        printed(alloc, &nested(alloc, 16_382, b"!", b"")?)? == Some(16_384),
+        printed(alloc, &nested(alloc, 8_191, b"(", b")")?)? == Some(2),
+        printed(alloc, &nested(alloc, 5_460, b"#2|", b"")?)? == Some(16_382),
+        printed(alloc, &nested(alloc, 3_276, b"(", b"&#1)")?)? == Some(16_380),
     ];
     assert_eq!(rt; first_wrong(&rows), None);
     Ok(())
