@@ -1,9 +1,9 @@
 -- The entries of an ordered map, in the words of a finite map.
 use Rattle.std.proofs.Common.{◌≡◌, ℕ, Bool, true, false, cond, List, [], ◌∷◌, length, arith, refl, ap, sym, ◌∙◌}
-use Rattle.std.specs.Prelude.{None, Some, IfSome, slice_get, ◌&&◌}
+use Rattle.std.specs.Prelude.{None, Some, IfSome, slice_get, ◌&&◌, not}
 use Rattle.std.specs.Cmp.{eq_by_cmp_equiv}
 use Rattle.std.specs.Ordering.{is_eq, eq_by_cmp, match_ordering}
-use Rattle.std.specs.List.{AllByRecursion}
+use Rattle.std.specs.List.{AllByRecursion, filter, list_any}
 use Rattle.std.specs.List.{find as find_path}
 use Rattle.std.specs.BTreeMap.Range.{entries_between, is_from_start}
 use Rattle.std.specs.declared.ops.Bound.{Bound}
@@ -14,9 +14,10 @@ use Rattle.std.specs.BTreeMap.{is_at, insert_entry}
 use Rattle.std.specs.FinMap.{get, insert, remove, entries, keys, from_entries, find, put, get-from_entries, get-insert, get-remove, entries-insert, len-entries, len-empty, same_map, IsAntisymmetric, slice_cmp-IsAntisymmetric, nat_cmp-IsAntisymmetric}
 use Rattle.std.specs.FinMap.Entries.{by_order}
 use Rattle.std.specs.declared.cmp.Ordering.TheVariants.{Less, Equal, Greater}
+use Rattle.muck_model.specs.declared.dbref.Dbref.{Dbref}
 use Rattle.muck_prop.specs.declared.value.PropValue.{PropValue}
 use Rattle.muck_prop.specs.Order.{path_cmp, path_cmp_total}
-use Rattle.muck_prop.specs.Store.{IsKept, is_nothing}
+use Rattle.muck_prop.specs.Store.{IsKept, is_nothing, IsSpellable, is_ref, has_ref, without_refs}
 
 pub path_cmp_same : IsAntisymmetric path_cmp
 path_cmp_same = slice_cmp-IsAntisymmetric (slice_cmp-IsAntisymmetric nat_cmp-IsAntisymmetric)
@@ -74,7 +75,7 @@ kept_inserted k v [] new old = (new, tt)
 kept_inserted k v (e ∷ es) new old =
     elim (path_cmp k e.0) as (λ r. AllByRecursion IsKept (match_ordering r ((k, v) ∷ e ∷ es) ((e.0, v) ∷ es) (e ∷ insert_entry path_cmp es k v))) [
       | Less ↦ (new, old)
-      | Equal ↦ (record { path = old.0.path; value = new.value }, old.1)
+      | Equal ↦ (record { path = old.0.path; value = new.value; spelled = new.spelled }, old.1)
       | Greater ↦ (old.0, kept_inserted k v es new old.1)
     ]
 
@@ -82,13 +83,22 @@ pub kept_removed : (test : List (List ℕ) → Bool) (es : List (List (List ℕ)
 kept_removed test [] old = tt
 kept_removed test (e ∷ es) old = elim (test e.0) as (λ b. AllByRecursion IsKept (cond b es (e ∷ remove_entry test es))) [ true ↦ old.1 | false ↦ (old.0, kept_removed test es old.1) ]
 
-pub kept_set : (test : List (List ℕ) → Bool) (v : PropValue) (es : List (List (List ℕ) × PropValue)) → is_nothing v ≡ false → AllByRecursion IsKept es → AllByRecursion IsKept (set_value test es v)
-kept_set test v [] new old = tt
-kept_set test v (e ∷ es) new old =
+pub kept_set : (test : List (List ℕ) → Bool) (v : PropValue) (es : List (List (List ℕ) × PropValue)) → is_nothing v ≡ false → IsSpellable v → AllByRecursion IsKept es → AllByRecursion IsKept (set_value test es v)
+kept_set test v [] new spelled old = tt
+kept_set test v (e ∷ es) new spelled old =
     elim (test e.0) as (λ b. AllByRecursion IsKept (cond b ((e.0, v) ∷ es) (e ∷ set_value test es v))) [
-      | true ↦ (record { path = old.0.path; value = new }, old.1)
-      | false ↦ (old.0, kept_set test v es new old.1)
+      | true ↦ (record { path = old.0.path; value = new; spelled = spelled }, old.1)
+      | false ↦ (old.0, kept_set test v es new spelled old.1)
     ]
+
+-- the properties that hold the number of an object, in the words of a finite map
+pub has_ref_is : (d : Dbref) (es : List (List (List ℕ) × PropValue)) → IsStrictlySortedBy path_cmp (keys_of es) → list_any (λ e. is_ref d e.1) es ≡ has_ref d (from_entries {R = path_cmp} es)
+has_ref_is d es sorted = sym (ap (λ fs. list_any (λ e. is_ref d e.1) fs) (entries_are es sorted))
+
+pub without_refs_is : (d : Dbref) (es fs : List (List (List ℕ) × PropValue)) → IsStrictlySortedBy path_cmp (keys_of es) → fs ≡ filter (λ e. not (is_ref d e.1)) es
+    → from_entries {R = path_cmp} fs ≡ without_refs d (from_entries es)
+without_refs_is d es fs sorted left =
+    ap (λ xs. from_entries {R = path_cmp} xs) left ∙ sym (ap (λ xs. from_entries {R = path_cmp} (filter (λ e. not (is_ref d e.1)) xs)) (entries_are es sorted))
 
 -- the first path within a start
 pub first_start : (lo : Bound (List (List ℕ))) (es : List (List (List ℕ) × PropValue)) → slice_get (keys_of (entries_between path_cmp lo Unbounded es)) 0 ≡ find_path (is_from_start path_cmp lo) (keys_of es)
@@ -99,6 +109,18 @@ first_start lo (e ∷ es) =
       | false ↦ first_start lo es
     ]
 
+-- what holds of each that is kept, of the one that is found
+found_so : (P : PropValue → Type 0) → ((e : List (List ℕ) × PropValue) → IsKept e → P e.1) → (test : List (List ℕ) → Bool) (es : List (List (List ℕ) × PropValue)) → AllByRecursion IsKept es → IfSome (lookup test es) P
+found_so P each test [] kept = tt
+found_so P each test (e ∷ es) kept = elim (test e.0) as (λ b. IfSome (cond b (Some e.1) (lookup test es)) P) [ true ↦ each e kept.0 | false ↦ found_so P each test es kept.1 ]
+
 pub found_is_kept : (test : List (List ℕ) → Bool) (es : List (List (List ℕ) × PropValue)) → AllByRecursion IsKept es → IfSome (lookup test es) (λ v. is_nothing v ≡ false)
-found_is_kept test [] kept = tt
-found_is_kept test (e ∷ es) kept = elim (test e.0) as (λ b. IfSome (cond b (Some e.1) (lookup test es)) (λ v. is_nothing v ≡ false)) [ true ↦ kept.0.value | false ↦ found_is_kept test es kept.1 ]
+found_is_kept = found_so (λ v. is_nothing v ≡ false) (λ e kept. kept.value)
+
+pub found_is_spelled : (test : List (List ℕ) → Bool) (es : List (List (List ℕ) × PropValue)) → AllByRecursion IsKept es → IfSome (lookup test es) IsSpellable
+found_is_spelled = found_so IsSpellable (λ e kept. kept.spelled)
+
+-- those that pass a test stay kept
+pub kept_filtered : (test : List (List ℕ) × PropValue → Bool) (es : List (List (List ℕ) × PropValue)) → AllByRecursion IsKept es → AllByRecursion IsKept (filter test es)
+kept_filtered test [] kept = tt
+kept_filtered test (e ∷ es) kept = elim (test e) as (λ b. AllByRecursion IsKept (cond b (e ∷ filter test es) (filter test es))) [ true ↦ (kept.0, kept_filtered test es kept.1) | false ↦ kept_filtered test es kept.1 ]

@@ -1,10 +1,14 @@
 -- The properties of one object, as a map from paths to values.
-use Rattle.std.specs.Prelude.{◌≡◌, ℕ, ℤ, Bool, true, false, ◌&&◌, ◌==◌, ◌⊎◌, pos, if◌then◌else◌, List, [], ◌∷◌, ◌++◌, map, Option, None, Some, is_some, length, drop}
+use Rattle.std.specs.Prelude.{◌≡◌, ℕ, ℤ, Bool, true, false, not, ◌&&◌, ◌==◌, ◌⊎◌, pos, if◌then◌else◌, List, [], ◌∷◌, ◌++◌, map, Option, None, Some, is_some, length, drop}
 use Rattle.std.specs.List.{list_any, filter}
 use Rattle.std.specs.Ordering.{is_lt, is_gt, int_eq}
-use Rattle.std.specs.FinMap.{FinMap, get, insert, remove, keys, entries}
+use Rattle.std.specs.FinMap.{FinMap, get, insert, remove, keys, entries, from_entries}
+use Rattle.muck_model.specs.declared.dbref.Dbref.{Dbref}
+use Rattle.muck_model.specs.Dbrefs.{same, nothing}
+use Rattle.muck_model.specs.declared.lock.Lock.{Lock}
+use Rattle.muck_model.specs.locks.Kept.{is_free, IsStorable}
 use Rattle.muck_prop.specs.declared.value.PropValue.{PropValue}
-use Rattle.muck_prop.specs.declared.value.PropValue.TheVariants.{Text, Number}
+use Rattle.muck_prop.specs.declared.value.PropValue.TheVariants.{Text, Number, Ref, Key}
 use Rattle.muck_prop.specs.declared.props.Listed.{Listed}
 use Rattle.muck_prop.specs.Paths.{IsPath}
 use Rattle.muck_prop.specs.Order.{path_cmp, is_below, child}
@@ -12,20 +16,62 @@ use Rattle.muck_prop.specs.Order.{path_cmp, is_below, child}
 abbrev pub PropMap : Type 0
 PropMap = FinMap path_cmp PropValue
 
--- an empty text, or 0: what stands for no property
+-- an empty text, 0, `#-1` or the free lock: what stands for no property
 abbrev pub is_nothing : PropValue → Bool
 is_nothing (Text text) = length text == 0
 is_nothing (Number n) = int_eq n (pos 0)
+is_nothing (Ref d) = same d nothing
+is_nothing (Key lock) = is_free lock
 
 -- the text that is kept, where it is one
 abbrev pub kept_text : PropValue → Option (List ℕ)
 kept_text (Text text) = Some text
 kept_text (Number n) = None
+kept_text (Ref d) = None
+kept_text (Key lock) = None
 
 -- the number that is kept, where it is one
 abbrev pub kept_number : PropValue → Option ℤ
 kept_number (Text text) = None
 kept_number (Number n) = Some n
+kept_number (Ref d) = None
+kept_number (Key lock) = None
+
+-- the object whose number is kept, where it is that of one
+abbrev pub kept_ref : PropValue → Option Dbref
+kept_ref (Text text) = None
+kept_ref (Number n) = None
+kept_ref (Ref d) = Some d
+kept_ref (Key lock) = None
+
+-- the lock that is kept, where it is one
+abbrev pub kept_key : PropValue → Option Lock
+kept_key (Text text) = None
+kept_key (Number n) = None
+kept_key (Ref d) = None
+kept_key (Key lock) = Some lock
+
+-- what is written of a lock is a text that is read as it again
+abbrev pub IsSpellable : PropValue → Type 0
+IsSpellable (Text text) = Unit {0}
+IsSpellable (Number n) = Unit {0}
+IsSpellable (Ref d) = Unit {0}
+IsSpellable (Key lock) = IsStorable lock
+
+-- the number of that object
+abbrev pub is_ref : Dbref → PropValue → Bool
+is_ref d (Text text) = false
+is_ref d (Number n) = false
+is_ref d (Ref held) = same held d
+is_ref d (Key lock) = false
+
+-- some property holds the number of that object
+abbrev pub has_ref : Dbref → PropMap → Bool
+has_ref d m = list_any (λ e. is_ref d e.1) (entries m)
+
+-- the properties that don't
+abbrev pub without_refs : Dbref → PropMap → PropMap
+without_refs d m = from_entries (filter (λ e. not (is_ref d e.1)) (entries m))
 
 -- the map after a value is stored at a path: what stands for no property removes it
 abbrev pub value_stored : List (List ℕ) → PropValue → PropMap → PropMap
@@ -79,7 +125,8 @@ IsLeastChild m dir after None = (c : List (List ℕ)) → IsChild m dir c → is
 IsLeastChild m dir after (Some c) = IsChild m dir c × (is_after after c ≡ true)
     × ((d : List (List ℕ)) → IsChild m dir d → is_after after d ≡ true → is_gt (path_cmp c d) ≡ false)
 
--- what every kept property is: its path is one, and its value isn't nothing
+-- what every kept property is: its path is one, and its value isn't nothing and has a spelling
 pub record IsKept (e : List (List ℕ) × PropValue) : Type 0 where
   pub path : IsPath e.0
   pub value : is_nothing e.1 ≡ false
+  pub spelled : IsSpellable e.1

@@ -1,21 +1,21 @@
 // The properties of one object.
-ghost use Rattle.std.specs.Prelude.{◌≡◌, ◌<◌, map as mapped, [], Some, None, IfOk, IfSome, OnOk, OnErr, is_some, is_ok, true, false, length, ◌≤◌, Ok, Err, List, ℕ, if◌then◌else◌};
+ghost use Rattle.std.specs.Prelude.{◌≡◌, ◌<◌, map as mapped, [], Some, None, IfOk, IfSome, OnOk, OnErr, is_some, is_ok, true, false, not, length, ◌≤◌, Ok, Err, List, ℕ, if◌then◌else◌};
 ghost use Rattle.std.specs.Option.{option_copied, option_map_or, unwrap_or};
 ghost use Rattle.std.specs.FinMap as map;
 ghost use Rattle.std.specs.Range.Bound.{bound_map};
-ghost use Rattle.std.specs.List.{AllByRecursion, find, filter};
+ghost use Rattle.std.specs.List.{AllByRecursion, find, filter, list_any};
 ghost use Rattle.muck_prop.specs.Paths.{IsPath, segments_of, path_fault};
 ghost use Rattle.std.specs.Map.{keys_of, lookup};
 ghost use Rattle.std.specs.BTreeMap.{IsOrdered, is_at};
 ghost use Rattle.std.specs.BTreeMap.Range.{is_from_start};
 ghost use Rattle.muck_prop.specs.Order.{path_cmp, path_eq, is_below};
-ghost use Rattle.muck_prop.specs.Store.{value_stored, is_dir, next_child, found_child, path_or_top, is_nothing, IsKept, IsLeastChild, path_behind, listed_below};
+ghost use Rattle.muck_prop.specs.Store.{value_stored, is_dir, next_child, found_child, path_or_top, is_nothing, IsSpellable, is_ref, has_ref, without_refs, IsKept, IsLeastChild, path_behind, listed_below};
 
 use crate::path::{Path, has_barred};
 use crate::segments::Segments;
 use crate::value::{Kept, PropValue};
 use crate::walk::Walk;
-use muck_model::{Line, NoMemory, Row};
+use muck_model::{Dbref, Line, NoMemory, Row};
 use std::alloc::Global;
 use std::collections::BTreeMap;
 use std::marker::Model;
@@ -33,8 +33,8 @@ pub struct Listed {
     pub value: PropValue,
 }
 
-/// The properties of one object, which contracts see as the map from paths to values. No kept value is an empty text
-/// or 0.
+/// The properties of one object, which contracts see as the map from paths to values. No kept value is an empty text,
+/// 0, `#-1` or the free lock, and what is written of a kept lock is a text that is read as it again.
 #[derive(Drop)]
 pub struct Props {
     alloc: Global,
@@ -136,6 +136,28 @@ fn found_at<'a>(
     }
 }
 
+// Whether some property holds the number of that object.
+fn holds_ref(values: &BTreeMap<Segments, Kept>, d: Dbref) -> bool
+    ensures refs { result ≡ list_any (λ e. is_ref d e.1) values.now.entries }
+    ensures ordered { IsOrdered path_cmp values.now }
+{
+    let mut left = values.iter();
+    while let Some((_, value)) = left.next() {
+        if value.is_ref(d) {
+            return true;
+        }
+    }
+    false
+}
+
+// Removes each property that holds the number of that object.
+fn forget_in(values: &mut BTreeMap<Segments, Kept>, d: Dbref)
+    ensures left { values.new.entries ≡ filter (λ e. not (is_ref d e.1)) values.old.entries }
+    ensures ordered { IsOrdered path_cmp values.old }
+{
+    values.retain(|_, value| !value.is_ref(d));
+}
+
 // Puts a value at a path that has none.
 fn put_new(
     alloc: Global,
@@ -223,10 +245,11 @@ impl Props {
         })
     }
 
-    /// The value at a path, which is no empty text and not 0.
+    /// The value at a path, which is no empty text, and not 0, `#-1` or the free lock.
     pub fn get(&self, path: &Path) -> Option<&PropValue>
         ensures value { option_copied result ≡ map.get self.now path.now }
         ensures something { IfSome result (λ value. is_nothing value.now ≡ false) }
+        ensures spelled { IfSome result (λ value. IsSpellable value.now) }
     {
         searched(&self.values, &path.segments)
     }
@@ -268,7 +291,8 @@ impl Props {
         Ok(list)
     }
 
-    /// All properties, each copied, in the order of their paths. Each path is one, and no value is an empty text or 0.
+    /// All properties, each copied, in the order of their paths. Each path is one, no value is an empty text, 0, `#-1`
+    /// or the free lock, and what is written of a lock is a text that is read as it again.
     pub fn all(&self, alloc: Global) -> Result<Row<Listed>, NoMemory>
         ensures list { IfOk result (λ list. list ≡ mapped (path_behind 0) (map.entries self.now)) }
         ensures kept { OnOk result (AllByRecursion IsKept (map.entries self.now)) }
@@ -293,9 +317,25 @@ impl Props {
         self.values.remove(&path.segments).is_some()
     }
 
-    /// Stores a value at a path; an empty text or 0 removes the property. After `NoMemory`, which comes only for a path
-    /// without a value, nothing has changed.
+    /// Whether some property holds the number of that object.
+    pub fn has_ref(&self, d: Dbref) -> bool
+        ensures { result ≡ has_ref d self.now }
+    {
+        holds_ref(&self.values, d)
+    }
+
+    /// Removes each property that holds the number of that object. It takes no memory.
+    pub fn forget(&mut self, d: Dbref)
+        ensures { self.new ≡ without_refs d self.old }
+    {
+        forget_in(&mut self.values, d);
+    }
+
+    /// Stores a value at a path; an empty text, 0, `#-1` or the free lock removes the property. What is written of a lock
+    /// must be a text that is read as it again. After `NoMemory`, which comes only for a path without a value, nothing has
+    /// changed.
     pub fn put(&mut self, path: Path, value: PropValue) -> Result<(), NoMemory>
+        requires spelled { IsSpellable value }
         ensures ok { OnOk result (self.new ≡ value_stored path value self.old) }
         ensures err { OnErr result (self.new ≡ self.old) }
         ensures only_new { OnErr result (map.get self.old path ≡ None) }

@@ -1,27 +1,33 @@
 // What a property holds.
 ghost use Rattle.std.specs.Prelude.{◌≡◌, ◌↔◌, IfOk, true};
 ghost use Rattle.std.specs.Option.{option_copied};
-ghost use Rattle.muck_prop.specs.Store.{is_nothing, kept_text, kept_number};
+ghost use Rattle.muck_prop.specs.Store.{is_nothing, kept_text, kept_number, kept_ref, kept_key, is_ref};
 
-use muck_model::{Line, NoMemory};
+use muck_model::{Dbref, Line, Lock, NoMemory};
 use std::alloc::Global;
 use std::marker::Model;
 
-/// What a property holds.
+const NOTHING: Dbref = Dbref(-1);
+
+/// What a property holds: a text, an integer, the number of an object, or a lock.
 #[derive(Drop)]
 pub enum PropValue {
     Text(Line),
     Number(i32),
+    Ref(Dbref),
+    Key(Lock),
 }
 
 impl PropValue {
-    // Whether it is an empty text or 0, which no property holds.
+    // Whether it is an empty text, 0, `#-1` or the free lock, which no property holds.
     pub(crate) fn is_nothing(&self) -> bool
         ensures { result ≡ is_nothing self.now }
     {
         match self {
             PropValue::Text(text) => text.as_slice().is_empty(),
             PropValue::Number(number) => *number == 0,
+            PropValue::Ref(d) => *d == NOTHING,
+            PropValue::Key(lock) => lock.is_free(),
         }
     }
 
@@ -31,7 +37,7 @@ impl PropValue {
     {
         match self {
             PropValue::Text(text) => Some(text),
-            PropValue::Number(_) => None,
+            PropValue::Number(_) | PropValue::Ref(_) | PropValue::Key(_) => None,
         }
     }
 
@@ -40,8 +46,38 @@ impl PropValue {
         ensures { result ≡ kept_number self.now }
     {
         match self {
-            PropValue::Text(_) => None,
             PropValue::Number(number) => Some(*number),
+            PropValue::Text(_) | PropValue::Ref(_) | PropValue::Key(_) => None,
+        }
+    }
+
+    /// The number of its object, where it is that of one.
+    pub fn object(&self) -> Option<Dbref>
+        ensures { result ≡ kept_ref self.now }
+    {
+        match self {
+            PropValue::Ref(d) => Some(*d),
+            PropValue::Text(_) | PropValue::Number(_) | PropValue::Key(_) => None,
+        }
+    }
+
+    /// Its lock, where it is one.
+    pub fn key(&self) -> Option<&Lock>
+        ensures { option_copied result ≡ kept_key self.now }
+    {
+        match self {
+            PropValue::Key(lock) => Some(lock),
+            PropValue::Text(_) | PropValue::Number(_) | PropValue::Ref(_) => None,
+        }
+    }
+
+    // Whether it is the number of that object.
+    fn is_ref(&self, d: Dbref) -> bool
+        ensures { result ≡ is_ref d self.now }
+    {
+        match self {
+            PropValue::Ref(held) => *held == d,
+            PropValue::Text(_) | PropValue::Number(_) | PropValue::Key(_) => false,
         }
     }
 
@@ -49,15 +85,12 @@ impl PropValue {
     pub fn is_same(&self, other: &PropValue) -> bool
         ensures { result ≡ true ↔ self.now ≡ other.now }
     {
-        match self {
-            PropValue::Text(text) => match other {
-                PropValue::Text(other) => text == other,
-                PropValue::Number(_) => false,
-            },
-            PropValue::Number(number) => match other {
-                PropValue::Text(_) => false,
-                PropValue::Number(other) => number == other,
-            },
+        match (self, other) {
+            (PropValue::Text(a), PropValue::Text(b)) => a == b,
+            (PropValue::Number(a), PropValue::Number(b)) => a == b,
+            (PropValue::Ref(a), PropValue::Ref(b)) => a == b,
+            (PropValue::Key(a), PropValue::Key(b)) => a.is_same(b),
+            _ => false,
         }
     }
 
@@ -68,6 +101,8 @@ impl PropValue {
         match self {
             PropValue::Text(text) => Ok(PropValue::Text(text.copy(alloc)?)),
             PropValue::Number(number) => Ok(PropValue::Number(*number)),
+            PropValue::Ref(d) => Ok(PropValue::Ref(*d)),
+            PropValue::Key(lock) => Ok(PropValue::Key(lock.copy(alloc)?)),
         }
     }
 }
@@ -104,6 +139,13 @@ impl Kept {
         ensures { result.now ≡ self.now }
     {
         &self.inner
+    }
+
+    // Whether it is the number of that object.
+    pub(crate) fn is_ref(&self, d: Dbref) -> bool
+        ensures { result ≡ is_ref d self.now }
+    {
+        self.inner.is_ref(d)
     }
 
     // Puts another value into its place.

@@ -5,7 +5,7 @@ use Rattle.std.specs.Map.{lookup}
 use Rattle.std.specs.BTreeMap.{is_at}
 use Rattle.muck_prop.specs.declared.value.PropValue.{PropValue}
 use Rattle.muck_prop.specs.Order.{path_cmp}
-use Rattle.muck_prop.specs.Store.{IsKept, is_nothing}
+use Rattle.muck_prop.specs.Store.{IsKept, is_nothing, IsSpellable}
 use Rattle.muck_prop.proofs.Maps.{kept_set}
 use Rattle.muck_prop.proofs.props.put_at.Goals as goal
 
@@ -16,4 +16,4 @@ returns-in-Some-clause-updates c =
 
 pub returns-in-Some-clause-kept : goal.returns-in-Some-clause-kept
 returns-in-Some-clause-kept c = λ old new.
-    subst (λ es. AllByRecursion IsKept es) (sym (c.get_mut.follows.holds c.set.new.self).0) (kept_set _ c.set.new.self _ (ap is_nothing c.set.ensures ∙ new.value) old)
+    subst (λ es. AllByRecursion IsKept es) (sym (c.get_mut.follows.holds c.set.new.self).0) (kept_set _ c.set.new.self _ (ap is_nothing c.set.ensures ∙ new.value) (subst IsSpellable (sym c.set.ensures) new.spelled) old)

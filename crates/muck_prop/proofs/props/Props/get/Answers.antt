@@ -1,8 +1,8 @@
 use Rattle.std.proofs.Common.{◌≡◌, false, sym, ◌∙◌}
 use Rattle.std.specs.FinMap.{get}
 use Rattle.muck_laws.proofs.Options.{on_some}
-use Rattle.muck_prop.specs.Store.{is_nothing}
-use Rattle.muck_prop.proofs.Maps.{get_is, found_is_kept}
+use Rattle.muck_prop.specs.Store.{is_nothing, IsSpellable}
+use Rattle.muck_prop.proofs.Maps.{get_is, found_is_kept, found_is_spelled}
 use Rattle.muck_prop.proofs.props.Props.get.Goals as goal
 
 pub returns-clause-value : goal.returns-clause-value
@@ -10,3 +10,6 @@ returns-clause-value c = c.searched.ensures ∙ sym (get_is c.path.inside.segmen
 
 pub returns-clause-something : goal.returns-clause-something
 returns-clause-something c = on_some c.searched.result (λ x. x.now) (λ v. is_nothing v ≡ false) _ c.searched.ensures (found_is_kept _ _ c.self.invariant)
+
+pub returns-clause-spelled : goal.returns-clause-spelled
+returns-clause-spelled c = on_some c.searched.result (λ x. x.now) IsSpellable _ c.searched.ensures (found_is_spelled _ _ c.self.invariant)

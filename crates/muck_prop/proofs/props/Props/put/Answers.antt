@@ -12,7 +12,7 @@ returns-in_err-put_at-clause-only_new c =
     on_err_given _ _ ((λ i. get (sym c.self.view_is i) (sym c.path.view_is i)) ∙ get_is c.path.inside.segments c.self.inside.values.entries ∙ c.in_err-put_at.ensures.absent)
 
 pub invariant_of-self-2 : goal.invariant_of-self-2
-invariant_of-self-2 c = c.put_at.ensures.kept c.self.invariant (record { path = c.path.invariant; value = sym c.is_nothing.ensures ∙ c.if-is_nothing.false })
+invariant_of-self-2 c = c.put_at.ensures.kept c.self.invariant (record { path = c.path.invariant; value = sym c.is_nothing.ensures ∙ c.if-is_nothing.false; spelled = c.requires.spelled })
 
 pub returns-clause-ok : goal.returns-clause-ok
 returns-clause-ok c =
