@@ -7,10 +7,15 @@ use Rattle.muck_model.specs.declared.dbref.Dbref.{Dbref}
 use Rattle.muck_model.specs.declared.dbref.Flags.{Flags}
 use Rattle.muck_model.specs.declared.dbref.Kind.{Kind}
 use Rattle.muck_model.specs.declared.dbref.Kind.TheVariants.{Room, Thing, Exit, Player, Program, Garbage}
+use Rattle.muck_model.specs.Dbrefs.{same, nothing}
+use Rattle.muck_model.specs.declared.lock.Lock.{Lock}
+use Rattle.muck_model.specs.locks.Naming.{no_names}
+use Rattle.muck_model.specs.locks.Grammar.{lock_of}
+use Rattle.muck_model.specs.locks.Printed.{lock_printed}
 use Rattle.muck_prop.specs.Paths.{segments_of, path_text, path_fault}
 use Rattle.muck_prop.specs.Order.{path_cmp}
 use Rattle.muck_prop.specs.declared.value.PropValue.{PropValue}
-use Rattle.muck_prop.specs.declared.value.PropValue.TheVariants.{Text, Number}
+use Rattle.muck_prop.specs.declared.value.PropValue.TheVariants.{Text, Number, Ref, Key}
 use Rattle.muck_codec.specs.declared.stored.Stored.{Stored}
 use Rattle.muck_codec.specs.declared.stored.Property.{Property}
 use Rattle.muck_codec.specs.declared.record.Head.{Head}
@@ -83,21 +88,52 @@ path_at before bytes = text_at 1 128 bytes >>= λ text. if spells before text.0 
 
 -- how many kinds of values a version has
 unfoldable pub tags_in : ℕ → ℕ
-tags_in version = if version == 1 then 2 else 0
+tags_in version = if version == 1 then 2 else (if version == 2 then 4 else 0)
+
+-- the most bytes of a text in version 1
+abbrev pub first_most : ℕ
+first_most = 4096
+
+-- the most bytes of a text in a version
+unfoldable pub most_in : ℕ → ℕ
+most_in version = if version == 1 then first_most else text_most
 
 -- a number that isn't 0
 unfoldable pub integer_at : List ℕ → Result (PropValue × List ℕ) ℕ
 integer_at bytes = number_at w32 bytes >>= λ n. if int_eq (cast_signed w32 n.0) (pos 0) then Err (suc (length n.1)) else Ok (Number (cast_signed w32 n.0), n.1)
 
-abbrev pub tagged : ℕ → List ℕ → Result (PropValue × List ℕ) ℕ
-tagged zero rest = text_at 1 text_most rest >>= λ text. Ok (Text text.0, text.1)
-tagged (suc zero) rest = integer_at rest
-tagged (suc (suc tag)) rest = Err (suc (length rest))
+-- the number of an object, but `#-1`, which is refused at its last byte
+unfoldable pub ref_at : List ℕ → Result (PropValue × List ℕ) ℕ
+ref_at bytes = dbref_at bytes >>= λ d. if same d.0 nothing then Err (suc (length d.1)) else Ok (Ref d.0, d.1)
+
+-- the lock, where it is written so
+abbrev pub written_so : List ℕ → Result Lock ℕ → Option Lock
+written_so text (Ok lock) = if bytes_eq (lock_printed lock) text then Some lock else None
+written_so text (Err at) = None
+
+-- the lock that a text spells: it is read as that lock where nothing is named, and is what is written of it
+abbrev pub spelled_lock : List ℕ → Option Lock
+spelled_lock text = written_so text (lock_of no_names text)
+
+abbrev pub key_if : Option Lock → List ℕ → Result (PropValue × List ℕ) ℕ
+key_if (Some lock) rest = Ok (Key lock, rest)
+key_if None rest = Err (suc (length rest))
+
+-- a lock, but the free one; a text that spells none is refused at its last byte
+unfoldable pub key_at : ℕ → List ℕ → Result (PropValue × List ℕ) ℕ
+key_at most bytes = text_at 1 most bytes >>= λ text. key_if (spelled_lock text.0) text.1
+
+abbrev pub tagged : ℕ → ℕ → List ℕ → Result (PropValue × List ℕ) ℕ
+tagged most zero rest = text_at 1 most rest >>= λ text. Ok (Text text.0, text.1)
+tagged most (suc zero) rest = integer_at rest
+tagged most (suc (suc zero)) rest = ref_at rest
+tagged most (suc (suc (suc zero))) rest = key_at most rest
+tagged most (suc (suc (suc (suc tag)))) rest = Err (suc (length rest))
 
 -- a tag and a value
 unfoldable pub value_read_at : ℕ → List ℕ → Result (PropValue × List ℕ) ℕ
 value_read_at version [] = Err 0
-value_read_at version (tag ∷ rest) = if nat_lt tag (tags_in version) then tagged tag rest else Err (suc (length rest))
+value_read_at version (tag ∷ rest) = if nat_lt tag (tags_in version) then tagged (most_in version) tag rest else Err (suc (length rest))
 
 abbrev pub property_of : List (List ℕ) × PropValue → Property
 property_of x = record { path = x.0; value = x.1 }
@@ -109,12 +145,12 @@ property_at version before bytes = mapped property_of (both_read (path_at before
 abbrev pub properties_at : ℕ → ℕ → List ℕ → Result (List Property × List ℕ) ℕ
 properties_at version n bytes = several (λ p. p.path) (property_at version) None n bytes
 
-abbrev pub line_at : Option (List ℕ) → List ℕ → Result (List ℕ × List ℕ) ℕ
-line_at before bytes = text_at 0 text_most bytes
+abbrev pub line_at : ℕ → Option (List ℕ) → List ℕ → Result (List ℕ × List ℕ) ℕ
+line_at most before bytes = text_at 0 most bytes
 
 -- so many source lines
-abbrev pub source_lines_at : ℕ → List ℕ → Result (List (List ℕ) × List ℕ) ℕ
-source_lines_at n bytes = several (λ line. line) line_at None n bytes
+abbrev pub source_lines_at : ℕ → ℕ → List ℕ → Result (List (List ℕ) × List ℕ) ℕ
+source_lines_at most n bytes = several (λ line. line) (line_at most) None n bytes
 
 -- The record.
 
@@ -122,7 +158,7 @@ abbrev pub record_texts : List ℕ × (List Property × (List (List ℕ) × List
 record_texts x = record { name = x.0; props = x.1.0; lines = x.1.1.0; digest = x.1.1.1 }
 
 unfoldable pub texts_at : ℕ → List ℕ → Result (Texts × List ℕ) ℕ
-texts_at version bytes = mapped record_texts (both_read (text_at 0 text_most) (both_read (count_then_items (number_at w64) (properties_at version)) (both_read (count_then_items (short_at 0 lines_most) source_lines_at) (text_at 0 text_most)))) bytes
+texts_at version bytes = mapped record_texts (both_read (text_at 0 (most_in version)) (both_read (count_then_items (number_at w64) (properties_at version)) (both_read (count_then_items (short_at 0 lines_most) (source_lines_at (most_in version))) (text_at 0 (most_in version))))) bytes
 
 abbrev pub stored_from_parts : Head × (Ties × (Lists × Texts)) → Stored
 stored_from_parts x = record {

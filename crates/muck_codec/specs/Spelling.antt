@@ -1,13 +1,14 @@
--- The one spelling of a record.
+-- The one spelling of a record. What a version lacks apart, it is the same in each version.
 use Rattle.std.specs.Prelude.{ℕ, List, [], ◌∷◌, ◌++◌, length}
 use Rattle.std.specs.List.{flat_map}
 use Rattle.std.specs.Int.{w16, w32, w64, to_be_bytes, cast_unsigned}
 use Rattle.muck_model.specs.declared.dbref.Dbref.{Dbref}
 use Rattle.muck_model.specs.declared.dbref.Kind.{Kind}
 use Rattle.muck_model.specs.declared.dbref.Kind.TheVariants.{Room, Thing, Exit, Player, Program, Garbage}
+use Rattle.muck_model.specs.locks.Printed.{lock_printed}
 use Rattle.muck_prop.specs.Paths.{path_text}
 use Rattle.muck_prop.specs.declared.value.PropValue.{PropValue}
-use Rattle.muck_prop.specs.declared.value.PropValue.TheVariants.{Text, Number}
+use Rattle.muck_prop.specs.declared.value.PropValue.TheVariants.{Text, Number, Ref, Key}
 use Rattle.muck_codec.specs.declared.stored.Stored.{Stored}
 use Rattle.muck_codec.specs.declared.stored.Property.{Property}
 
@@ -29,6 +30,8 @@ text_bytes text = to_be_bytes w16 (length text) ++ text
 abbrev pub value_bytes : PropValue → List ℕ
 value_bytes (Text text) = 0 ∷ text_bytes text
 value_bytes (Number n) = 1 ∷ to_be_bytes w32 (cast_unsigned w32 n)
+value_bytes (Ref d) = 2 ∷ dbref_bytes d
+value_bytes (Key lock) = 3 ∷ text_bytes (lock_printed lock)
 
 abbrev pub property_bytes : Property → List ℕ
 property_bytes p = text_bytes (path_text p.path) ++ value_bytes p.value

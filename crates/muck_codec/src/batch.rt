@@ -94,10 +94,10 @@ fn whole(alloc: Global, version: u8, bytes: &[u8]) -> Result<Batch, Unread>
 
 /// The batch of this version that the bytes are, to their end. `BadRecord` comes exactly where they are none: at the
 /// first byte that no batch continues. A record whose dbref isn't above the one before is refused at its last byte. Each
-/// record of version 1 has a spelling.
+/// record has a spelling.
 pub fn take_batch(alloc: Global, version: u8, bytes: &[u8]) -> Result<Batch, CodecFault>
     ensures exact { IsBatch version bytes.now result }
-    ensures stored { version ≡ 1 → IfOk result (λ batch. All IsStored batch.records) }
+    ensures stored { IfOk result (λ batch. All (IsStored version) batch.records) }
 {
     match whole(alloc, version, bytes) {
         Ok(batch) => Ok(batch),

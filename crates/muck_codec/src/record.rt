@@ -1,20 +1,26 @@
 // Records, as they are read.
-ghost use Rattle.std.specs.Prelude.{◌≡◌, ◌≤◌, ◌<◌, ◌++◌, drop, length, List, ℕ, Ok, Err, IfOk, Some, None};
+ghost use Rattle.std.specs.Prelude.{◌≡◌, ◌≤◌, ◌<◌, ◌++◌, drop, length, bytes_eq, List, ℕ, Ok, Err, IfOk, Some, None};
 ghost use Rattle.std.specs.Option.{option_copied};
+ghost use Rattle.muck_model.specs.locks.Printed.{lock_printed};
 ghost use Rattle.muck_codec.specs.declared.stored.Stored.{Stored};
 ghost use Rattle.muck_codec.specs.Spelling.{spelling};
 ghost use Rattle.muck_codec.specs.inner.Stored.{IsStored, IsSpelled, Takes};
 ghost use Rattle.muck_codec.specs.Reading.{Gives, last_key, text_at};
-ghost use Rattle.muck_codec.specs.Records.{kind_coded, kind_at, flags_at, record_head_at, ties_at, lists_at, spells, path_at, rises, spelled, stored_from_parts, tags_in, integer_at, tagged, value_read_at, property_at, properties_at, source_lines_at, texts_at, record_at, IsTaken};
+ghost use Rattle.muck_codec.specs.Records.{kind_coded, kind_at, flags_at, record_head_at, ties_at, lists_at, spells, path_at, rises, spelled, stored_from_parts, tags_in, most_in, integer_at, ref_at, written_so, spelled_lock, key_at, tagged, value_read_at, property_at, properties_at, source_lines_at, texts_at, record_at, IsTaken};
 
 use crate::fault::{CodecFault, Unread};
 use crate::reading::{byte_at, dbref_at, short_at, text_at, u16_at, u32_at, u64_at};
 use crate::stored::{Property, Stored};
-use muck_model::{Dbref, Flags, Kind, LINES_MOST, Line, LineList, NoMemory, Row, TEXT_MOST};
+use muck_lock::{LockFault, NoNames, print, read};
+use muck_model::{Dbref, Flags, Kind, LINES_MOST, Line, LineList, Lock, NoMemory, Row, TEXT_MOST};
 use muck_prop::{Path, PropFault, PropValue, read_path};
 use std::alloc::Global;
 
-// The most bytes of a text, and the most lines of a program, as their counts are written.
+const NOTHING: Dbref = Dbref(-1);
+
+// The most bytes of a text in version 1 and in later ones, and the most lines of a program, as their counts are written.
+const FIRST_LONG: u16 = 4096;
+
 const TEXT_LONG: u16 = TEXT_MOST as u16;
 
 const LINES_LONG: u16 = LINES_MOST as u16;
@@ -180,7 +186,19 @@ fn path_at<'a>(
 fn tags_in(version: u8) -> u8
     ensures { result ≡ tags_in version }
 {
-    if version == 1 { 2 } else { 0 }
+    match version {
+        1 => 2,
+        2 => 4,
+        _ => 0,
+    }
+}
+
+// The most bytes of a text in a version.
+#[tactic(auto, unfolding(crate::specs::Records::most_in))]
+fn most_in(version: u8) -> u16
+    ensures { result ≡ most_in version }
+{
+    if version == 1 { FIRST_LONG } else { TEXT_LONG }
 }
 
 #[tactic(auto, unfolding(crate::specs::Records::integer_at))]
@@ -195,15 +213,66 @@ fn integer_at(bytes: &[u8]) -> Result<(PropValue, &[u8]), Unread>
     Ok((PropValue::Number(number), rest))
 }
 
-fn tagged(alloc: Global, tag: u8, rest: &[u8]) -> Result<(PropValue, &[u8]), Unread>
-    ensures { Gives (λ x. (x.0, x.1.now)) result (tagged tag rest.now) }
+#[tactic(auto, unfolding(crate::specs::Records::ref_at))]
+fn ref_at(bytes: &[u8]) -> Result<(PropValue, &[u8]), Unread>
+    ensures { Gives (λ x. (x.0, x.1.now)) result (ref_at bytes.now) }
+{
+    let (d, rest) = dbref_at(bytes)?;
+    if d == NOTHING {
+        return Err(Unread::Left(1 + rest.len()));
+    }
+    Ok((PropValue::Ref(d), rest))
+}
+
+// Whether the text is what is written of the lock.
+fn is_written(alloc: Global, lock: &Lock, text: &Line) -> Result<bool, NoMemory>
+    ensures { IfOk result (λ is. is ≡ bytes_eq (lock_printed lock.now) text.now) }
+{
+    let bytes = text.as_slice();
+    match print(alloc, lock) {
+        Ok(written) => Ok(written.as_slice() == bytes),
+        Err(LockFault::BadLock { .. }) => Ok(false),
+        Err(LockFault::NoMemory) => Err(NoMemory),
+    }
+}
+
+// The lock that a text spells.
+fn spelled_lock(alloc: Global, text: &Line) -> Result<Option<Lock>, NoMemory>
+    ensures { IfOk result (λ lock. lock ≡ spelled_lock text.now) }
+{
+    let lock = match read(alloc, text, &NoNames) {
+        Ok(lock) => lock,
+        Err(LockFault::NoMemory) => return Err(NoMemory),
+        Err(LockFault::BadLock { .. }) => return Ok(None),
+    };
+    if !is_written(alloc, &lock, text)? {
+        return Ok(None);
+    }
+    Ok(Some(lock))
+}
+
+#[tactic(auto, unfolding(crate::specs::Records::key_at))]
+fn key_at(alloc: Global, most: u16, bytes: &[u8]) -> Result<(PropValue, &[u8]), Unread>
+    ensures { Gives (λ x. (x.0, x.1.now)) result (key_at most bytes.now) }
+{
+    let (text, rest) = text_at(alloc, 1, most, bytes)?;
+    match spelled_lock(alloc, &text)? {
+        Some(lock) => Ok((PropValue::Key(lock), rest)),
+        None => Err(Unread::Left(1 + rest.len())),
+    }
+}
+
+fn tagged(alloc: Global, most: u16, tag: u8, rest: &[u8]) -> Result<(PropValue, &[u8]), Unread>
+    ensures { Gives (λ x. (x.0, x.1.now)) result (tagged most tag rest.now) }
 {
     match tag {
         0 => {
-            let (text, rest) = text_at(alloc, 1, TEXT_LONG, rest)?;
+            let (text, rest) = text_at(alloc, 1, most, rest)?;
             Ok((PropValue::Text(text), rest))
         }
         1 => integer_at(rest),
+        2 => ref_at(rest),
+        3 => key_at(alloc, most, rest),
         _ => Err(Unread::Left(rest.len() + 1)),
     }
 }
@@ -218,7 +287,7 @@ fn value_at(alloc: Global, version: u8, bytes: &[u8]) -> Result<(PropValue, &[u8
             if *tag >= tags_in(version) {
                 return Err(Unread::Left(bytes.len()));
             }
-            tagged(alloc, *tag, rest)
+            tagged(alloc, most_in(version), *tag, rest)
         }
     }
 }
@@ -266,13 +335,18 @@ fn properties_at(
     Ok((props, rest))
 }
 
-fn lines_at(alloc: Global, count: u16, bytes: &[u8]) -> Result<(Vec<Line>, &[u8]), Unread>
-    ensures { Gives (λ x. (x.0.items, x.1.now)) result (source_lines_at count bytes.now) }
+fn lines_at(
+    alloc: Global,
+    most: u16,
+    count: u16,
+    bytes: &[u8],
+) -> Result<(Vec<Line>, &[u8]), Unread>
+    ensures { Gives (λ x. (x.0.items, x.1.now)) result (source_lines_at most count bytes.now) }
 {
     let mut lines = Vec::new(alloc);
     let mut rest = bytes;
     for _ in 0..count {
-        let (line, after) = text_at(alloc, 0, TEXT_LONG, rest)?;
+        let (line, after) = text_at(alloc, 0, most, rest)?;
         lines.push(line)?;
         rest = after;
     }
@@ -283,12 +357,13 @@ fn lines_at(alloc: Global, count: u16, bytes: &[u8]) -> Result<(Vec<Line>, &[u8]
 fn texts_at(alloc: Global, version: u8, bytes: &[u8]) -> Result<(Texts, &[u8]), Unread>
     ensures { Gives (λ x. (x.0, x.1.now)) result (texts_at version bytes.now) }
 {
-    let (name, rest) = text_at(alloc, 0, TEXT_LONG, bytes)?;
+    let most = most_in(version);
+    let (name, rest) = text_at(alloc, 0, most, bytes)?;
     let (count, rest) = u64_at(rest)?;
     let (props, rest) = properties_at(alloc, version, count, rest)?;
     let (count, rest) = short_at(0, LINES_LONG, rest)?;
-    let (lines, rest) = lines_at(alloc, count, rest)?;
-    let (digest, rest) = text_at(alloc, 0, TEXT_LONG, rest)?;
+    let (lines, rest) = lines_at(alloc, most, count, rest)?;
+    let (digest, rest) = text_at(alloc, 0, most, rest)?;
     let texts = Texts {
         name,
         props: Row::of(props),
@@ -333,12 +408,13 @@ pub(crate) fn record_at(alloc: Global, version: u8, bytes: &[u8]) -> Result<(Sto
 }
 
 /// The record of this version that stands in front of the bytes, and how many bytes it has. `BadRecord` comes exactly
-/// where none does: at the first byte that no record continues. A path that is out of order or isn't spelled as paths
-/// are is refused at its last byte.
+/// where none does: at the first byte that no record continues. A path that is out of order, a path or a lock that isn't
+/// spelled as such are, and a number that stands for no property are refused at their last bytes. Versions 1 and 2 have
+/// properties; in version 1 these are texts and integers, and a text has at most 4,096 bytes.
 pub fn take_record(alloc: Global, version: u8, bytes: &[u8]) -> Result<(Stored, usize), CodecFault>
     ensures exact { IsTaken version bytes.now result }
-    ensures spelled { version ≡ 1 → IfOk result (λ taken. IsSpelled taken.0 taken.1 bytes.now) }
-    ensures only { version ≡ 1 → (object : Stored) (rest : List ℕ) → IsStored object → bytes.now ≡ spelling object ++ rest → Takes object result }
+    ensures spelled { IfOk result (λ taken. IsSpelled version taken.0 taken.1 bytes.now) }
+    ensures only { (object : Stored) (rest : List ℕ) → IsStored version object → bytes.now ≡ spelling object ++ rest → Takes object result }
 {
     match record_at(alloc, version, bytes) {
         Ok((stored, rest)) => {

@@ -7,7 +7,7 @@ use muck_prop::{Path, PropValue};
 pub struct Property {
     /// Its path.
     pub path: Path,
-    /// What it holds, which is no empty text and not 0.
+    /// What it holds, which is no empty text, not 0, not `#-1` and not the free lock.
     pub value: PropValue,
 }
 

@@ -1,12 +1,16 @@
 // Records and batches, as they are written.
-ghost use Rattle.std.specs.Prelude.{◌≡◌, ◌≤◌, ◌<◌, ◌^◌, ◌++◌, length, OnOk, IfOk};
+ghost use Rattle.std.specs.Prelude.{◌≡◌, ◌≤◌, ◌<◌, ◌^◌, ◌++◌, length, All, OnOk, IfOk};
 ghost use Rattle.std.specs.List.{flat_map};
 ghost use Rattle.muck_model.specs.Bytes.{lines_most};
+ghost use Rattle.muck_model.specs.locks.Kept.{IsStorable};
+ghost use Rattle.muck_model.specs.locks.Printed.{lock_printed};
+ghost use Rattle.muck_prop.specs.Store.{IsSpellable};
 ghost use Rattle.muck_codec.specs.Spelling.{dbref_bytes, kind_byte, text_bytes, value_bytes, property_bytes, head_bytes, ties_bytes, lists_bytes, properties_bytes, lines_bytes, texts_bytes, spelling};
 ghost use Rattle.muck_codec.specs.Batches.{parameter_bytes, tune_bytes};
 
 use crate::stored::{Property, Stored};
-use muck_model::{Dbref, Kind, Line, NoMemory, Parameter, Tune};
+use muck_lock::{LockFault, print};
+use muck_model::{Dbref, Kind, Line, Lock, NoMemory, Parameter, Tune};
 use muck_prop::PropValue;
 use std::alloc::Global;
 
@@ -39,7 +43,20 @@ fn put_text(out: &mut Vec<u8>, text: &Line) -> Result<(), NoMemory>
     Ok(())
 }
 
-fn put_value(out: &mut Vec<u8>, value: &PropValue) -> Result<(), NoMemory>
+// What is written of a lock, as a text.
+fn put_lock(alloc: Global, out: &mut Vec<u8>, lock: &Lock) -> Result<(), NoMemory>
+    requires { IsStorable lock.now }
+    ensures { OnOk result (out.new.items ≡ out.old.items ++ text_bytes (lock_printed lock.now)) }
+{
+    match print(alloc, lock) {
+        Ok(text) => put_text(out, &text),
+        Err(LockFault::BadLock { .. }) => unreachable!(),
+        Err(LockFault::NoMemory) => Err(NoMemory),
+    }
+}
+
+fn put_value(alloc: Global, out: &mut Vec<u8>, value: &PropValue) -> Result<(), NoMemory>
+    requires { IsSpellable value.now }
     ensures { OnOk result (out.new.items ≡ out.old.items ++ value_bytes value.now) }
 {
     match value {
@@ -53,15 +70,24 @@ fn put_value(out: &mut Vec<u8>, value: &PropValue) -> Result<(), NoMemory>
             out.extend_from_slice(&number.to_be_bytes())?;
             Ok(())
         }
+        PropValue::Ref(d) => {
+            out.push(2)?;
+            put_dbref(out, *d)
+        }
+        PropValue::Key(lock) => {
+            out.push(3)?;
+            put_lock(alloc, out, lock)
+        }
     }
 }
 
 fn put_property(alloc: Global, out: &mut Vec<u8>, property: &Property) -> Result<(), NoMemory>
+    requires { IsSpellable property.now.value }
     ensures { OnOk result (out.new.items ≡ out.old.items ++ property_bytes property.now) }
 {
     let path = property.path.text(alloc)?;
     put_text(out, &path)?;
-    put_value(out, &property.value)?;
+    put_value(alloc, out, &property.value)?;
     Ok(())
 }
 
@@ -98,6 +124,7 @@ fn put_lists(out: &mut Vec<u8>, object: &Stored) -> Result<(), NoMemory>
 }
 
 fn put_each_property(alloc: Global, props: &[Property], out: &mut Vec<u8>) -> Result<(), NoMemory>
+    requires { All (λ p. IsSpellable p.value) props.now }
     ensures { OnOk result (out.new.items ≡ out.old.items ++ flat_map property_bytes props.now) }
 {
     for property in props {
@@ -108,6 +135,7 @@ fn put_each_property(alloc: Global, props: &[Property], out: &mut Vec<u8>) -> Re
 
 #[tactic(auto, unfolding(crate::specs::Spelling::properties_bytes))]
 fn put_properties(alloc: Global, out: &mut Vec<u8>, props: &[Property]) -> Result<(), NoMemory>
+    requires { All (λ p. IsSpellable p.value) props.now }
     ensures { OnOk result (out.new.items ≡ out.old.items ++ properties_bytes props.now) }
 {
     out.extend_from_slice(&(props.len() as u64).to_be_bytes())?;
@@ -136,7 +164,8 @@ fn put_lines(out: &mut Vec<u8>, lines: &[Line]) -> Result<(), NoMemory>
 
 #[tactic(auto, unfolding(crate::specs::Spelling::texts_bytes))]
 fn put_texts(alloc: Global, out: &mut Vec<u8>, object: &Stored) -> Result<(), NoMemory>
-    requires { length object.now.lines ≤ lines_most }
+    requires lines { length object.now.lines ≤ lines_most }
+    requires keys { All (λ p. IsSpellable p.value) object.now.props }
     ensures { OnOk result (out.new.items ≡ out.old.items ++ texts_bytes object.now) }
 {
     put_text(out, &object.name)?;
@@ -146,10 +175,12 @@ fn put_texts(alloc: Global, out: &mut Vec<u8>, object: &Stored) -> Result<(), No
     Ok(())
 }
 
-/// Writes the record of an object behind the bytes, in its one spelling. After `NoMemory` a part of it may stand there.
+/// Writes the record of an object behind the bytes, in its one spelling: that of version 2. What is written of a lock
+/// must be a text that is read as it again. After `NoMemory` a part of it may stand there.
 #[tactic(auto, unfolding(crate::specs::Spelling::spelling))]
 pub fn put_record(alloc: Global, object: &Stored, out: &mut Vec<u8>) -> Result<(), NoMemory>
     requires lines { length object.now.lines ≤ lines_most }
+    requires keys { All (λ p. IsSpellable p.value) object.now.props }
     ensures { OnOk result (out.new.items ≡ out.old.items ++ spelling object.now) }
 {
     put_head(out, object)?;

@@ -1,18 +1,31 @@
 -- What is a text.
-use Rattle.std.proofs.Common.{◌≡◌, ℕ, ◌+◌, ◌<◌, ◌≤◌, ◌^◌, suc, Bool, true, false, not, List, [], ◌∷◌, length, None, refl, ◌∙◌, arith}
+use Rattle.std.proofs.Common.{◌≡◌, ℕ, ◌+◌, ◌<◌, ◌≤◌, ◌^◌, suc, Bool, true, false, cond, not, List, [], ◌∷◌, length, Some, None, refl, ◌∙◌, arith, inl, inr}
 use Rattle.std.specs.Prelude.{ℤ, pos, negsuc}
 use lib.Signed.{mag}
 use Rattle.std.specs.List.{list_all, position_or_len}
 use Rattle.std.specs.Fmt.{decimal, signed_decimal}
-use Rattle.std.proofs.lemmas.Bool.{and_parts, cond-true, le-ltb, not_from_false}
+use Rattle.std.proofs.lemmas.Bool.{and_parts, cases_lt, cond-true, lt-ltb, le-ltb, not_from_false}
 use Rattle.std.proofs.lemmas.Fmt.{length_signed_le}
-use Rattle.muck_model.specs.Bytes.{is_outside, text_most, text_fault}
+use Rattle.muck_model.specs.Bytes.{is_outside, text_most, fault_of_bytes, text_fault}
 use Rattle.muck_model.specs.Decimal.{is_digit}
 use Rattle.muck_model.proofs.Decimals.{digits_of}
 
 -- no byte stands outside, and there are not too many
 pub text_if : (bytes : List ℕ) → length bytes ≤ position_or_len is_outside bytes → length bytes ≤ text_most → text_fault bytes ≡ None
 text_if bytes all short = rw (le-ltb (position_or_len is_outside bytes) (length bytes) all, le-ltb text_most (length bytes) short) refl
+
+-- a text has no more bytes than that
+pub text_short : (bytes : List ℕ) → text_fault bytes ≡ None → length bytes ≤ text_most
+text_short bytes h =
+    elim (cases_lt (position_or_len is_outside bytes) (length bytes)) [
+      | inl inside ↦ absurd (let e : fault_of_bytes (cond true (Some (position_or_len is_outside bytes)) None) (length bytes) ≡ None = rw (lt-ltb (position_or_len is_outside bytes) (length bytes) inside) at h in cc)
+      | inr past ↦
+          let whole : fault_of_bytes None (length bytes) ≡ None = rw (le-ltb (position_or_len is_outside bytes) (length bytes) past) at h in
+          elim (cases_lt text_most (length bytes)) [
+            | inl over ↦ absurd (let e : Some text_most ≡ None = rw (lt-ltb text_most (length bytes) over) at whole in cc)
+            | inr le ↦ le
+          ]
+    ]
 
 -- where all bytes pass a test that only bytes of texts pass
 pub none_outside : (test : ℕ → Bool) → ((b : ℕ) → test b ≡ true → is_outside b ≡ false) → (bytes : List ℕ) → list_all test bytes ≡ true → position_or_len is_outside bytes ≡ length bytes
