@@ -4,3 +4,4 @@ pub mod Fields
 pub mod Loops
 pub mod Values
 pub mod Records
+pub mod Versions
