@@ -8,5 +8,6 @@ pub mod Passes
 pub mod Inside
 pub mod Kept
 pub mod Back
+pub mod Storable
 pub mod Walks
 pub mod Texts
