@@ -25,7 +25,7 @@ use Rattle.muck_codec.specs.inner.Stored.{IsSpelled, Takes as IsIt}
 use Rattle.muck_codec.specs.inner.Stored.{IsDbref, IsText, IsValue, IsProperty, AreProperties, IsLine, AreLines, IsStored}
 use Rattle.muck_codec.proofs.Codes.{IsBytes, bind_ok, ok_is, Takes, Codes, both_codes, mapped_codes, counted_codes}
 use Rattle.muck_codec.proofs.Fields.{byte_codes, codes64, dbref_codes, flags_codes, kind_codes, short_codes, text_codes}
-use Rattle.muck_codec.proofs.Values.{same_bytes, equal_bytes, most_fits, value_codes}
+use Rattle.muck_codec.proofs.Values.{most_fits, value_codes}
 
 -- Paths.
 

@@ -4,7 +4,8 @@ use Rattle.std.specs.Prelude.{FitsSigned, bytes_eq, ◌==◌}
 use Rattle.std.specs.Int.{w32, to_be_bytes, cast_unsigned}
 use Rattle.std.specs.Ordering.{int_eq}
 use Rattle.std.proofs.lemmas.Bool.{cases_Bool, cond-true, cond-false, lt-ltb, ltb-true}
-use Rattle.std.proofs.lemmas.Slice.Eq.{bytes_eq-Decides}
+use Rattle.muck_laws.proofs.Results.{guard_ok}
+use Rattle.muck_laws.proofs.Texts.{bytes_equal, same_bytes}
 use Rattle.muck_model.specs.Bytes.{text_most}
 use Rattle.muck_model.specs.Dbrefs.{same, nothing}
 use Rattle.muck_model.specs.declared.dbref.Dbref.{Dbref}
@@ -18,14 +19,8 @@ use Rattle.muck_codec.specs.Reading.{◌>>=◌, number_at, dbref_at, text_at}
 use Rattle.muck_codec.specs.Records.{tags_in, first_most, most_in, integer_at, ref_at, written_so, spelled_lock, key_if, key_at, tagged, value_read_at}
 use Rattle.muck_codec.specs.Spelling.{dbref_bytes, text_bytes, value_bytes}
 use Rattle.muck_codec.specs.inner.Stored.{IsDbref, IsText, tag_of, IsContent, IsValue}
-use Rattle.muck_codec.proofs.Codes.{IsBytes, bytes_rest, bind_ok, guard_ok, ok_is, Takes, Codes}
+use Rattle.muck_codec.proofs.Codes.{IsBytes, bytes_rest, bind_ok, ok_is, Takes, Codes}
 use Rattle.muck_codec.proofs.Fields.{dbref_with, dbref_codes, text_codes}
-
-pub same_bytes : (a b : List ℕ) → bytes_eq a b ≡ true → a ≡ b
-same_bytes a b e = (bytes_eq-Decides a b).0 e
-
-pub equal_bytes : (a b : List ℕ) → a ≡ b → bytes_eq a b ≡ true
-equal_bytes a b e = (bytes_eq-Decides a b).1 e
 
 -- bytes that are too many for a text are none
 pub long_differs : (a b : List ℕ) → text_most < length a → length b ≤ text_most → bytes_eq a b ≡ false
@@ -136,7 +131,7 @@ key_takes most few bytes rest v fits e =
     ))
 
 spelled_again : (lock : Lock) → lock_of no_names (lock_printed lock) ≡ Ok lock → spelled_lock (lock_printed lock) ≡ Some lock
-spelled_again lock reads = ap (written_so (lock_printed lock)) reads ∙ cond-true (bytes_eq (lock_printed lock) (lock_printed lock)) _ _ (equal_bytes _ _ refl)
+spelled_again lock reads = ap (written_so (lock_printed lock)) reads ∙ cond-true (bytes_eq (lock_printed lock) (lock_printed lock)) _ _ (bytes_equal _ _ refl)
 
 key_again : (most : ℕ) (few : most < 2 ^ 16) (lock : Lock) (rest : List ℕ) → IsText 1 most (lock_printed lock) → lock_of no_names (lock_printed lock) ≡ Ok lock → key_at most (text_bytes (lock_printed lock) ++ rest) ≡ Ok (Key lock, rest)
 unfolding key_at
