@@ -2,6 +2,7 @@ pub mod Below
 pub mod Reading
 pub mod Writing
 pub mod Maps
+pub mod Refs
 pub mod Sequence
 pub mod First
 pub mod Least

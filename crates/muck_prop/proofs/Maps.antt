@@ -93,10 +93,12 @@ kept_set test v (e ∷ es) new spelled old =
 
 -- the properties that hold the number of an object, in the words of a finite map
 pub has_ref_is : (d : Dbref) (es : List (List (List ℕ) × PropValue)) → IsStrictlySortedBy path_cmp (keys_of es) → list_any (λ e. is_ref d e.1) es ≡ has_ref d (from_entries {R = path_cmp} es)
+unfolding has_ref
 has_ref_is d es sorted = sym (ap (λ fs. list_any (λ e. is_ref d e.1) fs) (entries_are es sorted))
 
 pub without_refs_is : (d : Dbref) (es fs : List (List (List ℕ) × PropValue)) → IsStrictlySortedBy path_cmp (keys_of es) → fs ≡ filter (λ e. not (is_ref d e.1)) es
     → from_entries {R = path_cmp} fs ≡ without_refs d (from_entries es)
+unfolding without_refs
 without_refs_is d es fs sorted left =
     ap (λ xs. from_entries {R = path_cmp} xs) left ∙ sym (ap (λ xs. from_entries {R = path_cmp} (filter (λ e. not (is_ref d e.1)) xs)) (entries_are es sorted))
 

@@ -66,11 +66,11 @@ is_ref d (Ref held) = same held d
 is_ref d (Key lock) = false
 
 -- some property holds the number of that object
-abbrev pub has_ref : Dbref → PropMap → Bool
+unfoldable pub has_ref : Dbref → PropMap → Bool
 has_ref d m = list_any (λ e. is_ref d e.1) (entries m)
 
 -- the properties that don't
-abbrev pub without_refs : Dbref → PropMap → PropMap
+unfoldable pub without_refs : Dbref → PropMap → PropMap
 without_refs d m = from_entries (filter (λ e. not (is_ref d e.1)) (entries m))
 
 -- the map after a value is stored at a path: what stands for no property removes it

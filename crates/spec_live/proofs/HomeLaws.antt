@@ -11,6 +11,7 @@ use Rattle.std.specs.Option.{option_map, option_and_then, option_map_or}
 use Rattle.muck_model.specs.declared.dbref.Dbref.{Dbref}
 use Rattle.muck_model.specs.declared.dbref.Kind.{Kind}
 use Rattle.muck_model.specs.declared.dbref.Kind.TheVariants.{Room, Thing, Player, Program, Garbage}
+use Rattle.muck_prop.proofs.Refs.{forgets_empty}
 use Rattle.spec_live.specs.declared.object.Object.{Object}
 use Rattle.spec_live.specs.Flags.{no_flags}
 use Rattle.spec_live.specs.Chain.{Member, IsApart, has, without_number}
@@ -127,9 +128,9 @@ tied_untied es d o room t =
     homes_over : (fs : List Entry) (o p : Object) → p.kind ≡ o.kind → p.home ≡ (cond (same o.home (dbref_of d)) (dbref_of 0) o.home) → HasHome fs (record o { home = cond (same o.home (dbref_of d)) (dbref_of 0) o.home }) → HasHome fs p
     homes_over fs o p k e h = home_alike fs fs (record o { home = cond (same o.home (dbref_of d)) (dbref_of 0) o.home }) p k e (λ n q r. r) h
 
-garbage_untied : (d : ℕ) → without_ties d garbage ≡ garbage
+pub garbage_untied : (d : ℕ) → without_ties d garbage ≡ garbage
 unfolding garbage
-garbage_untied d = refl
+garbage_untied d = ap (λ ps. record garbage { props = ps }) (forgets_empty (dbref_of d))
 
 pub consistent_untied : (es : List Entry) (d : ℕ) → IsConsistent es → IsConsistent (untied d es)
 consistent_untied es d c = record {

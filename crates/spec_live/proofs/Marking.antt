@@ -3,12 +3,14 @@ use Rattle.std.proofs.Common.{◌≡◌, ℕ, List, [], Option, Some, None, refl
 use Rattle.std.proofs.lemmas.Bool.{false≢true, or_parts}
 use Rattle.std.specs.List.{slice_get}
 use Rattle.std.specs.Option.{option_map, option_map_or}
+use Rattle.muck_prop.specs.Store.{has_ref}
+use Rattle.muck_prop.proofs.Refs.{forgets_none}
 use Rattle.spec_live.specs.declared.saving.Saving.{Saving}
 use Rattle.spec_live.specs.declared.saving.Saving.TheVariants.{Due}
 use Rattle.spec_live.specs.Objects.{Entry, dbref_of, same, object_in, entry_list, list_in}
 use Rattle.spec_live.specs.Saving.{saving_in, is_due, Links, links_in, same_links, IsAsBefore, Marked}
 use Rattle.spec_live.specs.Making.{blank_entry}
-use Rattle.spec_live.specs.Recycling.{without_ties, is_tied_to_number, gone_entry}
+use Rattle.spec_live.specs.Recycling.{without_ties, leads_to_number, is_tied_to_number, gone_entry}
 use Rattle.spec_live.proofs.Keeping.{Order, along}
 use Rattle.spec_live.proofs.Savings.{object_relinked, saving_relinked}
 use Rattle.spec_live.proofs.Dues.{links_alike, links_relinked, same_equal}
@@ -47,7 +49,10 @@ entry_order = record {
 
 untied_by : (d : ℕ) (e : Entry) (b : Bool) → is_tied_to_number d e.object ≡ b → is_due (cond b Due e.saving) ≡ false → (is_due e.saving ≡ false) × (without_ties d e.object ≡ e.object)
 untied_by d e true h early = absurd (false≢true (sym early))
-untied_by d e false h early = let both : (same e.object.home (dbref_of d) ≡ false) × (same e.object.link (dbref_of d) ≡ false) = or_parts _ _ h in (early, rw (both.0, both.1) refl)
+untied_by d e false h early =
+    let parts : (leads_to_number d e.object ≡ false) × (has_ref (dbref_of d) e.object.props ≡ false) = or_parts _ _ h in
+    let both : (same e.object.home (dbref_of d) ≡ false) × (same e.object.link (dbref_of d) ≡ false) = or_parts _ _ parts.0 in
+    (early, rw (both.0, both.1, forgets_none (dbref_of d) e.object.props parts.1) refl)
 
 entry_touch : (may : May) → may Begun ≡ false → Holds may KeepsEntry
 unfolding gone_entry

@@ -4,6 +4,7 @@ use Rattle.std.specs.Option.{option_map_or, option_and_then}
 use Rattle.muck_model.specs.declared.dbref.Dbref.{Dbref}
 use Rattle.muck_model.specs.declared.dbref.Kind.{Kind}
 use Rattle.muck_model.specs.declared.dbref.Kind.TheVariants.{Thing, Player, Program}
+use Rattle.muck_prop.specs.Store.{has_ref, without_refs}
 use Rattle.spec_live.specs.declared.object.Object.{Object}
 use Rattle.spec_live.specs.declared.mark.Mark.TheVariants.{Gone}
 use Rattle.spec_live.specs.declared.saving.Saving.TheVariants.{Due}
@@ -14,20 +15,26 @@ use Rattle.spec_live.specs.Moving.{left_out, moved}
 use Rattle.spec_live.specs.Saving.{relinked}
 use Rattle.spec_live.specs.Setting.{checked}
 
--- a home in d becomes `#0`, and a link to d nothing
+-- a home in d becomes `#0`, a link to d nothing, and the properties that hold its number are removed
 abbrev pub without_ties : ℕ → Object → Object
 without_ties d o = record o {
   home = if same o.home (dbref_of d) then dbref_of 0 else o.home;
   link = if same o.link (dbref_of d) then nothing else o.link;
+  props = without_refs (dbref_of d) o.props;
 }
 
+-- its home or its link is d
+abbrev pub leads_to_number : ℕ → Object → Bool
+leads_to_number d o = same o.home (dbref_of d) || same o.link (dbref_of d)
+
+-- and so is what a property of it holds
 abbrev pub is_tied_to_number : ℕ → Object → Bool
-is_tied_to_number d o = same o.home (dbref_of d) || same o.link (dbref_of d)
+is_tied_to_number d o = leads_to_number d o || has_ref (dbref_of d) o.props
 
 abbrev pub untie : ℕ → Entry → Entry
 untie d e = record e { object = without_ties d e.object; saving = if is_tied_to_number d e.object then Due else e.saving }
 
--- no object has its home in d or a link to it
+-- no object has its home in d, a link to it or a property that holds its number
 unfoldable pub untied : ℕ → List Entry → List Entry
 untied d es = map (untie d) es
 
@@ -76,7 +83,7 @@ vanished d es = changed_at d gone_entry (map (left_out d) es)
 unfoldable pub taken_away : ℕ → List Entry → List Entry
 taken_away d es = relinked es (vanished d (exits_gone d es))
 
--- Homes in d become `#0` and links to it nothing; its contents go home in the order of their list; its exits become
+-- Homes in d become `#0`, links to it nothing, and properties that hold its number are removed; its contents go home in the order of their list; its exits become
 -- garbage; and then so does it.
 unfoldable pub recycled : ℕ → List Entry → List Entry
 recycled d es = taken_away d (sent_home (list_in false es d) (untied d es))

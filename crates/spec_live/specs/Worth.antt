@@ -5,32 +5,35 @@ use Rattle.std.specs.FinMap.{get}
 use Rattle.std.specs.Fmt.{signed_decimal}
 use Rattle.std.specs.Str.{bytes_eq}
 use Rattle.muck_model.specs.declared.dbref.Dbref.{Dbref}
+use Rattle.muck_model.specs.locks.Printed.{lock_printed}
 use Rattle.muck_prop.specs.declared.value.PropValue.{PropValue}
-use Rattle.muck_prop.specs.declared.value.PropValue.TheVariants.{Text, Number}
-use Rattle.muck_prop.specs.Store.{PropMap, kept_text}
+use Rattle.muck_prop.specs.declared.value.PropValue.TheVariants.{Text, Number, Ref, Key}
+use Rattle.muck_prop.specs.Store.{PropMap, kept_text, kept_number, kept_key}
 use Rattle.muck_prop.specs.Paths.{path_fault, segments_of}
-use Rattle.muck_lock.specs.Opens.{Holdings}
+use Rattle.muck_lock.specs.Opens.{Holdings, opens_for}
 use Rattle.muck_lock.specs.Answers.{text_opens}
 use Rattle.spec_live.specs.declared.object.Object.{Object}
 use Rattle.spec_live.specs.Objects.{Entry, object_at}
 use Rattle.spec_live.specs.Seen.{listed_in}
 
--- as a text: a number is written in decimal
+-- as a text: an integer in decimal, an object as `#N`, and a lock as it is written
 abbrev pub value_text : PropValue → List ℕ
 value_text (Text text) = text
 value_text (Number n) = signed_decimal n
+value_text (Ref d) = 35 ∷ signed_decimal d.0
+value_text (Key lock) = lock_printed lock
 
 -- Keys of locks.
 
--- a key that asks for this text fits
+-- a key that asks for this text fits: a text that is this one, or an integer that is so in decimal
 abbrev pub value_is : List ℕ → PropValue → Bool
-value_is text value = bytes_eq (value_text value) text
+value_is text value = option_map_or (λ t. bytes_eq t text) (kept_text value) (option_map_or (λ n. bytes_eq (signed_decimal n) text) (kept_number value) false)
 
 -- the value at the path that a text writes
 unfoldable pub value_at_path : List ℕ → PropMap → Option PropValue
 value_at_path text props = option_map_or (λ fault. None) (path_fault text) (get props (segments_of text))
 
--- the property of that path of an object has that text, or that number in decimal
+-- the property of that path of an object has that text, or that integer in decimal
 unfoldable pub has_value : List Entry → Dbref → List ℕ → List ℕ → Bool
 has_value es d path text = option_map_or (λ o. option_map_or (value_is text) (value_at_path path o.props) false) (object_at d es) false
 
@@ -51,15 +54,15 @@ message_of value = kept_text value
 unfoldable pub message_at : List (List ℕ) → Dbref → List Entry → Option (List ℕ)
 message_at path x es = option_and_then (λ o. option_and_then message_of (get o.props path)) (object_at x es)
 
--- Locks. A lock is kept as its text, made of numbers of objects and of properties.
+-- Locks. A lock is kept as one, or as its text, made of numbers of objects and of properties.
 
 -- what is kept as the lock of an object
 abbrev pub lock_of_object : Object → Option PropValue
 lock_of_object o = get o.props (codes "_" ∷ codes "lok" ∷ [])
 
--- what is kept opens for x; what isn't the text of a lock opens for nobody
+-- what is kept opens for x; what is no lock, and not the text of one, opens for nobody
 abbrev pub kept_opens : List Entry → Dbref → PropValue → Bool
-kept_opens es x value = option_map_or (text_opens (holdings_of es) x) (kept_text value) false
+kept_opens es x value = option_map_or (λ lock. opens_for (holdings_of es) lock x) (kept_key value) (option_map_or (text_opens (holdings_of es) x) (kept_text value) false)
 
 -- the lock of an object opens for x; without a lock it does
 unfoldable pub opens_at : List Entry → Dbref → Dbref → Bool

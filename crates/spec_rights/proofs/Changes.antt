@@ -1,7 +1,7 @@
 -- Each change of an object that was there keeps to the licence.
 use Rattle.std.proofs.Common.{◌≡◌, ℕ, Bool, true, false, cond, List, refl, sym, ◌∙◌, ap, subst, Option, Some, None, inl, inr}
 use Rattle.std.specs.Prelude.{◌&&◌, not, slice_get}
-use Rattle.std.proofs.lemmas.Bool.{cases_eq}
+use Rattle.std.proofs.lemmas.Bool.{cases_eq, or_left}
 use Rattle.std.specs.Option.{option_map, option_map_or}
 use Rattle.std.specs.Ordering.{eq_by_cmp}
 use Rattle.std.specs.Cmp.{Equal-is}
@@ -28,7 +28,7 @@ use Rattle.spec_rights.specs.declared.act.Actor.{Actor}
 use Rattle.spec_rights.specs.declared.act.Act.TheVariants.{Write, Link, Edit, Change, Rename, Password, SetFlag, SetLevel, SetOwner}
 use Rattle.spec_rights.specs.Verdict.{is_master, controls, is_guarded}
 use Rattle.spec_rights.specs.Changing.{at_number, set_object, name_given, object_owned_by, linked, is_flag, flag_set, flag_cleared, leveled, lines_kept, password_kept, property_stored, unstored}
-use Rattle.spec_rights.specs.Licence.{Freedom, Open, Judge, Changed, Differs, SameLists, SameTies, name_open, property_open, link_open, level_open, lines_open, owner_open}
+use Rattle.spec_rights.specs.Licence.{Freedom, Open, Judge, Changed, Differs, SameLists, SameTies, name_open, property_open, value_open, link_open, level_open, lines_open, owner_open}
 use Rattle.spec_rights.proofs.Lookups.{Row, row_same, rows_changed, number_is}
 use Rattle.spec_rights.proofs.Listing.{lists_alike, lists_itself}
 use Rattle.spec_rights.proofs.Walking.{acts, silent, same_marks, silent_acts, field_silent, goes_set, goes_lines}
@@ -135,14 +135,14 @@ stays_linked a free x to = stays_by _ (λ start w s g. let j = judge a free star
 -- Properties.
 
 abbrev At : Judge → Dbref → List (List ℕ) → Option PropValue → Option PropValue → Type 0
-At j x q old new = Open (λ (value : Option PropValue). property_open j x q) old new
+At j x q old new = Open (value_open j x q) old new
 
 -- what stands at q after a value, or none, is put at another path or there
 prop_at : (j : Judge) (x : Dbref) (path q : List (List ℕ)) (old new : Option PropValue) → property_open j x path ≡ true → At j x q old (cond (eq_by_cmp path_cmp q path) new old)
 prop_at j x path q old new h = at (eq_by_cmp path_cmp q path) (λ e. path_cmp_same q path ((Equal-is (path_cmp q path)).0 e))
   where
     at : (b : Bool) → (b ≡ true → q ≡ path) → At j x q old (cond b new old)
-    at true e = inr (ap (property_open j x) (e refl) ∙ h)
+    at true e = inr (or_left (property_open j x q) _ (ap (property_open j x) (e refl) ∙ h))
     at false e = inl refl
 
 removed_open : (j : Judge) (x : Dbref) (path : List (List ℕ)) (props : PropMap) → property_open j x path ≡ true → (q : List (List ℕ)) → At j x q (get props q) (get (remove props path) q)

@@ -19,7 +19,7 @@ use Rattle.spec_live.proofs.Tracing.{traced_along}
 use Rattle.spec_rights.specs.declared.act.Actor.{Actor}
 use Rattle.spec_rights.specs.declared.act.Act.{Act}
 use Rattle.spec_rights.specs.Verdict.{is_master, verdict}
-use Rattle.spec_rights.specs.Licence.{Freedom, Open, Judge, owned, name_open, property_open, place_open, link_open, home_open, level_open, lines_open, owner_open, Changed, Differs, SameLists, leave_open, SameTies, Licensed}
+use Rattle.spec_rights.specs.Licence.{Freedom, Open, Judge, owned, name_open, value_open, place_open, link_open, home_open, level_open, lines_open, owner_open, Changed, Differs, SameLists, leave_open, SameTies, Licensed}
 use Rattle.spec_rights.specs.Asking.{denial_answered, asked}
 use Rattle.spec_rights.proofs.Lookups.{Row, row_same, row_both}
 use Rattle.spec_rights.proofs.Listing.{lists_itself, lists_both}
@@ -63,7 +63,7 @@ changed_both j x o p q r s = record {
   flags = open_both (λ flags. owned j x) _ _ _ r.flags s.flags;
   wizard = open_both (λ b. owned j x && is_master j.actor) _ _ _ r.wizard s.wizard;
   level = open_both (level_open j x) _ _ _ r.level s.level;
-  props = λ path. open_both (λ value. property_open j x path) _ _ _ (r.props path) (s.props path);
+  props = λ path. open_both (value_open j x path) _ _ _ (r.props path) (s.props path);
   lines = open_both (λ lines. lines_open j x) _ _ _ r.lines s.lines;
   digest = open_both (λ digest. is_master j.actor) _ _ _ r.digest s.digest;
 }

@@ -1,7 +1,7 @@
 -- Recycling keeps to the licence, with all that it brings with it.
 use Rattle.std.proofs.Common.{◌≡◌, ℕ, ◌==◌, Bool, true, false, cond, List, [], ◌∷◌, refl, sym, ◌∙◌, ap, subst, Option, Some, None, inl, inr, arith}
 use Rattle.muck_model.proofs.Dbrefs.{same_eq, eq_same}
-use Rattle.std.specs.Prelude.{is_some, Result, Ok, Err, map, ◌⊎◌, ◌||◌, not, slice_get}
+use Rattle.std.specs.Prelude.{is_some, is_none, Result, Ok, Err, map, ◌⊎◌, ◌||◌, not, slice_get}
 use Rattle.std.specs.Option.{option_map, option_and_then, option_map_or}
 use Rattle.std.specs.List.{list_any}
 use Rattle.std.proofs.lemmas.Bool.{cases_eq, false≢true, and_parts, or_parts, not-true, or_left, or_right, and_from}
@@ -10,6 +10,10 @@ use Rattle.std.proofs.lemmas.Option.{slice_get-map}
 use Rattle.muck_model.specs.declared.dbref.Dbref.{Dbref}
 use Rattle.muck_model.specs.declared.dbref.Kind.{Kind}
 use Rattle.muck_model.specs.declared.dbref.Kind.TheVariants.{Room, Thing, Exit, Player, Program, Garbage}
+use Rattle.muck_prop.specs.declared.value.PropValue.{PropValue}
+use Rattle.muck_prop.specs.declared.value.PropValue.TheVariants.{Text, Number, Ref, Key}
+use Rattle.muck_prop.specs.Store.{is_ref, kept_ref, without_refs}
+use Rattle.muck_prop.proofs.Refs.{IsForgotten, forgotten_at}
 use Rattle.spec_live.specs.declared.object.Object.{Object}
 use Rattle.std.specs.FinMap.{get}
 use Rattle.spec_live.specs.Flags.{has_flag, wizard}
@@ -35,7 +39,7 @@ use Rattle.spec_rights.specs.declared.act.Act.TheVariants.{Recycle}
 use Rattle.spec_rights.specs.Levels.{is_player_at}
 use Rattle.spec_rights.specs.Verdict.{verdict, controls}
 use Rattle.spec_rights.specs.Changing.{recycled_now}
-use Rattle.spec_rights.specs.Licence.{Freedom, Open, Judge, Changed, Differs, Reordered, as_before, empties, front_open, SameLists, is_emptied, is_way_home, place_open, link_open, home_open, gone_open, may_recycle}
+use Rattle.spec_rights.specs.Licence.{Freedom, Open, Judge, Changed, Differs, Reordered, as_before, empties, front_open, SameLists, is_emptied, is_way_home, property_open, value_open, place_open, link_open, home_open, gone_open, may_recycle}
 use Rattle.spec_live.proofs.HomeLaws.{list_untied}
 use Rattle.spec_rights.proofs.Listing.{reordered_all, reordered_one, reordered_left, reordered_moved}
 use Rattle.spec_rights.proofs.Lookups.{Row, alive, seen_at, number_is}
@@ -239,6 +243,13 @@ recycled_here d es =
 read_at : {X : Type 0} (f : Object → X) (none : X) (x : Dbref) (es : List Entry) (o : Object) → object_at x es ≡ Some o → option_map_or f (object_at x es) none ≡ f o
 read_at f none x es o e = ap (λ q. option_map_or f q none) e
 
+-- what holds the number of an object keeps that number
+ref_kept : (d : Dbref) (v : PropValue) → is_ref d v ≡ true → option_map_or (λ y. same y d) (kept_ref v) false ≡ true
+ref_kept d (Text text) h = h
+ref_kept d (Number n) h = h
+ref_kept d (Ref held) h = h
+ref_kept d (Key lock) h = h
+
 changed_home : (a : Actor) (free : Freedom) (d n : ℕ) (es : List Entry) (o p : Object) → object_at (dbref_of n) es ≡ Some o → Homeward (judged a free d es) d n o p → Changed (judged a free d es) (dbref_of n) o p
 changed_home a free d n es o p there h = record {
   kind = ap (λ (x : Object). x.kind) h.same;
@@ -250,7 +261,7 @@ changed_home a free d n es o p there h = record {
   flags = inl (ap (λ (x : Object). x.flags) h.same);
   wizard = inl (ap (λ (x : Object). has_flag wizard x.flags) h.same);
   level = inl (ap (λ (x : Object). x.level) h.same);
-  props = λ path. inl (ap (λ (x : Object). get x.props path) h.same);
+  props = λ path. props path (forgotten_at (dbref_of d) o.props path) (ap (λ (x : Object). get x.props path) h.same);
   lines = inl (ap (λ (x : Object). x.lines) h.same);
   digest = inl (ap (λ (x : Object). x.digest) h.same);
 }
@@ -266,6 +277,16 @@ changed_home a free d n es o p there h = record {
     home : (b : Bool) → same o.home (dbref_of d) ≡ b → p.home ≡ cond b (dbref_of 0) o.home → Open (home_open (judged a free d es) (dbref_of n)) o.home p.home
     home true t e = inr (ap (home_open (judged a free d es) (dbref_of n)) e ∙ or_right _ _ (ap (λ (y : Dbref). same y (dbref_of d)) (read_at (λ (x : Object). x.home) nothing (dbref_of n) es o there) ∙ t))
     home false t e = inl e
+
+    -- where it held the number, it is gone
+    props : (path : List (List ℕ)) → IsForgotten (dbref_of d) (get o.props path) (get (without_refs (dbref_of d) o.props) path) → get p.props path ≡ get (without_refs (dbref_of d) o.props) path
+        → Open (value_open (judged a free d es) (dbref_of n) path) (get o.props path) (get p.props path)
+    props path (inl kept) now = inl (now ∙ kept)
+    props path (inr lost) now =
+        inr (or_right (property_open (judged a free d es) (dbref_of n) path) _ (and_from _ _ (ap is_none (now ∙ lost.0)) (
+        ap (λ (q : Option Object). option_map_or (λ y. same y (dbref_of d)) (option_and_then kept_ref (option_and_then (λ (x : Object). get x.props path) q)) false) there
+        ∙ ap (λ (v : Option PropValue). option_map_or (λ y. same y (dbref_of d)) (option_and_then kept_ref v) false) lost.1.1.0
+        ∙ ref_kept (dbref_of d) lost.1.0 lost.1.1.1)))
 
 not_zero : (d : ℕ) → (d == 0) ≡ false → same (dbref_of 0) (dbref_of d) ≡ true → ⊥
 not_zero d e h = let z : dbref_of 0 ≡ dbref_of d = eq_same (dbref_of 0) (dbref_of d) h in let n : d ≡ 0 = cc in absurd (grind (arith, nat_tests))

@@ -1,12 +1,14 @@
 -- What an actor may change: the differences between two worlds, field by field.
-use Rattle.std.specs.Prelude.{◌≡◌, ◌⊎◌, ◌≤◌, length, ℕ, Bool, true, false, not, ◌&&◌, ◌||◌, ◌==◌, nat_le, if◌then◌else◌, List, [], ◌∷◌, Option, Some, None}
-use Rattle.std.specs.Option.{option_map_or}
+use Rattle.std.specs.Prelude.{◌≡◌, ◌⊎◌, ◌≤◌, length, ℕ, Bool, true, false, not, ◌&&◌, ◌||◌, ◌==◌, nat_le, if◌then◌else◌, List, [], ◌∷◌, Option, Some, None, is_none}
+use Rattle.std.specs.Option.{option_map_or, option_and_then}
 use Rattle.std.specs.List.{list_any}
 use Rattle.std.specs.FinMap.{get}
 use Rattle.muck_model.specs.declared.dbref.Dbref.{Dbref}
 use Rattle.muck_model.specs.declared.dbref.Kind.{Kind}
 use Rattle.muck_model.specs.declared.dbref.Kind.TheVariants.{Room, Thing, Exit, Player, Program, Garbage}
+use Rattle.muck_prop.specs.declared.value.PropValue.{PropValue}
 use Rattle.muck_prop.specs.Paths.{class_of}
+use Rattle.muck_prop.specs.Store.{kept_ref}
 use Rattle.spec_live.specs.declared.object.Object.{Object}
 use Rattle.spec_live.specs.Flags.{has_flag, no_flags, builder, jump, link, wizard}
 use Rattle.spec_live.specs.Chain.{without_number}
@@ -48,6 +50,10 @@ home_of j x = option_map_or (λ o. o.home) (object_at x j.objects) nothing
 abbrev pub judged_link : Judge → Dbref → Dbref
 judged_link j x = option_map_or (λ o. o.link) (object_at x j.objects) nothing
 
+-- what a property holds at the start
+abbrev pub judged_property : Judge → Dbref → List (List ℕ) → Option PropValue
+judged_property j x path = option_and_then (λ o. get o.props path) (object_at x j.objects)
+
 abbrev pub judged_kind : Judge → Dbref → Kind
 judged_kind j x = option_map_or (λ o. o.kind) (object_at x j.objects) Garbage
 
@@ -74,6 +80,12 @@ property_open j x path =
     if is_hidden (class_of path) || is_kept_class (class_of path) then is_master j.actor
     else (if is_guarded (class_of path) then nat_le 3 j.actor.level || owned j x
     else nat_le 2 j.actor.level || owned j x)
+
+-- a property that held the number of what is gone may be gone too
+abbrev pub value_open : Judge → Dbref → List (List ℕ) → Option PropValue → Bool
+value_open j x path value =
+    property_open j x path
+    || (is_none value && option_map_or (is_gone j) (option_and_then kept_ref (judged_property j x path)) false)
 
 abbrev pub place_open : Judge → Dbref → Dbref → Bool
 place_open j x to =
@@ -115,7 +127,7 @@ pub record Changed (j : Judge) (x : Dbref) (old new : Object) : Type 0 where
   pub flags : Open (λ flags. owned j x) old.flags new.flags
   pub wizard : Open (λ b. owned j x && is_master j.actor) (has_flag wizard old.flags) (has_flag wizard new.flags)
   pub level : Open (level_open j x) old.level new.level
-  pub props : (path : List (List ℕ)) → Open (λ value. property_open j x path) (get old.props path) (get new.props path)
+  pub props : (path : List (List ℕ)) → Open (value_open j x path) (get old.props path) (get new.props path)
   pub lines : Open (λ lines. lines_open j x) old.lines new.lines
   pub digest : Open (λ digest. is_master j.actor) old.digest new.digest
 

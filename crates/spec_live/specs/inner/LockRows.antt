@@ -11,7 +11,7 @@ use Rattle.muck_model.specs.Numbers.{dbref_written as number_named}
 use Rattle.muck_prop.specs.Order.{path_cmp, path_cmp_total}
 use Rattle.muck_prop.specs.Store.{PropMap}
 use Rattle.muck_prop.specs.declared.value.PropValue.{PropValue}
-use Rattle.muck_prop.specs.declared.value.PropValue.TheVariants.{Text, Number}
+use Rattle.muck_prop.specs.declared.value.PropValue.TheVariants.{Text, Number, Ref}
 use Rattle.muck_lock.specs.Grammar.{part_of}
 use Rattle.muck_lock.specs.Answers.{text_opens}
 use Rattle.muck_lock.specs.Opens.{opens_step}
@@ -52,6 +52,10 @@ LockRows =
     × (value_is (codes "05") five ≡ false)
     × (value_is (codes "-5") (Number (negsuc 4)) ≡ true)
     × (value_is (codes "male") (Text (codes "Male")) ≡ false)
+    -- the number of an object is shown behind `#`, fits no key, and opens for nobody
+    × (value_text (Ref (dbref_of 5)) ≡ codes "#5")
+    × (value_is (codes "#5") (Ref (dbref_of 5)) ≡ false)
+    × ((x : Dbref) → kept_opens (gate_world five) x (Ref (dbref_of 1)) ≡ false)
 
 abbrev five_props : PropMap
 five_props = insert empty lock_path five
@@ -82,4 +86,7 @@ lock_rows = (
   refl,
   refl,
   refl,
+  refl,
+  refl,
+  λ x. refl,
 )
