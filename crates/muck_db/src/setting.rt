@@ -353,7 +353,7 @@ fn put_at(slot: &mut Slot, path: Path, value: PropValue) -> Result<(), DbFault>
 }
 
 // The same in the table.
-#[tactic(auto, using(laws::proofs::Places::set_back), unfolding(spec_live::specs::Objects::changed_at))]
+#[tactic(auto, using(muck_laws::proofs::Places::set_back), unfolding(spec_live::specs::Objects::changed_at))]
 pub fn put_prop(slots: &mut Slots, k: u32, path: Path, value: PropValue) -> Result<(), DbFault>
     requires { k < length slots.old.items }
     ensures ok { OnOk result (slots.new.items ≡ changed_at k (on_slot (with_prop path value)) slots.old.items) }

@@ -37,7 +37,7 @@ fn are_same_lines(a: &[Line], b: &[Line]) -> bool
     a == b
 }
 
-#[tactic(auto, using(laws::proofs::Texts::texts_same))]
+#[tactic(auto, using(muck_laws::proofs::Texts::texts_same))]
 fn is_same_path(a: &Path, b: &Path) -> bool
     ensures { Decides result (a.now ≡ b.now) }
 {

@@ -183,7 +183,7 @@ impl Frame {
         }
     }
 
-    #[tactic(auto, using(laws::proofs::Places::replaced))]
+    #[tactic(auto, using(muck_laws::proofs::Places::replaced))]
     /// Replaces the item at this depth below the top, which is there.
     pub fn set_item(&mut self, depth: usize, item: Value)
         requires { depth < length self.old.stack }

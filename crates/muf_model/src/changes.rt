@@ -42,7 +42,7 @@ fn size_inserted(values: &[Value], size: Size, at: usize, value: &Value) -> Size
 }
 
 // One value more, at a place.
-#[tactic(auto, using(laws::proofs::Places::map_insert))]
+#[tactic(auto, using(muck_laws::proofs::Places::map_insert))]
 fn insert_value(values: &mut Vec<Value>, at: usize, value: Value) -> Result<(), NoMemory>
     requires { at ≤ length values.old.items }
     ensures ok { OnOk result (map view values.new.items ≡ insert (map view values.old.items) at (view value)) }
@@ -53,7 +53,7 @@ fn insert_value(values: &mut Vec<Value>, at: usize, value: Value) -> Result<(), 
 }
 
 // The values without the one at a place.
-#[tactic(auto, using(laws::proofs::Places::map_remove))]
+#[tactic(auto, using(muck_laws::proofs::Places::map_remove))]
 fn remove_value(values: &mut Vec<Value>, at: usize)
     requires { at < length values.old.items }
     ensures { map view values.new.items ≡ remove (map view values.old.items) at }
@@ -62,7 +62,7 @@ fn remove_value(values: &mut Vec<Value>, at: usize)
 }
 
 // The pairs without the one at a place.
-#[tactic(auto, using(laws::proofs::Places::map_remove))]
+#[tactic(auto, using(muck_laws::proofs::Places::map_remove))]
 fn remove_pair(pairs: &mut Vec<Pair>, at: usize)
     requires { at < length pairs.old.items }
     ensures { map pair_view pairs.new.items ≡ remove (map pair_view pairs.old.items) at }

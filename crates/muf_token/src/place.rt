@@ -95,7 +95,7 @@ impl<'a> Place<'a> {
     ghost use Rattle.muf_token.specs.inner.Places.{text_at, IsFirst, IsLead, IsWord, IsQuoted, IsFront};
 
     /// The first place of a text that is one line.
-    #[tactic(auto, using(laws::proofs::Lists::append_none))]
+    #[tactic(auto, using(muck_laws::proofs::Lists::append_none))]
     pub fn in_text(text: &'a [u8]) -> Place<'a>
         requires inside { are_inside text.now ≡ true }
         requires short { length text.now ≤ text_most }
