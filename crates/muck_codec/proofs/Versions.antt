@@ -3,17 +3,20 @@ use Rattle.std.proofs.Common.{◌≡◌, ℕ, ◌<◌, ◌≤◌, false, List, [
 use Rattle.std.specs.Prelude.{All}
 use Rattle.std.proofs.lemmas.Bool.{false≢true}
 use Rattle.std.proofs.lemmas.List.Elements.{All-nil, All-cons}
+use Rattle.muck_laws.proofs.Lists.{some_text}
 use Rattle.muck_model.specs.declared.lock.Lock.{Lock}
 use Rattle.muck_model.specs.declared.lock.Lock.TheVariants.{Free}
 use Rattle.muck_model.specs.locks.Naming.{no_names}
 use Rattle.muck_model.specs.locks.Grammar.{lock_of}
-use Rattle.muck_model.specs.locks.Printed.{lock_printed}
+use Rattle.muck_model.specs.declared.part.Part.{Part}
+use Rattle.muck_model.specs.declared.part.Part.TheVariants.{OneOf}
+use Rattle.muck_model.specs.locks.Printed.{written_step, lock_printed}
 use Rattle.muck_model.specs.locks.Kept.{is_free, is_free_step, IsStorable}
 use Rattle.muck_model.proofs.Texts.{text_short}
-use Rattle.muck_lock.proofs.Locks.{at_free}
+use Rattle.muck_lock.proofs.Locks.{each_lock, at_free, at_object, at_prop, at_not, at_both, at_either}
 use Rattle.muck_prop.specs.declared.value.PropValue.{PropValue}
 use Rattle.muck_prop.specs.declared.value.PropValue.TheVariants.{Text, Number, Ref, Key}
-use Rattle.muck_prop.specs.Store.{IsSpellable}
+use Rattle.muck_prop.specs.Store.{is_nothing, IsSpellable}
 use Rattle.muck_codec.specs.declared.stored.Stored.{Stored}
 use Rattle.muck_codec.specs.declared.stored.Property.{Property}
 use Rattle.muck_codec.specs.Records.{tags_in, most_in}
@@ -59,7 +62,7 @@ first_is_second o is = record {
 
 -- What is written of its locks is read again.
 
-content_spells : (most : ℕ) (v : PropValue) → IsContent most v → IsSpellable v
+pub content_spells : (most : ℕ) (v : PropValue) → IsContent most v → IsSpellable v
 content_spells most (Text text) is = tt
 content_spells most (Number n) is = tt
 content_spells most (Ref d) is = tt
@@ -75,6 +78,23 @@ run_spells version before (p ∷ ps) run = All-cons Spells p ps (content_spells 
 -- a record that has a spelling may be written
 pub keys_spell : (version : ℕ) (o : Stored) → IsStored version o → All Spells o.props
 keys_spell version o is = run_spells version None o.props is.props.1
+
+-- No value that has a spelling stands for no property.
+
+printed_some : (lock : Lock) → 1 ≤ length (lock_printed lock) → is_free lock ≡ false
+printed_some = each_lock (λ lock. 1 ≤ length (lock_printed lock) → is_free lock ≡ false)
+    (λ long. absurd (omega (arith, long, ap (λ (f : Part → List ℕ). length (f OneOf)) (at_free written_step))))
+    (λ d long. at_object is_free_step d)
+    (λ path value long. at_prop is_free_step path value)
+    (λ a ha long. at_not is_free_step a)
+    (λ a b ha hb long. at_both is_free_step a b)
+    (λ a b ha hb long. at_either is_free_step a b)
+
+pub value_something : (version : ℕ) (v : PropValue) → IsValue version v → is_nothing v ≡ false
+value_something version (Text text) is = some_text text is.1.0.0
+value_something version (Number n) is = is.1.1
+value_something version (Ref d) is = is.1.1
+value_something version (Key lock) is = printed_some lock is.1.0.0.0
 
 -- A lock that is kept.
 

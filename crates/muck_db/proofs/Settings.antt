@@ -28,6 +28,16 @@ setting_kind (Flags flags) o = refl
 setting_kind (Level level) o = refl
 setting_kind (Digest digest) o = refl
 
+-- and none its properties
+pub props_stay : (setting : Setting) (o : Object) → (with_setting setting o).props ≡ o.props
+props_stay (Name name) o = refl
+props_stay (Owner owner) o = refl
+props_stay (Link to) o = refl
+props_stay (Home to) o = refl
+props_stay (Flags flags) o = refl
+props_stay (Level level) o = refl
+props_stay (Digest digest) o = refl
+
 -- What is set where it may be.
 
 pub can_set : (check : Result ℕ DbFault) (f : Object → Object) (n : ℕ) (slots : List Slot) (es : List Entry) → entries_of slots ≡ es → check ≡ Ok n → MaySet check f es → CanSet f n (entries_of slots)

@@ -8,22 +8,22 @@ use Rattle.std.specs.Cmp.{IsTotalOrder}
 use Rattle.std.specs.FinMap.{from_entries, insert, remove, find, from_entries_push}
 use Rattle.std.proofs.lemmas.List.{map-append}
 use Rattle.std.proofs.lemmas.Option.{slice_get_read}
-use Rattle.muck_laws.proofs.Lists.{some_text}
 use Rattle.muck_laws.proofs.Orders.{is_less}
 use Rattle.muck_laws.proofs.Places.{take_next}
 use Rattle.muck_prop.specs.declared.value.PropValue.{PropValue}
-use Rattle.muck_prop.specs.declared.value.PropValue.TheVariants.{Text, Number}
 use Rattle.muck_prop.specs.Order.{path_cmp, path_cmp_total}
-use Rattle.muck_prop.specs.Store.{PropMap, is_nothing, value_stored}
+use Rattle.muck_prop.specs.Store.{PropMap, is_nothing, IsSpellable, value_stored}
 use Rattle.muck_prop.proofs.Maps.{path_cmp_same}
+use Rattle.muck_codec.specs.Records.{most_in}
 use Rattle.muck_codec.specs.declared.stored.Property.{Property}
 use Rattle.muck_codec.specs.inner.Stored.{IsValue, IsProperty, Run, AreProperties}
+use Rattle.muck_codec.proofs.Versions.{content_spells, value_something}
 use Rattle.muck_store.specs.Forms.{entry_at}
 
 -- The order of the paths.
 
 abbrev Rise : Option (List (List ℕ)) → List Property → Type 0
-Rise before ps = Run (λ (x : Property). x.path) IsProperty before ps
+Rise before ps = Run (λ (x : Property). x.path) (IsProperty 2) before ps
 
 -- what stands behind a path has a greater one
 later : (b : List (List ℕ)) (ps : List Property) (i : ℕ) (p : Property) → Rise (Some b) ps → slice_get ps i ≡ Some p → path_cmp b p.path ≡ Less
@@ -46,28 +46,28 @@ new_path before (x ∷ ps) (suc i) p run at =
 
 -- The values.
 
-something : (v : PropValue) → IsValue v → is_nothing v ≡ false
-something (Text text) h = some_text text h.0.0
-something (Number n) h = h.1
-
-value_at : (before : Option (List (List ℕ))) (ps : List Property) (i : ℕ) (p : Property) → Rise before ps → slice_get ps i ≡ Some p → IsValue p.value
+value_at : (before : Option (List (List ℕ))) (ps : List Property) (i : ℕ) (p : Property) → Rise before ps → slice_get ps i ≡ Some p → IsValue 2 p.value
 value_at before [] i p run at = absurd (cc at)
-value_at before (x ∷ ps) zero p run at = let same : x ≡ p = cc at in subst (λ (y : Property). IsValue y.value) same run.0.1
+value_at before (x ∷ ps) zero p run at = let same : x ≡ p = cc at in subst (λ (y : Property). IsValue 2 y.value) same run.0.1
 value_at before (x ∷ ps) (suc i) p run at = value_at (Some x.path) ps i p run.1 at
 
 stored_new : (path : List (List ℕ)) (v : PropValue) (m : PropMap) → is_nothing v ≡ false → value_stored path v m ≡ insert m path v
 stored_new path v m h = ap (λ (b : Bool). cond b (remove m path) (insert m path v)) h
 
 -- the map of the properties so far, with the next one stored
-stored_next : (ps : List Property) (i : ℕ) (p : Property) → AreProperties ps → slice_get ps i ≡ Some p
+stored_next : (ps : List Property) (i : ℕ) (p : Property) → AreProperties 2 ps → slice_get ps i ≡ Some p
     → value_stored p.path p.value (from_entries {R = path_cmp} (map entry_at (take i ps))) ≡ from_entries {R = path_cmp} (map entry_at (take (suc i) ps))
 stored_next ps i p h at =
-    stored_new p.path p.value (from_entries {R = path_cmp} (map entry_at (take i ps))) (something p.value (value_at None ps i p h.1 at))
+    stored_new p.path p.value (from_entries {R = path_cmp} (map entry_at (take i ps))) (value_something 2 p.value (value_at None ps i p h.1 at))
     ∙ sym (from_entries_push path_cmp_total path_cmp_same (map entry_at (take i ps)) p.path p.value (new_path None ps i p h.1 at))
     ∙ ap (λ (es : List (List (List ℕ) × PropValue)). from_entries {R = path_cmp} es) (sym (map-append entry_at (take i ps) (p ∷ [])))
     ∙ ap (λ (qs : List Property). from_entries {R = path_cmp} (map entry_at qs)) (sym (take_next ps i p at))
 
-pub put_next : (ps : List Property) (i : ℕ) (p : Property) (path : List (List ℕ)) (value : PropValue) (old new : PropMap) → AreProperties ps → i < length ps → p ≡ get_or ps i p
+-- what is written of it, where it is a lock, is read as it again
+pub next_spells : (ps : List Property) (i : ℕ) (p : Property) (value : PropValue) → AreProperties 2 ps → i < length ps → p ≡ get_or ps i p → value ≡ p.value → IsSpellable value
+next_spells ps i p value h lt is is_value = subst IsSpellable (sym is_value) (content_spells (most_in 2) p.value (value_at None ps i p h.1 (slice_get_read ps (length ps) i p refl lt is)).1)
+
+pub put_next : (ps : List Property) (i : ℕ) (p : Property) (path : List (List ℕ)) (value : PropValue) (old new : PropMap) → AreProperties 2 ps → i < length ps → p ≡ get_or ps i p
     → path ≡ p.path → value ≡ p.value → old ≡ from_entries (map entry_at (take i ps)) → new ≡ value_stored path value old → new ≡ from_entries (map entry_at (take (i + 1) ps))
 put_next ps i p path value old new h lt is is_path is_value is_old is_new =
     is_new ∙ (λ j. value_stored (is_path j) (is_value j) (is_old j)) ∙ stored_next ps i p h (slice_get_read ps (length ps) i p refl lt is)

@@ -2,17 +2,13 @@
 ghost use Rattle.std.specs.Prelude.{◌≡◌, ◌<◌, ◌≤◌, ◌^◌, ℕ, [], length, false, true, OnOk, OnErr, IfOk, Err, if◌then◌else◌};
 ghost use Rattle.spec_live.specs.Objects.{dbref_of, is_garbage, is_player, nothing};
 ghost use Rattle.spec_live.specs.Making.{free_in, may_make, owner_judged, create_check, has_home, new_object};
-ghost use Rattle.muck_match.specs.inner.Listed.{IsAmong};
 ghost use Rattle.muck_db.specs.inner.Slots.{kind_at, entries_of, object_put};
-ghost use Rattle.muck_db.specs.inner.Ties.{IsNoted};
 
 use crate::blocks::Flag;
 use crate::links::dbref_of;
 use crate::moves::{is_vehicle, kind_of, may_stand, number_of};
-use crate::players::list_player;
 use crate::slot::Slot;
 use crate::slots::Slots;
-use crate::ties::Ties;
 use muck_model::{Dbref, Flags, Kind, Line, LineList, NoMemory};
 use muck_prop::Props;
 use spec_live::{DbFault, Object, Saving};
@@ -144,25 +140,6 @@ pub fn new_object(
         lines,
         digest: Line::of_text_vec(Vec::new(alloc)),
     })
-}
-
-// Makes room for a number of that kind: among the players, where it is one, and for what will be tied to it.
-pub fn make_room(
-    alloc: Global,
-    players: &mut Vec<u32>,
-    ties: &mut Ties,
-    kind: Kind,
-    n: u32,
-) -> Result<(), NoMemory>
-    requires { n ≤ length ties.old.of.items }
-    ensures more { (k : ℕ) → IsAmong players.old.items k → IsAmong players.new.items k }
-    ensures listed { OnOk result (is_player kind ≡ true → IsAmong players.new.items n) }
-    ensures others { (d j : ℕ) → d < length ties.old.of.items → IsNoted ties.old.of.items d j → IsNoted ties.new.of.items d j }
-    ensures long { length ties.old.of.items ≤ length ties.new.of.items }
-    ensures known { OnOk result (n < length ties.new.of.items) }
-{
-    ties.make_room(alloc, n)?;
-    list_player(players, kind, n)
 }
 
 // Puts an object at a number of garbage, or at the next one.

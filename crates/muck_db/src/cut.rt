@@ -4,6 +4,7 @@ ghost use Rattle.std.specs.FinMap.{entries};
 ghost use Rattle.std.specs.List.{AllByRecursion};
 ghost use Rattle.muck_model.specs.Bytes.{lines_most};
 ghost use Rattle.muck_prop.specs.Store.{IsKept};
+ghost use Rattle.muck_codec.specs.Records.{most_in};
 ghost use Rattle.muck_codec.specs.inner.Stored.{AreLines, AreProperties, IsStored};
 ghost use Rattle.spec_live.specs.Objects.{garbage, list_in, object_in};
 ghost use Rattle.muck_store.specs.inner.Changes.{LeavesOut};
@@ -30,7 +31,7 @@ use std::alloc::Global;
 fn copy_lines(alloc: Global, lines: &LineList) -> Result<LineList, NoMemory>
     requires few { length lines.now ≤ lines_most }
     ensures copy { IfOk result (λ copy. copy ≡ lines.now) }
-    ensures storable { IfOk result (λ copy. AreLines copy) }
+    ensures storable { IfOk result (λ copy. AreLines (most_in 2) copy) }
 {
     let mut copy = Vec::new(alloc);
     for line in lines.as_slice() {
@@ -59,7 +60,7 @@ fn copy_properties(alloc: Global, props: &Props) -> Result<Row<Property>, NoMemo
 // The properties, by rising path. They have a spelling.
 fn properties_of(alloc: Global, props: &Props) -> Result<Row<Property>, NoMemory>
     ensures list { IfOk result (λ list. list ≡ properties_of props.now) }
-    ensures storable { IfOk result (λ list. AreProperties list) }
+    ensures storable { IfOk result (λ list. AreProperties 2 list) }
 {
     let list = copy_properties(alloc, props)?;
     see_count(&list);
@@ -94,7 +95,7 @@ fn record_of(alloc: Global, slots: &Slots, k: u32, object: &Object) -> Result<St
     requires object { object_in (entries_of slots.now.items) k ≡ Some object.now }
     requires few { length object.now.lines ≤ lines_most }
     ensures stored { IfOk result (λ stored. Some stored ≡ stored_at (entries_of slots.now.items) k) }
-    ensures storable { IfOk result (λ stored. IsStored stored) }
+    ensures storable { IfOk result (λ stored. IsStored 2 stored) }
 {
     let name = object.name.copy(alloc)?;
     let props = properties_of(alloc, &object.props)?;
@@ -213,7 +214,7 @@ pub fn records_of(
     requires limits { IsWithinLimits (entries_of slots.now.items) }
     requires may { MayLook extent base.now (entries_of slots.now.items) }
     ensures records { IfOk result (λ records. LeavesOut base.now (persist (entries_of slots.now.items)) records) }
-    ensures storable { IfOk result (λ records. All IsStored records) }
+    ensures storable { IfOk result (λ records. All (IsStored 2) records) }
 {
     let blank = garbage(alloc)?;
     let n = slots.len() as u32;

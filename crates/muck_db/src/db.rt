@@ -27,7 +27,7 @@ ghost use Rattle.muck_db.specs.inner.Shown.{is_there, after_in, first_in, next_i
 ghost use Rattle.muck_model.specs.Bytes.{lines_most};
 
 use crate::chain::Chain;
-use crate::creation::{check_create, make_room, new_object, put_object};
+use crate::creation::{check_create, new_object, put_object};
 use crate::cut::{Extent, records_of};
 use crate::links::dbref_of;
 use crate::load::slots_of;
@@ -35,17 +35,17 @@ use crate::marking::{Moment, pass};
 use crate::moves::{check_move, count_there, found, list_of, relocate};
 use crate::password::{digest_word, is_digest_of};
 use crate::paths::KnownPaths;
-use crate::players::players_of;
+use crate::players::{list_player, players_of};
 use crate::recycling::{check_recycle, clear_out, vanish};
 use crate::setting::{
     Setting, check_any, check_flags, check_home, check_level, check_link, check_owner,
-    check_player, check_program, put_prop, remove_prop, set_at, set_lines,
+    check_player, check_program, held_at, put_prop, remove_prop, set_at, set_lines,
 };
 use crate::slots::Slots;
 use crate::start::first_slots;
 use crate::stood::{moves_of, settle};
 use crate::telling::{clear_mark, marked, told_of};
-use crate::ties::{Ties, tether_of};
+use crate::ties::{Ties, number_held, tether_of};
 use crate::walks::{first_listed, next_listed};
 use muck_codec::{Batch, Stored};
 use muck_match::{Found, find_among, player_among};
@@ -70,7 +70,7 @@ pub struct Db {
     told: u32,
     // each player is among these numbers
     players: Vec<u32>,
-    // who has its home in a number, or a link to it, is noted there
+    // who has its home in a number, a link to it, or a property that holds it, is noted there
     ties: Ties,
     paths: KnownPaths,
 }
@@ -117,7 +117,7 @@ impl Db {
         requires few { length records.now ≤ 100000 }
         requires whole { is_whole_store records.now ≡ true }
         requires fits { list_all record_fits records.now ≡ true }
-        requires props { All (λ s. AreProperties s.props) records.now }
+        requires props { All (λ s. AreProperties 2 s.props) records.now }
         ensures { IfOk result (λ db. db ≡ loaded records.now) }
     {
         let slots = slots_of(alloc, records)?;
@@ -221,7 +221,7 @@ impl Db {
     pub fn cut(&mut self, alloc: Global, base: &[Stored], tune: &Tune) -> Result<Batch, NoMemory>
         requires kept { KeepsUndue base.now self.old }
         ensures records { IfOk result (λ batch. LeavesOut base.now (persist self.old) batch.records) }
-        ensures storable { IfOk result (λ batch. All IsStored batch.records) }
+        ensures storable { IfOk result (λ batch. All (IsStored 2) batch.records) }
         ensures tune { IfOk result (λ batch. batch.tune ≡ tune.now) }
         ensures objects { OnOk result (self.new ≡ all_saving pending self.old) }
         ensures same { OnErr result (self.new ≡ self.old) }
@@ -237,7 +237,7 @@ impl Db {
     /// The same of a dump that looks at every object, whatever is kept.
     pub fn full(&mut self, alloc: Global, base: &[Stored], tune: &Tune) -> Result<Batch, NoMemory>
         ensures records { IfOk result (λ batch. LeavesOut base.now (persist self.old) batch.records) }
-        ensures storable { IfOk result (λ batch. All IsStored batch.records) }
+        ensures storable { IfOk result (λ batch. All (IsStored 2) batch.records) }
         ensures tune { IfOk result (λ batch. batch.tune ≡ tune.now) }
         ensures objects { OnOk result (self.new ≡ all_saving pending self.old) }
         ensures same { OnErr result (self.new ≡ self.old) }
@@ -297,7 +297,7 @@ impl Db {
     {
         let (n, to) = check_create(&self.slots, self.lowest, kind, owner, place)?;
         let object = new_object(alloc, n, kind, name, owner)?;
-        let Ok(()) = make_room(alloc, &mut self.players, &mut self.ties, kind, n) else {
+        let Ok(()) = list_player(&mut self.players, kind, n) else {
             return Err(DbFault::NoMemory);
         };
         put_object(&mut self.slots, n, object)?;
@@ -395,13 +395,18 @@ impl Db {
         Ok(())
     }
 
-    /// Stores a value at a path of an object, where an empty text or 0 removes the property. `NoSuchObject` comes where
-    /// the object isn't there; nothing has changed then, and after `NoMemory`.
+    /// Stores a value at a path of an object, where an empty text, 0, `#-1` or the free lock removes the property. What is
+    /// written of a lock must be a text that is read as it again. `NoSuchObject` comes where the object isn't there;
+    /// nothing has changed then, and after `NoMemory`.
     pub fn put_prop(&mut self, d: Dbref, path: Path, value: PropValue) -> Result<(), DbFault>
+        requires { IsSpellable value }
         ensures { Tries (set_at (with_prop path value)) (checked every_number d self.old) self.old self.new result }
     {
         let k = check_any(&self.slots, d)?;
+        let before = held_at(&self.slots, k, &path);
+        let after = number_held(&value);
         put_prop(&mut self.slots, k, path, value)?;
+        self.ties.rehold(&self.slots, k, before, after);
         Ok(())
     }
 
@@ -411,7 +416,9 @@ impl Db {
         ensures { Does (set_at (without_prop path.now)) (checked every_number d self.old) self.old self.new result }
     {
         let k = check_any(&self.slots, d)?;
+        let before = held_at(&self.slots, k, path);
         remove_prop(&mut self.slots, k, path);
+        self.ties.rehold(&self.slots, k, before, None);
         Ok(())
     }
 
@@ -471,7 +478,7 @@ impl Db {
         let k = checked?;
         let before = tether_of(&self.slots, k);
         set_at(&mut self.slots, k, setting);
-        self.ties.retie(k, before, tether_of(&self.slots, k));
+        self.ties.retie(&self.slots, k, before);
         Ok(())
     }
 }

@@ -27,7 +27,7 @@ fn copied_lines(alloc: Global, lines: &[Line]) -> Result<LineList, NoMemory>
 
 // The map of properties whose paths rise.
 fn props_of(alloc: Global, properties: &[Property]) -> Result<Props, NoMemory>
-    requires { AreProperties properties.now }
+    requires { AreProperties 2 properties.now }
     ensures { IfOk result (λ props. props ≡ from_entries (map entry_at properties.now)) }
 {
     let mut props = Props::new(alloc)?;
@@ -41,7 +41,7 @@ fn props_of(alloc: Global, properties: &[Property]) -> Result<Props, NoMemory>
 
 // The object of a record.
 fn object_of(alloc: Global, record: &Stored) -> Result<Object, NoMemory>
-    requires { AreProperties record.now.props }
+    requires { AreProperties 2 record.now.props }
     ensures { IfOk result (λ object. object ≡ stored_object record.now) }
 {
     Ok(Object {
@@ -62,7 +62,7 @@ fn object_of(alloc: Global, record: &Stored) -> Result<Object, NoMemory>
 // The object of a record that isn't garbage.
 #[tactic(auto, unfolding(crate::specs::inner::Loading::object_kept))]
 fn object_kept(alloc: Global, record: &Stored) -> Result<Option<Object>, NoMemory>
-    requires { AreProperties record.now.props }
+    requires { AreProperties 2 record.now.props }
     ensures { IfOk result (λ object. object ≡ object_kept record.now) }
 {
     match record.kind {
@@ -74,7 +74,7 @@ fn object_kept(alloc: Global, record: &Stored) -> Result<Option<Object>, NoMemor
 // The slot of a record.
 #[tactic(auto, unfolding(crate::specs::inner::Loading::slot_of))]
 fn slot_of(alloc: Global, record: &Stored) -> Result<Slot, NoMemory>
-    requires { AreProperties record.now.props }
+    requires { AreProperties 2 record.now.props }
     ensures { IfOk result (λ slot. slot ≡ slot_of record.now) }
 {
     Ok(Slot {
@@ -91,7 +91,7 @@ fn slot_of(alloc: Global, record: &Stored) -> Result<Slot, NoMemory>
 // The slots of records, in their order.
 #[tactic(auto, unfolding(crate::specs::inner::Loading::slots_of))]
 pub fn slots_of(alloc: Global, records: &[Stored]) -> Result<Slots, NoMemory>
-    requires { All (λ s. AreProperties s.props) records.now }
+    requires { All (λ s. AreProperties 2 s.props) records.now }
     ensures { IfOk result (λ slots. slots.items ≡ slots_of records.now) }
 {
     let mut slots = Slots::new(alloc);

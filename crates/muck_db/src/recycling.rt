@@ -3,7 +3,7 @@ ghost use Rattle.std.specs.Prelude.{◌≡◌, ◌≢◌, ◌<◌, ◌≤◌, �
 ghost use Rattle.spec_live.specs.declared.mark.Mark.TheVariants.{Gone};
 ghost use Rattle.spec_live.specs.Chain.{Ends};
 ghost use Rattle.spec_live.specs.Objects.{dbref_of, is_garbage, nothing, same, kind_in, list_in, changed_at};
-ghost use Rattle.spec_live.specs.Recycling.{is_tied_to_number, untied, wished_home, may_go, way_home, sent_home, is_exit_of, taken_away, recycle_check};
+ghost use Rattle.spec_live.specs.Recycling.{untied, wished_home, may_go, way_home, sent_home, is_exit_of, taken_away, recycle_check};
 ghost use Rattle.std.specs.BTreeSet.{contains};
 ghost use Rattle.std.specs.Ordering.{nat_cmp};
 ghost use Rattle.muck_db.specs.inner.Exits.{ListsExits};
@@ -14,7 +14,7 @@ use crate::links::{dbref_of, first_of, index_of, leads_to, next_of, take_out};
 use crate::moves::{fits, kind_of, number_of, relocate};
 use crate::slot::Slot;
 use crate::slots::Slots;
-use crate::ties::{Tied, Ties, tether_of};
+use crate::ties::{Tied, Ties, is_tied, tether_of};
 use muck_model::{Dbref, Kind};
 use spec_live::{DbFault, Mark, Saving};
 use std::collections::BTreeSet;
@@ -46,20 +46,7 @@ fn link_without(link: Dbref, gone: Dbref) -> Dbref
     if link == gone { Dbref(-1) } else { link }
 }
 
-// Whether an object has its home in `d` or a link to it.
-#[tactic(auto, unfolding(spec_live::specs::Objects::garbage))]
-fn is_tied(slot: &Slot, d: u32) -> bool
-    requires { d < 2 ^ 31 }
-    ensures { result ≡ is_tied_to_number d (shown slot.now) }
-{
-    let gone = dbref_of(d);
-    match &slot.object {
-        Some(object) => object.home == gone || object.link == gone,
-        None => false,
-    }
-}
-
-// A home in `d` becomes `#0`, and a link to it nothing.
+// A home in `d` becomes `#0`, a link to it nothing, and the properties that hold it are removed.
 #[tactic(auto, unfolding(crate::specs::inner::Slots::untied_slot))]
 fn untie_slot(slot: &mut Slot, d: u32)
     requires { d < 2 ^ 31 }
@@ -72,6 +59,7 @@ fn untie_slot(slot: &mut Slot, d: u32)
     if let Some(object) = &mut slot.object {
         object.home = home_without(object.home, gone);
         object.link = link_without(object.link, gone);
+        object.props.forget(gone);
     }
 }
 
@@ -138,7 +126,7 @@ fn untie_noted(slots: &mut Slots, tied: &mut Tied, d: u32)
     }
 }
 
-// No object has its home in `d` or a link to it any more.
+// No object has its home in `d`, a link to it or a property that holds it any more.
 fn untie(slots: &mut Slots, ties: &mut Ties, d: u32)
     requires few { length slots.old.items ≤ 100000 }
     requires known { d < length slots.old.items }
@@ -297,7 +285,7 @@ fn wipe_exit(slots: &mut Slots, ties: &mut Ties, k: u32, d: u32)
 {
     let before = tether_of(slots, k);
     wipe_exit_at(slots, k, d);
-    ties.retie(k, before, tether_of(slots, k));
+    ties.retie(slots, k, before);
 }
 
 // The exits of `d`, which its list has, become garbage. What was wiped doesn't know any more what stood behind it. It answers the least of them, or `d`
@@ -340,7 +328,7 @@ fn wipe(slots: &mut Slots, ties: &mut Ties, d: u32)
 {
     let before = tether_of(slots, d);
     wipe_at(slots, d);
-    ties.retie(d, before, tether_of(slots, d));
+    ties.retie(slots, d, before);
 }
 
 // Takes `d`, in which nothing is but its exits, out of its list; it and its exits become garbage. It answers the least number that became garbage.

@@ -1,14 +1,17 @@
 // What matching and locks read of the objects.
-ghost use Rattle.std.specs.Prelude.{◌≡◌, None, IfOk};
+ghost use Rattle.std.specs.Prelude.{◌≡◌, ◌∷◌, None, IfOk, bytes_eq};
 ghost use Rattle.std.specs.Fmt.{signed_decimal};
 ghost use Rattle.muck_model.specs.Bytes.{text_fault};
+ghost use Rattle.muck_model.specs.locks.Kept.{IsStorable};
+ghost use Rattle.muck_model.specs.locks.Printed.{lock_printed};
+ghost use Rattle.muck_prop.specs.Store.{IsSpellable};
 ghost use Rattle.spec_live.specs.Worth.{value_is, value_text, has_value};
 
 use crate::db::Db;
 use itoa::Buffer;
-use muck_lock::{Keys, TextKeys};
+use muck_lock::{Keys, LockFault, TextKeys, print};
 use muck_match::Scene;
-use muck_model::{Dbref, Kind, Line, NoMemory};
+use muck_model::{Dbref, Kind, Line, Lock, NoMemory};
 use muck_prop::PropValue;
 use std::alloc::Global;
 
@@ -20,35 +23,71 @@ fn number_text(number: i32, buffer: &mut Buffer) -> &[u8]
     buffer.format(number).as_bytes()
 }
 
-// The bytes of a value as a text: a number is written in decimal.
-fn shown<'a>(value: &'a PropValue, buffer: &'a mut Buffer) -> &'a [u8]
-    ensures shown { result.now ≡ value_text value.now }
-    ensures text { text_fault result.now ≡ None }
-{
-    match value {
-        PropValue::Text(text) => text.as_slice(),
-        PropValue::Number(number) => number_text(*number, buffer),
-    }
-}
-
-/// The value of a property as a text: a number is written in decimal.
-pub fn value_text(alloc: Global, value: &PropValue) -> Result<Line, NoMemory>
-    ensures { IfOk result (λ text. text ≡ value_text value.now) }
+// An integer in decimal, as a text.
+fn number_line(alloc: Global, number: i32) -> Result<Line, NoMemory>
+    ensures { IfOk result (λ text. text ≡ signed_decimal number) }
 {
     let mut buffer = Buffer::new();
-    let text = Line::of_text(alloc, shown(value, &mut buffer))?;
+    let text = Line::of_text(alloc, number_text(number, &mut buffer))?;
     Ok(text)
 }
 
-// Whether a value is that text, or that number in decimal.
+// The number of an object behind `#`, as a text.
+fn object_line(alloc: Global, d: Dbref) -> Result<Line, NoMemory>
+    ensures { IfOk result (λ text. text ≡ 35 ∷ signed_decimal d.0) }
+{
+    let mut buffer = Buffer::new();
+    let mut text = Vec::new(alloc);
+    text.push(b'#')?;
+    text.extend_from_slice(number_text(d.0, &mut buffer))?;
+    Ok(Line::of_text_vec(text))
+}
+
+// A lock as it is written.
+fn lock_line(alloc: Global, lock: &Lock) -> Result<Line, NoMemory>
+    requires { IsStorable lock.now }
+    ensures { IfOk result (λ text. text ≡ lock_printed lock.now) }
+{
+    match print(alloc, lock) {
+        Ok(text) => Ok(text),
+        Err(LockFault::BadLock { .. }) => unreachable!(),
+        Err(LockFault::NoMemory) => Err(NoMemory),
+    }
+}
+
+/// The value of a property as a text: an integer in decimal, an object as `#N`, and a lock as it is written.
+pub fn value_text(alloc: Global, value: &PropValue) -> Result<Line, NoMemory>
+    requires { IsSpellable value.now }
+    ensures { IfOk result (λ text. text ≡ value_text value.now) }
+{
+    match value {
+        PropValue::Text(text) => text.copy(alloc),
+        PropValue::Number(number) => number_line(alloc, *number),
+        PropValue::Ref(d) => object_line(alloc, *d),
+        PropValue::Key(lock) => lock_line(alloc, lock),
+    }
+}
+
+// Whether an integer is that text in decimal.
+fn number_is(number: i32, text: &[u8]) -> bool
+    ensures { result ≡ bytes_eq (signed_decimal number) text.now }
+{
+    let mut buffer = Buffer::new();
+    number_text(number, &mut buffer) == text
+}
+
+// Whether a value is that text, or that integer in decimal.
 fn value_is(value: &PropValue, text: &[u8]) -> bool
     ensures { result ≡ value_is text.now value.now }
 {
-    let mut buffer = Buffer::new();
-    shown(value, &mut buffer) == text
+    match value {
+        PropValue::Text(held) => held.as_slice() == text,
+        PropValue::Number(number) => number_is(*number, text),
+        PropValue::Ref(_) | PropValue::Key(_) => false,
+    }
 }
 
-// Whether the property of that path of an object has that text, or that number in decimal.
+// Whether the property of that path of an object has that text, or that integer in decimal.
 #[tactic(auto, unfolding(spec_live::specs::Worth::has_value, spec_live::specs::Worth::value_at_path))]
 fn has_value(db: &Db, d: Dbref, path: &[u8], value: &[u8]) -> bool
     ensures { result ≡ has_value db.now d path.now value.now }

@@ -1,5 +1,6 @@
 // Setting a field: the checks and the writes.
 ghost use Rattle.std.specs.Prelude.{◌≡◌, ◌<◌, ℕ, List, length, false, IfOk, OnOk, OnErr, Ok, Err};
+ghost use Rattle.muck_prop.specs.Store.{IsSpellable};
 ghost use Rattle.spec_live.specs.Objects.{is_garbage, is_player, is_exit, kind_in, changed_at};
 ghost use Rattle.spec_live.specs.Setting.{every_number, checked, checked_both, owner_check, link_check, home_check, flags_check, level_check, lines_check, password_check, keeps_seats, holds_player, may_link, may_live, has_link, lines_marked, with_prop, without_prop};
 ghost use Rattle.muck_db.specs.inner.Slots.{kind_at, entries_of, on_slot, with_slot_lines, HasOrder};
@@ -10,6 +11,7 @@ use crate::moves::{is_vehicle, kind_of, number_of};
 use crate::slot::Slot;
 use crate::slots::Slots;
 use muck_model::{Dbref, Flags, Kind, Line, LineList};
+use crate::ties::number_held;
 use muck_prop::{Path, PropValue};
 use spec_live::{DbFault, Mark, Object, Saving, VEHICLE, has_flag};
 
@@ -314,6 +316,19 @@ pub fn set_lines(slots: &mut Slots, k: u32, lines: LineList)
     slot.saving = Saving::Due;
 }
 
+// The number that a property of an object holds, where it holds one. It is for what is noted at numbers.
+pub fn held_at(slots: &Slots, k: u32, path: &Path) -> Option<u32> {
+    match slots.get(k) {
+        Some(
+            Slot {
+                object: Some(object),
+                ..
+            },
+        ) => number_held(object.props.get(path)?),
+        _ => None,
+    }
+}
+
 // Removes a property of an object.
 #[tactic(auto, unfolding(spec_live::specs::Objects::changed_at))]
 pub fn remove_prop(slots: &mut Slots, k: u32, path: &Path)
@@ -329,6 +344,7 @@ pub fn remove_prop(slots: &mut Slots, k: u32, path: &Path)
 
 // Stores a value at a path of an object.
 fn put_in(object: &mut Object, path: Path, value: PropValue) -> Result<(), DbFault>
+    requires { IsSpellable value }
     ensures ok { OnOk result (object.new ≡ with_prop path value object.old) }
     ensures memory { OnErr result (result ≡ Err DbFault.NoMemory) }
     ensures err { OnErr result (object.new ≡ object.old) }
@@ -341,6 +357,7 @@ fn put_in(object: &mut Object, path: Path, value: PropValue) -> Result<(), DbFau
 
 // The same in a slot.
 fn put_at(slot: &mut Slot, path: Path, value: PropValue) -> Result<(), DbFault>
+    requires { IsSpellable value }
     ensures ok { OnOk result (slot.new ≡ on_slot (with_prop path value) slot.old) }
     ensures memory { OnErr result (result ≡ Err DbFault.NoMemory) }
     ensures err { OnErr result (slot.new ≡ slot.old) }
@@ -355,7 +372,8 @@ fn put_at(slot: &mut Slot, path: Path, value: PropValue) -> Result<(), DbFault>
 // The same in the table.
 #[tactic(auto, using(muck_laws::proofs::Places::set_back), unfolding(spec_live::specs::Objects::changed_at))]
 pub fn put_prop(slots: &mut Slots, k: u32, path: Path, value: PropValue) -> Result<(), DbFault>
-    requires { k < length slots.old.items }
+    requires known { k < length slots.old.items }
+    requires spelled { IsSpellable value }
     ensures ok { OnOk result (slots.new.items ≡ changed_at k (on_slot (with_prop path value)) slots.old.items) }
     ensures memory { OnErr result (result ≡ Err DbFault.NoMemory) }
     ensures err { OnErr result (slots.new.items ≡ slots.old.items) }

@@ -1,15 +1,24 @@
-// Who is tied to a number: who has its home there, or a link to it. It is noted at that number, so that recycling an
-// object looks at those alone.
-ghost use Rattle.std.specs.Prelude.{◌≡◌, ◌<◌, ◌≤◌, ℕ, length, false, true, IfOk, OnOk, Some};
-ghost use Rattle.muck_db.specs.inner.Slots.{home_at};
-ghost use Rattle.muck_db.specs.inner.Ties.{link_at, Tethers, Notes, IsNoted, HasTies};
+// Who is tied to a number: who has its home there, a link to it, or a property that holds it. It is noted at that number,
+// so that recycling an object looks at those alone. A property may hold a number that no object has yet, so there is room
+// for each that one may have.
+ghost use Rattle.std.specs.Prelude.{◌≡◌, ◌⊎◌, ◌<◌, ◌≤◌, ◌^◌, ℕ, length, true, IfOk, Some};
+ghost use Rattle.std.specs.Option.{option_and_then};
+ghost use Rattle.muck_prop.specs.Store.{kept_ref, has_ref};
+ghost use Rattle.spec_live.specs.Objects.{dbref_of, index_of};
+ghost use Rattle.spec_live.specs.Recycling.{is_tied_to_number};
+ghost use Rattle.muck_db.specs.inner.Slots.{home_at, shown};
+ghost use Rattle.muck_db.specs.inner.Ties.{is_tied_at, holds_at, link_at, Tethers, Notes, IsNoted, HasTies};
 
-use crate::links::index_of;
+use crate::links::{dbref_of, index_of};
 use crate::slot::Slot;
 use crate::slots::Slots;
 use muck_model::NoMemory;
+use muck_prop::{PropValue, Props};
 use std::alloc::Global;
 use std::collections::BTreeSet;
+
+// So many objects there may be.
+const OBJECTS_MOST: u32 = 100_000;
 
 /// The numbers that are tied to one number. Where `is_whole` is false memory was wanted, and some may be lacking. There
 /// may be some that aren't tied to it any more.
@@ -55,23 +64,41 @@ pub fn tether_of(slots: &Slots, k: u32) -> Tether
     }
 }
 
-fn leads(to: Option<u32>, d: u32) -> bool
-    ensures { result ≡ false → to ≡ Some d → ⊥ }
+/// The number that a property holds, where it holds one from 0 on.
+pub fn number_held(value: &PropValue) -> Option<u32>
+    ensures { result ≡ option_and_then index_of (kept_ref value.now) }
 {
-    match to {
-        Some(n) => n == d,
+    match value.object() {
+        Some(d) => index_of(d),
+        None => None,
+    }
+}
+
+/// Whether an object has its home in `d`, a link to it, or a property that holds it.
+#[tactic(auto, using(crate::proofs::Tying::none_held), unfolding(spec_live::specs::Objects::garbage))]
+pub fn is_tied(slot: &Slot, d: u32) -> bool
+    requires { d < 2 ^ 31 }
+    ensures { result ≡ is_tied_to_number d (shown slot.now) }
+{
+    let there = dbref_of(d);
+    match &slot.object {
+        Some(object) => {
+            object.home == there || object.link == there || object.props.has_ref(there)
+        }
         None => false,
     }
 }
 
-// Whether a home or a link leads there.
-fn tethers(tether: Tether, d: u32) -> bool
-    ensures { result ≡ false → Tethers tether d → ⊥ }
+// Whether a number is tied to `d`.
+#[tactic(auto, unfolding(crate::specs::inner::Ties::is_tied_at, crate::specs::inner::Slots::object_at))]
+fn is_still_tied(slots: &Slots, k: u32, d: u32) -> bool
+    requires { d < 2 ^ 31 }
+    ensures { result ≡ is_tied_at d slots.now.items k }
 {
-    if leads(tether.home, d) {
-        return true;
+    match slots.get(k) {
+        Some(slot) => is_tied(slot, d),
+        None => false,
     }
-    leads(tether.link, d)
 }
 
 impl Tied {
@@ -104,17 +131,15 @@ impl Tied {
 }
 
 impl Ties {
-    // Room for so many numbers, to which nothing is tied.
-    fn none(alloc: Global, n: u32) -> Result<Ties, NoMemory>
-        ensures { IfOk result (λ ties. n ≤ length ties.of.items) }
+    // Room for all numbers, to which nothing is tied.
+    fn none(alloc: Global) -> Result<Ties, NoMemory>
+        ensures { IfOk result (λ ties. 100000 ≤ length ties.of.items) }
     {
-        let mut ties = Ties {
-            of: Vec::new(alloc),
-        };
-        for k in 0..n {
-            ties.make_room(alloc, k)?;
+        let mut of = Vec::with_capacity(alloc, OBJECTS_MOST as usize)?;
+        for _ in 0..OBJECTS_MOST {
+            of.push(Tied::new(alloc))?;
         }
-        Ok(ties)
+        Ok(Ties { of })
     }
 
     /// What is tied to each number of a table.
@@ -123,24 +148,12 @@ impl Ties {
         ensures { IfOk result (λ ties. HasTies slots.now.items ties.of.items) }
     {
         let n = slots.len() as u32;
-        let mut ties = Ties::none(alloc, n)?;
+        let mut ties = Ties::none(alloc)?;
         for k in 0..n {
             ties.note_both(k, tether_of(slots, k));
+            ties.note_held_at(slots, k);
         }
         Ok(ties)
-    }
-
-    /// Makes room for a number, where it is the next one.
-    pub fn make_room(&mut self, alloc: Global, n: u32) -> Result<(), NoMemory>
-        requires { n ≤ length self.old.of.items }
-        ensures others { (d j : ℕ) → d < length self.old.of.items → IsNoted self.old.of.items d j → IsNoted self.new.of.items d j }
-        ensures long { length self.old.of.items ≤ length self.new.of.items }
-        ensures known { OnOk result (n < length self.new.of.items) }
-    {
-        if n as usize == self.of.len() {
-            self.of.push(Tied::new(alloc))?;
-        }
-        Ok(())
     }
 
     // Notes a number at another one.
@@ -178,16 +191,45 @@ impl Ties {
         self.note(tether.link, k);
     }
 
+    // Notes a number at those that its properties hold.
+    fn note_held(&mut self, k: u32, props: &Props)
+        ensures long { length self.new.of.items ≡ length self.old.of.items }
+        ensures others { (d j : ℕ) → IsNoted self.old.of.items d j → IsNoted self.new.of.items d j }
+        ensures noted { (d : ℕ) → (d ≡ 0 → ⊥) → has_ref (dbref_of d) props.now ≡ true → IsNoted self.new.of.items d k }
+    {
+        let mut left = props.walk();
+        while let Some(value) = left.next_value() {
+            self.note(number_held(value), k);
+        }
+    }
+
+    // The same of an object, or of garbage.
+    #[tactic(auto, using(crate::proofs::Tying::none_held), unfolding(crate::specs::inner::Ties::holds_at, crate::specs::inner::Slots::object_at, spec_live::specs::Objects::garbage))]
+    fn note_held_at(&mut self, slots: &Slots, k: u32)
+        ensures long { length self.new.of.items ≡ length self.old.of.items }
+        ensures others { (d j : ℕ) → IsNoted self.old.of.items d j → IsNoted self.new.of.items d j }
+        ensures noted { (d : ℕ) → (d ≡ 0 → ⊥) → holds_at d slots.now.items k ≡ true → IsNoted self.new.of.items d k }
+    {
+        if let Some(
+            Slot {
+                object: Some(object),
+                ..
+            },
+        ) = slots.get(k) {
+            self.note_held(k, &object.props);
+        }
+    }
+
     // Leaves a number out where it was tied to, unless it still is.
-    fn loosen(&mut self, from: Option<u32>, k: u32, tether: Tether)
+    fn loosen(&mut self, slots: &Slots, from: Option<u32>, k: u32)
         ensures long { length self.new.of.items ≡ length self.old.of.items }
         ensures others { (d j : ℕ) → (j ≡ k → ⊥) → IsNoted self.old.of.items d j → IsNoted self.new.of.items d j }
-        ensures still { (d : ℕ) → Tethers tether d → IsNoted self.old.of.items d k → IsNoted self.new.of.items d k }
+        ensures still { (d : ℕ) → is_tied_at d slots.now.items k ≡ true → IsNoted self.old.of.items d k → IsNoted self.new.of.items d k }
     {
         let Some(d) = from else {
             return;
         };
-        if tethers(tether, d) {
+        if d >= OBJECTS_MOST || is_still_tied(slots, k, d) {
             return;
         }
         if (d as usize) < self.of.len() {
@@ -195,18 +237,31 @@ impl Ties {
         }
     }
 
-    /// A number is tied elsewhere than before.
-    pub fn retie(&mut self, k: u32, before: Tether, after: Tether)
+    /// The home and the link of a number lead elsewhere than before. The table is as it is now.
+    pub fn retie(&mut self, slots: &Slots, k: u32, before: Tether)
         requires { (d : ℕ) → (d ≡ 0 → ⊥) → Tethers before d → IsNoted self.old.of.items d k }
         ensures long { length self.new.of.items ≡ length self.old.of.items }
         ensures others { (d j : ℕ) → (j ≡ k → ⊥) → IsNoted self.old.of.items d j → IsNoted self.new.of.items d j }
-        ensures noted { (d : ℕ) → (d ≡ 0 → ⊥) → Tethers after d → IsNoted self.new.of.items d k }
+        ensures led { (d : ℕ) → (d ≡ 0 → ⊥) → is_tied_at d slots.now.items k ≡ true → (home_at slots.now.items k ≡ Some d) ⊎ (link_at slots.now.items k ≡ Some d) → IsNoted self.new.of.items d k }
+        ensures still { (d : ℕ) → is_tied_at d slots.now.items k ≡ true → IsNoted self.old.of.items d k → IsNoted self.new.of.items d k }
     {
+        let after = tether_of(slots, k);
         if before.home == after.home && before.link == after.link {
             return;
         }
         self.note_both(k, after);
-        self.loosen(before.home, k, after);
-        self.loosen(before.link, k, after);
+        self.loosen(slots, before.home, k);
+        self.loosen(slots, before.link, k);
+    }
+
+    /// A property of a number holds another number than before. The table is as it is now.
+    pub fn rehold(&mut self, slots: &Slots, k: u32, before: Option<u32>, after: Option<u32>)
+        ensures long { length self.new.of.items ≡ length self.old.of.items }
+        ensures others { (d j : ℕ) → (j ≡ k → ⊥) → IsNoted self.old.of.items d j → IsNoted self.new.of.items d j }
+        ensures noted { (d : ℕ) → (d ≡ 0 → ⊥) → after ≡ Some d → IsNoted self.new.of.items d k }
+        ensures still { (d : ℕ) → is_tied_at d slots.now.items k ≡ true → IsNoted self.old.of.items d k → IsNoted self.new.of.items d k }
+    {
+        self.loosen(slots, before, k);
+        self.note(after, k);
     }
 }

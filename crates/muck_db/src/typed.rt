@@ -1,7 +1,7 @@
 // What the types of a record's parts say of them, for contracts alone: each has a spelling.
 ghost use Rattle.std.specs.Prelude.{◌≡◌, ◌<◌, ◌^◌, false, length};
-ghost use Rattle.muck_model.specs.Bytes.{text_most};
-ghost use Rattle.muck_prop.specs.Store.{is_nothing};
+ghost use Rattle.muck_prop.specs.Store.{is_nothing, IsSpellable};
+ghost use Rattle.muck_codec.specs.Records.{most_in};
 ghost use Rattle.muck_codec.specs.inner.Stored.{IsDbref, IsText, IsValue};
 
 use muck_codec::{Property, Stored};
@@ -9,21 +9,27 @@ use muck_model::{Line, Row};
 use muck_prop::PropValue;
 
 // A text is one, and has room.
+#[tactic(auto, unfolding(muck_codec::specs::Records::most_in))]
 pub fn see_text(text: &Line)
-    ensures { IsText 0 text_most text.now }
+    ensures { IsText 0 (most_in 2) text.now }
 {
     let _bytes = text.as_slice();
 }
 
-// A property may hold whatever isn't nothing.
+// A property may hold whatever isn't nothing, and of a lock what is written as a text that is read as it again.
+#[tactic(auto, using(muck_codec::proofs::Versions::key_content), unfolding(muck_codec::specs::Records::tags_in, muck_codec::specs::Records::most_in))]
 pub fn see_value(value: &PropValue)
-    ensures { is_nothing value.now ≡ false → IsValue value.now }
+    ensures { is_nothing value.now ≡ false → IsSpellable value.now → IsValue 2 value.now }
 {
     match value {
         PropValue::Text(text) => see_text(text),
         PropValue::Number(number) => {
             let _number = *number;
         }
+        PropValue::Ref(d) => {
+            let _number = d.0;
+        }
+        PropValue::Key(_) => {}
     }
 }
 

@@ -46,3 +46,8 @@ inside_number (negsuc n) h = let rest = none_outside is_digit digit_inside (deci
 -- a number in decimal is a text
 pub number_is_text : (z : ℤ) → mag z < 2 ^ 32 → text_fault (signed_decimal z) ≡ None
 number_is_text z fits = text_if (signed_decimal z) (omega (arith, inside_number z (omega (arith, fits)))) (omega (arith, length_signed_le 10 z (omega (arith, fits)) (omega (arith, fits))))
+
+-- and so is the number of an object behind its sign
+pub object_is_text : (z : ℤ) → mag z < 2 ^ 32 → text_fault (35 ∷ signed_decimal z) ≡ None
+object_is_text z fits =
+    text_if (35 ∷ signed_decimal z) (omega (arith, inside_number z (omega (arith, fits)))) (omega (arith, length_signed_le 10 z (omega (arith, fits)) (omega (arith, fits))))

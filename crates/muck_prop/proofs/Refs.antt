@@ -1,6 +1,7 @@
 -- Which properties hold the number of an object, as properties are put, taken away and forgotten.
-use Rattle.std.proofs.Common.{◌≡◌, ◌⊎◌, ℕ, Bool, true, false, cond, List, [], ◌∷◌, Option, Some, None, inl, inr, refl, ap, sym, subst, ◌∙◌}
-use Rattle.std.specs.Prelude.{T, not, ◌&&◌}
+use Rattle.std.proofs.Common.{◌≡◌, ◌⊎◌, ◌<◌, ℕ, Bool, true, false, cond, List, [], ◌∷◌, length, arith, Option, Some, None, inl, inr, refl, ap, sym, subst, ◌∙◌}
+use Rattle.std.specs.Prelude.{T, not, ◌&&◌, drop, slice_get}
+use Rattle.std.specs.Option.{option_map}
 use Rattle.std.specs.List.{filter, list_any}
 use Rattle.std.specs.Cmp.{eq_by_cmp_equiv}
 use Rattle.std.specs.Ordering.{is_eq, is_lt, eq_by_cmp}
@@ -18,11 +19,11 @@ use Rattle.muck_prop.specs.Order.{path_cmp, path_cmp_total}
 use Rattle.muck_prop.specs.Store.{PropMap, is_nothing, is_ref, has_ref, without_refs, value_stored}
 use Rattle.muck_prop.proofs.Maps.{path_cmp_same}
 
-abbrev Kept : Type 0
+abbrev pub Kept : Type 0
 Kept = List (List (List ℕ) × PropValue)
 
 -- some entry holds the number
-abbrev any_ref : Dbref → Kept → Bool
+abbrev pub any_ref : Dbref → Kept → Bool
 any_ref d es = list_any (λ e. is_ref d e.1) es
 
 -- Lists of entries.
@@ -71,8 +72,25 @@ found_none : (d : Dbref) (q : List (List ℕ)) (es : Kept) (v : PropValue) → f
 found_none d q [] v e is = absurd (cc e)
 found_none d q (x ∷ es) v e is =
     whether (eq_by_cmp path_cmp q x.0) (any_ref d (x ∷ es) ≡ true)
-    (λ t. or_left _ (any_ref d es) (subst (λ w. is_ref d w ≡ true) (some_is (sym e ∙ ap (λ b. cond b (Some x.1) (find path_cmp q es)) t)) is))
+    (λ t. or_left _ (any_ref d es) (subst (λ w. is_ref d w ≡ true) (some_is v x.1 (sym e ∙ ap (λ b. cond b (Some x.1) (find path_cmp q es)) t)) is))
     (λ f. or_right (is_ref d x.1) _ (found_none d q es v (sym (ap (λ b. cond b (Some x.1) (find path_cmp q es)) f) ∙ e) is))
+
+-- A walk over the entries.
+
+abbrev pub first_value : Kept → Option PropValue
+first_value es = option_map (λ e. e.1) (slice_get es 0)
+
+pub any_later : (d : Dbref) (es rest : Kept) (v : PropValue) → first_value es ≡ Some v → rest ≡ drop 1 es → any_ref d es ≡ true → (is_ref d v ≡ true) ⊎ (any_ref d rest ≡ true)
+any_later d [] rest v first left h = absurd (false≢true h)
+any_later d (e ∷ es) rest v first left h = either_so (is_ref d e.1) (any_ref d es) _ (λ q. inl (subst (λ w. is_ref d w ≡ true) (some_is e.1 v first) q)) (λ q. inr (ap (any_ref d) left ∙ q)) h
+
+pub shorter : (es rest : Kept) (v : PropValue) → first_value es ≡ Some v → rest ≡ drop 1 es → length rest < length es
+shorter [] rest v first left = absurd (cc first)
+shorter (e ∷ es) rest v first left = omega (arith, ap (λ (l : Kept). length l) left)
+
+pub any_none : (d : Dbref) (es : Kept) → first_value es ≡ None → any_ref d es ≡ true → ⊥
+any_none d [] none h = false≢true h
+any_none d (e ∷ es) none h = absurd (cc none)
 
 -- Maps.
 
@@ -99,6 +117,11 @@ has_ref_empty d = ap (any_ref d) no_entries
 pub has_ref_at : (d : Dbref) (m : PropMap) (q : List (List ℕ)) (v : PropValue) → get m q ≡ Some v → is_ref d v ≡ true → has_ref d m ≡ true
 unfolding has_ref
 has_ref_at d m q v e is = found_none d q (entries m) v (sym (get-entries m q) ∙ e) is
+
+-- what holds it is one of the entries
+pub has_ref_in : (d : Dbref) (m : PropMap) → has_ref d m ≡ any_ref d (entries m)
+unfolding has_ref
+has_ref_in d m = refl
 
 has_ref_inserted : (d : Dbref) (q : List (List ℕ)) (v : PropValue) (m : PropMap) → has_ref d (insert m q v) ≡ true → (is_ref d v ≡ true) ⊎ (has_ref d m ≡ true)
 unfolding has_ref

@@ -1,6 +1,7 @@
 // A walk over the properties of one object.
 ghost use Rattle.std.specs.Prelude.{◌≡◌, ◌↔◌, ◌∷◌, Some, true, drop, length, slice_get};
 ghost use Rattle.std.specs.BTreeMap.{IsOrdered};
+ghost use Rattle.std.specs.Option.{option_copied, option_map};
 ghost use Rattle.muck_prop.specs.Order.{path_cmp};
 
 use crate::path::Path;
@@ -49,6 +50,17 @@ impl<'a> Walk<'a> {
         ensures { result ≡ length self.now }
     {
         self.entries.len()
+    }
+
+    /// Takes the first of those that are left, and answers its value.
+    pub fn next_value(&mut self) -> Option<&'a PropValue>
+        ensures value { option_copied result ≡ option_map (λ e. e.1) (slice_get self.old 0) }
+        ensures left { self.new ≡ drop 1 self.old }
+    {
+        match self.entries.next() {
+            Some((_, kept)) => Some(kept.value()),
+            None => None,
+        }
     }
 
     /// Takes the first of those that are left. It is true exactly where that one has this path and this value.

@@ -1,7 +1,7 @@
 -- What of a record is as an object has it.
 use Rattle.std.specs.Prelude.{◌≡◌, ℕ, false, true, List, Option, slice_get}
 use Rattle.std.specs.Option.{option_map}
-use Rattle.muck_prop.specs.Store.{is_nothing}
+use Rattle.muck_prop.specs.Store.{is_nothing, IsSpellable}
 use Rattle.muck_prop.specs.declared.props.Listed.{Listed}
 use Rattle.spec_live.specs.declared.object.Object.{Object}
 use Rattle.spec_live.specs.Objects.{Entry, dbref_of, list_in}
@@ -17,9 +17,9 @@ stored_at es k = option_map (stored_of es k) (slice_get es k)
 abbrev pub property_at : Listed → Property
 property_at listed = record { path = listed.rest; value = listed.value }
 
--- unless its value is nothing, it may be stored
+-- unless its value is nothing, or a lock that has no spelling, it may be stored
 abbrev pub MayHold : Property → Type 0
-MayHold p = is_nothing p.value ≡ false → IsValue p.value
+MayHold p = is_nothing p.value ≡ false → IsSpellable p.value → IsValue 2 p.value
 
 -- its fields of fixed size
 pub record HasFields (o : Object) (s : Stored) : Type 0 where

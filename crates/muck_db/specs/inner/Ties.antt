@@ -1,9 +1,10 @@
--- Who is tied to a number, which is noted there: who has its home there, or a link to it.
+-- Who is tied to a number, which is noted there: who has its home there, a link to it, or a property that holds it.
 use Rattle.std.specs.Prelude.{◌≡◌, ◌⊎◌, ℕ, ◌≤◌, Bool, true, false, List, length, Option, Some, slice_get}
 use Rattle.std.specs.BTreeSet.{contains}
 use Rattle.std.specs.Ordering.{nat_cmp}
 use Rattle.std.specs.Option.{option_map_or, option_and_then}
-use Rattle.spec_live.specs.Objects.{index_of}
+use Rattle.muck_prop.specs.Store.{has_ref}
+use Rattle.spec_live.specs.Objects.{dbref_of, index_of}
 use Rattle.spec_live.specs.Recycling.{is_tied_to_number}
 use Rattle.muck_db.specs.declared.slot.Slot.{Slot}
 use Rattle.muck_db.specs.declared.ties.Tied.{Tied}
@@ -13,6 +14,10 @@ use Rattle.muck_db.specs.inner.Slots.{object_at, IsKept}
 -- k is tied to d
 unfoldable pub is_tied_at : ℕ → List Slot → ℕ → Bool
 is_tied_at d slots k = option_map_or (is_tied_to_number d) (object_at slots k) false
+
+-- a property of k holds the number d
+unfoldable pub holds_at : ℕ → List Slot → ℕ → Bool
+holds_at d slots k = option_map_or (λ o. has_ref (dbref_of d) o.props) (object_at slots k) false
 
 unfoldable pub link_at : List Slot → ℕ → Option ℕ
 link_at slots k = option_and_then (λ o. index_of o.link) (object_at slots k)
@@ -29,9 +34,10 @@ Notes t k = t.is_whole ≡ true → contains nat_cmp t.numbers k ≡ true
 unfoldable pub IsNoted : List Tied → ℕ → ℕ → Type 0
 IsNoted ties d k = (t : Tied) → slice_get ties d ≡ Some t → Notes t k
 
--- each number has a place for what is tied to it, and whatever is tied to one above 0 is noted there
+-- each number that an object may have has a place for what is tied to it, and whatever is tied to one above 0 is noted
+-- there
 pub record HasTies (slots : List Slot) (ties : List Tied) : Type 0 where
-  pub long : length slots ≤ length ties
+  pub long : 100000 ≤ length ties
   pub noted : (d k : ℕ) → (d ≡ 0 → ⊥) → is_tied_at d slots k ≡ true → IsNoted ties d k
 
 -- the rule of the type: that of the table, and of what is noted

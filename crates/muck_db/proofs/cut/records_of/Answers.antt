@@ -35,7 +35,7 @@ loop-k-init c = record {
       left_on c.args.base.now (entries_of slots) c.in_ok-records.records 0 c.next_look-k.result (omega arith)
       (λ k le lt there. kept_unseen c.args.extent c.args.base.now slots k c.requires.may (c.next_look-k.ensures.passed k le lt (omega (arith, there, length-entries_of slots))))
       (left_begins c.args.base.now (entries_of slots) c.in_ok-records.records c.in_ok-records.ensures);
-  stored = All-same IsStored _ _ c.in_ok-records.ensures (All-nil IsStored);
+  stored = All-same (IsStored 2) _ _ c.in_ok-records.ensures (All-nil (IsStored 2));
 }
 
 pub loop-k-preserved : goal.loop-k-preserved
@@ -50,13 +50,13 @@ loop-k-preserved c =
         left =
             on _ (subst (LeftOut c.args.base.now es (c.loop-k.k + 1)) (sym (w.records-is ∙ w.in_ok-push.ensures.ok))
             (left_taken c.args.base.now es c.loop-k.k c.loop-k.records w.in_ok-record_of.field-0 w.in_ok-record_of.ensures.stored c.loop-k.invariant.left));
-        stored = All-same IsStored _ _ (w.records-is ∙ w.in_ok-push.ensures.ok) (All-push IsStored c.loop-k.records w.in_ok-record_of.field-0 c.loop-k.invariant.stored w.in_ok-record_of.ensures.storable);
+        stored = All-same (IsStored 2) _ _ (w.records-is ∙ w.in_ok-push.ensures.ok) (All-push (IsStored 2) c.loop-k.records w.in_ok-record_of.field-0 c.loop-k.invariant.stored w.in_ok-record_of.ensures.storable);
       }
       | else-not-is_left_out w ↦ record {
         left =
             on _ (subst (LeftOut c.args.base.now es (c.loop-k.k + 1)) (sym w.records-is)
             (left_over c.args.base.now es c.loop-k.k c.loop-k.records (omega (arith, c.loop-k-test.true, c.len-n.ensures, length-entries_of slots)) (c.is_left_out.ensures w.if-not-is_left_out.false) c.loop-k.invariant.left));
-        stored = All-same IsStored _ _ w.records-is c.loop-k.invariant.stored;
+        stored = All-same (IsStored 2) _ _ w.records-is c.loop-k.invariant.stored;
       }
     ]
 

@@ -8,7 +8,7 @@ use Rattle.muck_db.proofs.cut.records_of.Given as goal
 abbrev pub invariant-loop-k : goal.invariant-loop-k
 invariant-loop-k l = record {
   left : LeftOut l.base (entries_of l.slots.items) l.k l.records;
-  stored : All IsStored l.records;
+  stored : All (IsStored 2) l.records;
 }
 
 abbrev pub decreases-loop-k : goal.decreases-loop-k

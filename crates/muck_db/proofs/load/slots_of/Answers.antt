@@ -4,4 +4,4 @@ use Rattle.muck_codec.specs.inner.Stored.{AreProperties}
 use Rattle.muck_db.proofs.load.slots_of.Goals as goal
 
 pub slot_of-requires : goal.slot_of-requires
-slot_of-requires c = subst (λ (s : Stored). AreProperties s.props) (sym c.record-item.is) (c.requires c.loop-record.record-index c.record-item.result (omega arith))
+slot_of-requires c = subst (λ (s : Stored). AreProperties 2 s.props) (sym c.record-item.is) (c.requires c.loop-record.record-index c.record-item.result (omega arith))

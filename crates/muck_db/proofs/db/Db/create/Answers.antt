@@ -7,7 +7,7 @@ use Rattle.muck_db.specs.inner.Ties.{IsHeld}
 use Rattle.muck_db.proofs.Readers.{length-entries_of}
 use Rattle.muck_db.proofs.Bridge.{sound_order}
 use Rattle.muck_db.proofs.Creating.{put_begins, put_within, put_few, created_from, kept_listed, kept_created, creates}
-use Rattle.muck_db.proofs.Tying.{ties_roomy, ties_created}
+use Rattle.muck_db.proofs.Tying.{ties_created}
 use Rattle.muck_db.proofs.db.Db.create.Goals as goal
 
 pub check_create-requires-clause-few : goal.check_create-requires-clause-few
@@ -31,31 +31,28 @@ overflow_add-self c = omega (arith, put_few _ _ _ _ _ _ (sym c.check_create.ensu
 pub dbref_of-requires : goal.dbref_of-requires
 dbref_of-requires c = omega (arith, put_few _ _ _ _ _ _ (sym c.check_create.ensures ∙ c.in_ok-n.was))
 
-pub make_room-requires : goal.make_room-requires
-make_room-requires c = omega (arith, put_within _ _ _ _ _ _ (sym c.check_create.ensures ∙ c.in_ok-n.was), c.self.invariant.tied.long)
-
 pub invariant_of-self : goal.invariant_of-self
 invariant_of-self c = record {
-  kept = kept_listed _ _ _ _ _ c.make_room.ensures.more c.self.invariant.kept;
-  tied = ties_roomy _ _ _ c.self.invariant.kept.sound.world c.make_room.ensures.long c.make_room.ensures.others c.self.invariant.tied;
+  kept = kept_listed _ _ _ _ _ c.list_player.ensures.more c.self.invariant.kept;
+  tied = c.self.invariant.tied;
 }
 
 pub invariant_of-self-in_err-put_object : goal.invariant_of-self-in_err-put_object
 invariant_of-self-in_err-put_object c =
-    let P : List Slot → Type 0 = λ z. IsHeld z c.self.inside.lowest c.self.inside.told c.make_room.new.players.items c.make_room.new.ties.of.items in
+    let P : List Slot → Type 0 = λ z. IsHeld z c.self.inside.lowest c.self.inside.told c.list_player.new.players.items c.self.inside.ties.of.items in
     subst P (sym c.in_err-put_object.ensures.err) (record {
-      kept = kept_listed _ _ _ _ _ c.make_room.ensures.more c.self.invariant.kept;
-      tied = ties_roomy _ _ _ c.self.invariant.kept.sound.world c.make_room.ensures.long c.make_room.ensures.others c.self.invariant.tied;
+      kept = kept_listed _ _ _ _ _ c.list_player.ensures.more c.self.invariant.kept;
+      tied = c.self.invariant.tied;
     })
 
 pub invariant_of-self-2 : goal.invariant_of-self-2
 invariant_of-self-2 c = record {
   kept = kept_created c.self.inside.slots.items _ _ c.in_ok-n.n c.in_ok-n.to _ _ _ c.args.kind c.args.name c.args.owner c.args.place (sym c.check_create.ensures ∙ c.in_ok-n.was)
       (put_begins c.self.inside.slots.items _ c.in_ok-n.n c.in_ok-n.to c.args.kind c.args.name c.args.owner c.args.place _ (sound_order _ c.self.invariant.kept.sound) (sym c.check_create.ensures ∙ c.in_ok-n.was) c.in_ok-object.ensures.object c.in_ok-put_object.ensures.put)
-      c.requires.some c.requires.short c.relocate.ensures.moved c.relocate.ensures.order c.in-Ok.ensures.listed (kept_listed _ _ _ _ _ c.make_room.ensures.more c.self.invariant.kept);
+      c.requires.some c.requires.short c.relocate.ensures.moved c.relocate.ensures.order c.in-Ok.ensures.listed (kept_listed _ _ _ _ _ c.list_player.ensures.more c.self.invariant.kept);
   tied = ties_created c.in_ok-n.n c.in_ok-n.to c.args.kind c.args.name c.args.owner c.args.place c.self.inside.slots.items _ _ _ (sym c.check_create.ensures ∙ c.in_ok-n.was)
       (put_begins c.self.inside.slots.items _ c.in_ok-n.n c.in_ok-n.to c.args.kind c.args.name c.args.owner c.args.place _ (sound_order _ c.self.invariant.kept.sound) (sym c.check_create.ensures ∙ c.in_ok-n.was) c.in_ok-object.ensures.object c.in_ok-put_object.ensures.put)
-      c.relocate.ensures.moved c.in-Ok.ensures.known (ties_roomy _ _ _ c.self.invariant.kept.sound.world c.make_room.ensures.long c.make_room.ensures.others c.self.invariant.tied);
+      c.relocate.ensures.moved c.self.invariant.tied;
 }
 
 pub returns : goal.returns

@@ -5,7 +5,7 @@ use Rattle.spec_live.proofs.SettingLaws.{consistent_stored}
 use Rattle.muck_db.specs.inner.Slots.{entries_of}
 use Rattle.muck_db.proofs.LimitLaws.{limits_stored}
 use Rattle.muck_db.proofs.Fields.{entries_set, kept_set, tried}
-use Rattle.muck_db.proofs.Tying.{ties_put}
+use Rattle.muck_db.proofs.Tying.{Holds, stored_holds, ties_stored}
 use Rattle.muck_db.proofs.db.Db.put_prop.Goals as goal
 
 pub invariant_of-self-2 : goal.invariant_of-self-2
@@ -13,7 +13,8 @@ invariant_of-self-2 c = record {
   kept =
       kept_set c.in_ok-k.k (with_prop c.args.path c.args.value) _ _ _ _ _ (λ o. refl) c.in_ok-k.ensures.alive c.in_ok-put_prop.ensures.ok
       (consistent_stored c.args.d c.args.path c.args.value _ c.in_ok-k.k (sym c.check_any.ensures.is ∙ c.in_ok-k.was) c.self.invariant.kept.sound.world) (limits_stored c.args.path c.args.value c.in_ok-k.k _ c.self.invariant.kept.sound.limits) c.self.invariant.kept;
-  tied = ties_put c.in_ok-k.k (with_prop c.args.path c.args.value) _ _ _ c.in_ok-put_prop.ensures.ok (λ o. refl) (λ o. refl) c.self.invariant.tied;
+  tied = ties_stored c.in_ok-k.k (with_prop c.args.path c.args.value) _ _ _ _ (Holds c.args.value) c.in_ok-put_prop.ensures.ok (λ o. refl) (λ o. refl) (stored_holds c.args.value c.args.path)
+      c.rehold.ensures.long c.rehold.ensures.others (λ d low is. c.rehold.ensures.noted d low (c.number_held-after.ensures ∙ is)) c.rehold.ensures.still c.self.invariant.tied;
 }
 
 pub returns : goal.returns

@@ -6,7 +6,7 @@ use Rattle.spec_live.proofs.SettingLaws.{consistent_removed}
 use Rattle.muck_db.specs.inner.Slots.{entries_of}
 use Rattle.muck_db.proofs.LimitLaws.{limits_removed}
 use Rattle.muck_db.proofs.Fields.{entries_set, kept_set, did}
-use Rattle.muck_db.proofs.Tying.{ties_put}
+use Rattle.muck_db.proofs.Tying.{removed_holds, ties_stored}
 use Rattle.muck_db.proofs.db.Db.remove_prop.Goals as goal
 
 pub invariant_of-self : goal.invariant_of-self
@@ -14,7 +14,8 @@ invariant_of-self c = record {
   kept =
       kept_set c.in_ok-k.k (without_prop c.args.path.now) _ _ _ _ _ (λ o. refl) c.in_ok-k.ensures.alive c.remove_prop.ensures
       (consistent_removed c.args.d c.args.path.now _ c.in_ok-k.k (sym c.check_any.ensures.is ∙ c.in_ok-k.was) c.self.invariant.kept.sound.world) (limits_removed c.args.path.now c.in_ok-k.k _ c.self.invariant.kept.sound.limits) c.self.invariant.kept;
-  tied = ties_put c.in_ok-k.k (without_prop c.args.path.now) _ _ _ c.remove_prop.ensures (λ o. refl) (λ o. refl) c.self.invariant.tied;
+  tied = ties_stored c.in_ok-k.k (without_prop c.args.path.now) _ _ _ _ (λ d. ⊥) c.remove_prop.ensures (λ o. refl) (λ o. refl) (removed_holds c.args.path.now)
+      c.rehold.ensures.long c.rehold.ensures.others (λ d low is. absurd is) c.rehold.ensures.still c.self.invariant.tied;
 }
 
 pub returns : goal.returns

@@ -1,7 +1,7 @@
 use Rattle.muck_db.specs.inner.Slots.{on_slot}
 use Rattle.muck_db.specs.inner.Settings.{with_setting}
-use Rattle.muck_db.proofs.Settings.{can_set, set_known, set_kept, set_does}
-use Rattle.muck_db.proofs.Tying.{tethered, ties_set}
+use Rattle.muck_db.proofs.Settings.{props_stay, can_set, set_known, set_kept, set_does}
+use Rattle.muck_db.proofs.Tying.{tethered, ties_set, holds_kept}
 use Rattle.muck_db.proofs.db.Db.set.Goals as goal
 
 pub set_at-requires : goal.set_at-requires
@@ -10,7 +10,8 @@ set_at-requires c = set_known _ _ _ (can_set _ (with_setting c.args.setting) _ _
 pub invariant_of-self : goal.invariant_of-self
 invariant_of-self c = record {
   kept = set_kept c.args.setting _ _ _ _ _ _ (can_set _ _ _ _ _ c.self.view_is c.in_ok-k.was c.requires) c.set_at.ensures c.self.invariant.kept;
-  tied = ties_set c.in_ok-k.k (on_slot (with_setting c.args.setting)) _ _ _ _ c.tether_of.result c.set_at.ensures c.tether_of.ensures.home c.tether_of.ensures.link c.retie.ensures.long c.retie.ensures.others c.retie.ensures.noted c.self.invariant.tied;
+  tied = ties_set c.in_ok-k.k (on_slot (with_setting c.args.setting)) _ _ _ _ c.set_at.ensures c.retie.ensures.long c.retie.ensures.others c.retie.ensures.led c.retie.ensures.still
+      (holds_kept c.in_ok-k.k (with_setting c.args.setting) _ _ c.set_at.ensures (props_stay c.args.setting)) c.self.invariant.tied;
 }
 
 pub retie-requires : goal.retie-requires
