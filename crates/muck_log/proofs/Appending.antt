@@ -20,9 +20,10 @@ close_is log a b t goes close other =
     goes.close ∙ close_target a b log.chosen log.close log.other_close close other
     ∙ ap (λ k. must_close k (pick (target log.chosen).second a b)) (sym goes.place) ∙ ap (λ at. must_close t.place (pick at a b)) (sym goes.second)
 
-pub fits_ready : (old new : LogState) (payload : List ℕ) (ready : Ready) (w : StoredWorld) → IsReady old new payload ready → laid payload (target old.chosen).held.world ≡ Some w → Fits (target old.chosen) old.chosen payload w
+pub fits_ready : (old new : LogState) (payload : List ℕ) (ready : Ready) (w : StoredWorld) → IsReady old new payload ready → laid 2 payload (target old.chosen).held.world ≡ Some w → Fits (target old.chosen) old.chosen payload w
 unfolding more_of next_body
 fits_ready old new payload ready w r e = record {
+  version = r.goes.version;
   generation = omega (arith, r.goes.generation, r.wide);
   number = number_fits old.chosen.held.number;
   long = laid_long payload (target old.chosen).held.world w e;
@@ -30,7 +31,7 @@ fits_ready old new payload ready w r e = record {
   makes = e;
 }
 
-pub may_ready : (old new : LogState) (payload : List ℕ) (ready : Ready) (w : StoredWorld) (a b c d : List ℕ) → IsReady old new payload ready → laid payload (target old.chosen).held.world ≡ Some w → store_of a b ≡ Ok old.chosen
+pub may_ready : (old new : LogState) (payload : List ℕ) (ready : Ready) (w : StoredWorld) (a b c d : List ℕ) → IsReady old new payload ready → laid 2 payload (target old.chosen).held.world ≡ Some w → store_of a b ≡ Ok old.chosen
     → MayBeAt ready.target.second ready.target.place ready.tail.items a b c d → IsEither old.chosen (after_batch old.chosen payload w) (store_of c d)
 may_ready old new payload ready w a b c d r e load may =
     may_stored a b old.chosen load payload w (fits_ready old new payload ready w r e) c d
@@ -49,6 +50,7 @@ chosen_is old new last payload ready r fin =
     let e4 = r.goes.count in
     let e5 = r.number in
     let e6 = r.size in
+    let e7 = r.goes.version in
     cc
 
 pub next_after : (old new last : LogState) (payload : List ℕ) (ready : Ready) → IsReady old new payload ready → IsFinished new last ready.target ready.number ready.size → IsNext old last payload

@@ -121,13 +121,13 @@ none_kept : (objects records : List Stored) (k : ℕ) → length objects ≤ k �
 none_kept objects [] k le number = refl
 none_kept objects (o ∷ os) k le number = (differs_by objects o None (kept_at objects o k number.0 ∙ slice_get_past objects k le), none_kept objects os (suc k) (omega (arith, le)) number.1)
 
-left_out : (objects front kept records : List Stored) (k : ℕ) → objects ≡ front ++ kept → length front ≡ k → Numbered k records → All IsStored kept → All IsStored records → length kept ≤ length records → AreKept (differs objects) records kept
+left_out : (objects front kept records : List Stored) (k : ℕ) → objects ≡ front ++ kept → length front ≡ k → Numbered k records → All (IsStored 2) kept → All (IsStored 2) records → length kept ≤ length records → AreKept (differs objects) records kept
 left_out objects front [] records k is size number stored fine le = none_kept objects records k (omega (arith, ap length is, length-append front [], size)) number
 left_out objects front (r ∷ kept) [] k is size number stored fine le = absurd (omega (arith, le))
 left_out objects front (r ∷ kept) (o ∷ os) k is size number stored fine le =
     let found : slice_get objects k ≡ Some r = ap (λ n. slice_get objects n) (sym size) ∙ ap (λ l. slice_get l (length front)) is ∙ seam front (r ∷ kept) in (
-      (λ e. equals o r (All-head IsStored r kept stored) (All-head IsStored o os fine) (sym (differs_by objects o (Some r) (kept_at objects o k number.0 ∙ found)) ∙ e)),
-      left_out objects (front ++ r ∷ []) kept os (suc k) (is ∙ sym (append_assoc front (r ∷ []) kept)) (more_size front r k size) number.1 (All-tail IsStored r kept stored) (All-tail IsStored o os fine) (omega (arith, le)),
+      (λ e. equals o r (All-head (IsStored 2) r kept stored) (All-head (IsStored 2) o os fine) (sym (differs_by objects o (Some r) (kept_at objects o k number.0 ∙ found)) ∙ e)),
+      left_out objects (front ++ r ∷ []) kept os (suc k) (is ∙ sym (append_assoc front (r ∷ []) kept)) (more_size front r k size) number.1 (All-tail (IsStored 2) r kept stored) (All-tail (IsStored 2) o os fine) (omega (arith, le)),
     )
 
 -- What is written is a batch.
@@ -145,18 +145,18 @@ later None k below = tt
 later (Some d) k below = (below.0, below.1, omega (arith, below.2))
 
 abbrev Rises : Option Dbref → List Stored → Type 0
-Rises before records = Run dbref_key IsNextRecord before records
+Rises before records = Run dbref_key (IsNextRecord 2) before records
 
 either : (before : Option Dbref) (b : Bool) (xs ys : List Stored) → Rises before xs → Rises before ys → Rises before (cond b xs ys)
 either before true xs ys first second = first
 either before false xs ys first second = second
 
-written_rises : (test : Stored → Bool) (before : Option Dbref) (k : ℕ) (records : List Stored) → Below before k → Numbered k records → All IsStored records → Rises before (filter test records)
+written_rises : (test : Stored → Bool) (before : Option Dbref) (k : ℕ) (records : List Stored) → Below before k → Numbered k records → All (IsStored 2) records → Rises before (filter test records)
 written_rises test before k [] below number stored = tt
 written_rises test before k (o ∷ os) below number stored =
-    let rest = All-tail IsStored o os stored in
+    let rest = All-tail (IsStored 2) o os stored in
     either before (test o) (o ∷ filter test os) (filter test os)
-    ((All-head IsStored o os stored, above before k o.dbref below number.0), written_rises test (Some o.dbref) (suc k) os (k, number.0, omega arith) number.1 rest)
+    ((All-head (IsStored 2) o os stored, above before k o.dbref below number.0), written_rises test (Some o.dbref) (suc k) os (k, number.0, omega arith) number.1 rest)
     (written_rises test before (suc k) os (later before k below) number.1 rest)
 
 few : (test : Stored → Bool) (records : List Stored) → length (filter test records) ≤ length records
@@ -172,12 +172,12 @@ tune_words t e = words None parameters
 
 -- What is laid.
 
-laid_batch : (payload : List ℕ) (b : Batch) (w : StoredWorld) (objects : List Stored) → whole_batch 1 payload ≡ Ok b → all_placed b.records w.objects ≡ some objects → laid payload w ≡ judged_world b.tune objects
+laid_batch : (payload : List ℕ) (b : Batch) (w : StoredWorld) (objects : List Stored) → whole_batch 2 payload ≡ Ok b → all_placed b.records w.objects ≡ some objects → laid 2 payload w ≡ judged_world b.tune objects
 unfolding laid laid_over
 laid_batch payload b w objects reads places = ap (λ r. option_and_then (λ x. laid_over x w) (batch_if r)) reads ∙ ap (option_and_then (judged_world b.tune)) places
 
-lays_written : (w : StoredWorld) (es : List Entry) (tune : Tune) → All IsStored (persist es) → All IsStored w.objects → length w.objects ≤ length es → length (records_written w.objects (persist es)) < 2 ^ 32 → IsTune tune
-    → laid (batch_bytes (records_written w.objects (persist es)) tune) w ≡ judged_world tune (persist es)
+lays_written : (w : StoredWorld) (es : List Entry) (tune : Tune) → All (IsStored 2) (persist es) → All (IsStored 2) w.objects → length w.objects ≤ length es → length (records_written w.objects (persist es)) < 2 ^ 32 → IsTune tune
+    → laid 2 (batch_bytes (records_written w.objects (persist es)) tune) w ≡ judged_world tune (persist es)
 unfolding records_written persist
 lays_written w es tune stored kept le size words =
     let test = differs w.objects in
@@ -185,7 +185,7 @@ lays_written w es tune stored kept le size words =
     let numbered = persist_numbered es 0 es in
     let are : AreKept test (persist es) w.objects = left_out w.objects [] w.objects (persist es) 0 refl refl numbered kept stored (omega (arith, le, long)) in
     laid_batch (batch_bytes (filter test (persist es)) tune) (record { records = filter test (persist es); tune = tune }) w (persist es)
-    (whole_reads (filter test (persist es)) tune (size, written_rises test None 0 (persist es) tt numbered stored) words)
+    (whole_reads 2 (filter test (persist es)) tune (size, written_rises test None 0 (persist es) tt numbered stored) words)
     (all_laid test [] w.objects (persist es) 0 refl numbered are)
 
 abbrev some_world : StoredWorld → Option StoredWorld
@@ -208,14 +208,14 @@ target_has : (P : List Stored → Type 0) (s : Chosen) (b : Bool) → opens_new 
 target_has P s true e first here = subst P (sym (target_starts s e)) first
 target_has P s false e first here = subst P (sym (target_stays s e)) here
 
-target_stored : (s : Chosen) → All IsStored (objects_of s) → All IsStored (objects_of (target s))
-target_stored s = target_has (All IsStored) s (opens_new s.held) refl start_stored
+target_stored : (s : Chosen) → All (IsStored 2) (objects_of s) → All (IsStored 2) (objects_of (target s))
+target_stored s = target_has (All (IsStored 2)) s (opens_new s.held) refl start_stored
 
 target_covered : (s : Chosen) (n : ℕ) → length (objects_of s) ≤ n → 2 ≤ n → length (objects_of (target s)) ≤ n
 target_covered s n le two = target_has (λ os. length os ≤ n) s (opens_new s.held) refl (omega (arith, two, start_two)) le
 
-batch_laid : (log : LogState) (es : List Entry) (tune : Tune) → All IsStored (persist es) → All IsStored (objects_of (target log.chosen)) → length (objects_of (target log.chosen)) ≤ length es
-    → length (records_written (objects_of (target log.chosen)) (persist es)) < 2 ^ 32 → IsTune tune → laid (payload_of log (world_batch es tune)) (target log.chosen).held.world ≡ judged_world tune (persist es)
+batch_laid : (log : LogState) (es : List Entry) (tune : Tune) → All (IsStored 2) (persist es) → All (IsStored 2) (objects_of (target log.chosen)) → length (objects_of (target log.chosen)) ≤ length es
+    → length (records_written (objects_of (target log.chosen)) (persist es)) < 2 ^ 32 → IsTune tune → laid 2 (payload_of log (world_batch es tune)) (target log.chosen).held.world ≡ judged_world tune (persist es)
 unfolding payload_of
 batch_laid log es tune = lays_written (target log.chosen).held.world es tune
 
@@ -224,8 +224,8 @@ judged_is true made w e = sym (same_Some made w e)
 judged_is false made w e = absurd (none-some w e)
 
 -- Where what is written makes a world at all, it makes the one that it was taken from. The tune parameters are numbers of 32 bits.
-lays_whole : (log : LogState) (es : List Entry) (tune : Tune) (w : StoredWorld) → All IsStored (persist es) → All IsStored (objects_of (target log.chosen)) → length (objects_of log.chosen) ≤ length es → 2 ≤ length es
-    → length (records_written (objects_of (target log.chosen)) (persist es)) < 2 ^ 32 → IsTune tune → laid (payload_of log (world_batch es tune)) (target log.chosen).held.world ≡ Some w → w ≡ record { objects = persist es; tune = tune }
+lays_whole : (log : LogState) (es : List Entry) (tune : Tune) (w : StoredWorld) → All (IsStored 2) (persist es) → All (IsStored 2) (objects_of (target log.chosen)) → length (objects_of log.chosen) ≤ length es → 2 ≤ length es
+    → length (records_written (objects_of (target log.chosen)) (persist es)) < 2 ^ 32 → IsTune tune → laid 2 (payload_of log (world_batch es tune)) (target log.chosen).held.world ≡ Some w → w ≡ record { objects = persist es; tune = tune }
 lays_whole log es tune w stored kept le two size words makes =
     let covered = target_covered log.chosen (length es) le two in
     judged_is (is_fine (persist es) tune) (record { objects = persist es; tune = tune }) w (sym (batch_laid log es tune stored kept covered size words) ∙ makes)
@@ -249,37 +249,37 @@ base_kept : (log : LogState) (o : Stored) (b : Bool) → opens_new log.chosen.he
 base_kept log o true e kept = absurd (empty_keeps o (index_of o.dbref) (subst (λ os. IsKept os o) (base_opens log e) kept))
 base_kept log o false e kept = subst (λ os. IsKept os o) (base_stays log e ∙ sym (target_stays log.chosen e)) kept
 
-module _ (log : LogState) (es : List Entry) (records : List Stored) (kept : All IsStored (objects_of (target log.chosen))) (left : LeavesOut (base_of log) (persist es) records) where
+module _ (log : LogState) (es : List Entry) (records : List Stored) (kept : All (IsStored 2) (objects_of (target log.chosen))) (left : LeavesOut (base_of log) (persist es) records) where
   -- what is written of it is what is written of all records
   written_left : records_written (objects_of (target log.chosen)) records ≡ records_written (objects_of (target log.chosen)) (persist es)
   unfolding records_written
   written_left = left_filter (differs (objects_of (target log.chosen))) (λ o is. kept_same (objects_of (target log.chosen)) o kept (base_kept log o (opens_new log.chosen.held) refl is)) left
 
   -- and where its records have spellings, all records have
-  stored_left : All IsStored records → All IsStored (persist es)
-  stored_left = left_whole IsStored (λ o is. found_stored (objects_of (target log.chosen)) (index_of o.dbref) o kept (base_kept log o (opens_new log.chosen.held) refl is)) left
+  stored_left : All (IsStored 2) records → All (IsStored 2) (persist es)
+  stored_left = left_whole (IsStored 2) (λ o is. found_stored (objects_of (target log.chosen)) (index_of o.dbref) o kept (base_kept log o (opens_new log.chosen.held) refl is)) left
 
   written_few : length records < 2 ^ 32 → length (records_written (objects_of (target log.chosen)) (persist es)) < 2 ^ 32
   unfolding records_written
   written_few size = omega (arith, size, few (differs (objects_of (target log.chosen))) records, ap length written_left)
 
-payload_over : (log : LogState) (batch : Batch) (es : List Entry) (tune : Tune) → All IsStored (objects_of (target log.chosen)) → LeavesOut (base_of log) (persist es) batch.records → batch.tune ≡ tune
+payload_over : (log : LogState) (batch : Batch) (es : List Entry) (tune : Tune) → All (IsStored 2) (objects_of (target log.chosen)) → LeavesOut (base_of log) (persist es) batch.records → batch.tune ≡ tune
     → payload_of log batch ≡ payload_of log (world_batch es tune)
 unfolding payload_of
 payload_over log batch es tune kept left tuned = ap (λ os. batch_bytes os batch.tune) (written_left log es batch.records kept left) ∙ ap (batch_bytes (records_written (objects_of (target log.chosen)) (persist es))) tuned
 
 -- A batch that leaves out what is kept is written as the whole batch of its world.
-pub left_payload : (log : LogState) (batch : Batch) (es : List Entry) (tune : Tune) → All IsStored log.chosen.held.world.objects → LeavesOut (base_of log) (persist es) batch.records → batch.tune ≡ tune
+pub left_payload : (log : LogState) (batch : Batch) (es : List Entry) (tune : Tune) → All (IsStored 2) log.chosen.held.world.objects → LeavesOut (base_of log) (persist es) batch.records → batch.tune ≡ tune
     → payload_of log batch ≡ payload_of log (world_batch es tune)
 left_payload log batch es tune kept = payload_over log batch es tune (target_stored log.chosen kept)
 
 -- In the words of the call that writes it: what is ready to be written makes the world of which the batch was taken.
-pub ready_whole : (old new : LogState) (batch : Batch) → IsLaidNext old new (payload_of old batch) → All IsStored batch.records → All IsStored (objects_of (target old.chosen)) → length batch.records < 2 ^ 32
+pub ready_whole : (old new : LogState) (batch : Batch) → IsLaidNext old new (payload_of old batch) → All (IsStored 2) batch.records → All (IsStored 2) (objects_of (target old.chosen)) → length batch.records < 2 ^ 32
     → (es : List Entry) (tune : Tune) → LeavesOut (base_of old) (persist es) batch.records → batch.tune ≡ tune → tune_fits tune ≡ true → 2 ≤ length es → length old.chosen.held.world.objects ≤ length es
-    → laid (payload_of old batch) (target old.chosen).held.world ≡ Some (record { objects = persist es; tune = tune })
+    → laid 2 (payload_of old batch) (target old.chosen).held.world ≡ Some (record { objects = persist es; tune = tune })
 ready_whole old new batch lays stored kept few es tune left tuned words two covers =
-    let made : laid (payload_of old (world_batch es tune)) (target old.chosen).held.world ≡ Some new.chosen.held.world =
-    ap (λ payload. laid payload (target old.chosen).held.world) (sym (payload_over old batch es tune kept left tuned)) ∙ lays.world in
+    let made : laid 2 (payload_of old (world_batch es tune)) (target old.chosen).held.world ≡ Some new.chosen.held.world =
+    ap (λ payload. laid 2 payload (target old.chosen).held.world) (sym (payload_over old batch es tune kept left tuned)) ∙ lays.world in
     let all = stored_left old es batch.records kept left stored in
     lays.world ∙ ap Some (lays_whole old es tune new.chosen.held.world all kept covers two (written_few old es batch.records kept left few) (tune_words tune words) made)
 
@@ -296,13 +296,13 @@ fine_world es tune consistent limits tuned =
 
 -- In the words of its caller: the batch of a world that hangs together with every value within its limits makes that world, where it
 -- has no fewer objects than are kept.
-pub fit_makes : (log : LogState) (batch : Batch) (es : List Entry) (tune : Tune) → All IsStored log.chosen.held.world.objects → All IsStored batch.records → length batch.records < 2 ^ 32
+pub fit_makes : (log : LogState) (batch : Batch) (es : List Entry) (tune : Tune) → All (IsStored 2) log.chosen.held.world.objects → All (IsStored 2) batch.records → length batch.records < 2 ^ 32
     → LeavesOut (base_of log) (persist es) batch.records → batch.tune ≡ tune → is_fine (persist es) tune ≡ true → 2 ≤ length es → length log.chosen.held.world.objects ≤ length es
-    → laid (payload_of log batch) (target log.chosen).held.world ≡ Some (record { objects = persist es; tune = tune })
+    → laid 2 (payload_of log batch) (target log.chosen).held.world ≡ Some (record { objects = persist es; tune = tune })
 fit_makes log batch es tune kept stored few left tuned fine two covers =
     let there = target_stored log.chosen kept in
     let all = stored_left log es batch.records there left stored in
-    ap (λ payload. laid payload (target log.chosen).held.world) (payload_over log batch es tune there left tuned)
+    ap (λ payload. laid 2 payload (target log.chosen).held.world) (payload_over log batch es tune there left tuned)
     ∙ batch_laid log es tune all there (target_covered log.chosen (length es) covers two) (written_few log es batch.records there left few) (tune_words tune (fine_tune es tune fine))
     ∙ cond-true (is_fine (persist es) tune) _ _ fine
 
@@ -316,10 +316,10 @@ retuned objects old tune fine tuned =
     let c = and_parts (tune_fits old) (is_whole_store objects) b.1 in
     and_from (nat_le (length objects) 100000) _ a.0 (and_from (list_all record_fits objects) _ b.0 (and_from (tune_fits tune) (is_whole_store objects) tuned c.1))
 
-lays_nothing : (w : StoredWorld) (tune : Tune) → is_fine w.objects w.tune ≡ true → tune_fits tune ≡ true → laid (batch_bytes [] tune) w ≡ Some (record { objects = w.objects; tune = tune })
+lays_nothing : (w : StoredWorld) (tune : Tune) → is_fine w.objects w.tune ≡ true → tune_fits tune ≡ true → laid 2 (batch_bytes [] tune) w ≡ Some (record { objects = w.objects; tune = tune })
 unfolding all_placed
 lays_nothing w tune fine tuned =
-    laid_batch (batch_bytes [] tune) (record { records = []; tune = tune }) w w.objects (whole_reads [] tune (omega arith, tt) (tune_words tune tuned)) refl
+    laid_batch (batch_bytes [] tune) (record { records = []; tune = tune }) w w.objects (whole_reads 2 [] tune (omega arith, tt) (tune_words tune tuned)) refl
     ∙ cond-true (is_fine w.objects tune) _ _ (retuned w.objects w.tune tune fine tuned)
 
 target_fine : (s : Chosen) (b : Bool) → opens_new s.held ≡ b → IsFine s.held.world → IsFine (target s).held.world
@@ -332,5 +332,5 @@ unfolding payload_of records_written
 nothing_makes log batch fine none tuned =
     let w = (target log.chosen).held.world in (
       record { objects = w.objects; tune = batch.tune },
-      ap (λ records. laid (batch_bytes (filter (differs w.objects) records) batch.tune) w) none ∙ lays_nothing w batch.tune (target_fine log.chosen (opens_new log.chosen.held) refl fine) tuned,
+      ap (λ records. laid 2 (batch_bytes (filter (differs w.objects) records) batch.tune) w) none ∙ lays_nothing w batch.tune (target_fine log.chosen (opens_new log.chosen.held) refl fine) tuned,
     )

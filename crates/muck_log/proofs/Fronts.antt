@@ -4,6 +4,7 @@ use Rattle.std.proofs.lemmas.List.{append-nil, take-append-le, take_all, get_or_
 use Rattle.std.proofs.lemmas.Bool.{eq-eqb, ne_eqb, cond_both, eqb-true, eqb-false, leb-true, and_parts, or_left, or_right, or_from, le-leb, lt-leb}
 use Rattle.std.specs.Int.{w64, from_be_bytes}
 use Rattle.muck_laws.proofs.Options.{and_then_some, cond_some, map_some}
+use Rattle.muck_log.specs.declared.body.Header.{Header}
 use Rattle.muck_log.specs.Body.{Body, body_of}
 use Rattle.muck_log.specs.World.{laid}
 use Rattle.muck_log.specs.File.{Held, FileReading, ReadingEnd, gate_at, begin, byte_step, run, body_judged, forgotten, join, follows, reading_end, mode_end}
@@ -17,8 +18,12 @@ pub body_long : (bytes : List ℕ) (b : Body) → body_of bytes ≡ Some b → 2
 unfolding body_of
 body_long bytes b e = leb-true 25 (length bytes) (and_parts (leb 25 (length bytes)) _ (cond_some _ _ b e).0).0
 
+-- version and generation of what is held
+abbrev pub head_held : Held → Header
+head_held held = record { version = held.version; generation = held.generation }
+
 pub record Joins (held later : Held) (place : ℕ) (bytes : List ℕ) : Type 0 where
-  pub generation : later.generation ≡ held.generation
+  pub head : head_held later ≡ head_held held
   pub count : later.count ≡ held.count + 1
   pub long : 25 ≤ length bytes
 
@@ -26,15 +31,15 @@ pub join_facts : (place : ℕ) (held later : Held) (bytes : List ℕ) → join p
 unfolding join
 join_facts place held later bytes e =
     let with_body = and_then_some _ (body_of bytes) later e in
-    let may = cond_some (follows held with_body.0.generation with_body.0.number) _ later with_body.2 in
-    let with_world = map_some _ (laid with_body.0.payload held.world) later may.1 in
+    let may = cond_some (follows held with_body.0.version with_body.0.generation with_body.0.number) _ later with_body.2 in
+    let with_world = map_some _ (laid with_body.0.version with_body.0.payload held.world) later may.1 in
     record {
-      generation = sym (ap (λ (h : Held). h.generation) with_world.2);
+      head = sym (ap head_held with_world.2);
       count = sym (ap (λ (h : Held). h.count) with_world.2);
       long = body_long bytes with_body.0 with_body.1;
     }
 
-abbrev pub opening : ℕ → FileReading
+abbrev pub opening : Header → FileReading
 opening g = gate_at 0 (begin g)
 
 -- what the mode says of what was read
@@ -49,38 +54,38 @@ abbrev pub IsPlaced : ℕ → ℕ → Type 0
 IsPlaced place count = ((place ≡ 0) × (count ≡ 0)) ⊎ ((34 ≤ place) × (0 < count))
 
 -- what is known of the batches that were read
-pub record Facts (g : ℕ) (xs : List ℕ) (r : FileReading) : Type 0 where
+pub record Facts (g : Header) (xs : List ℕ) (r : FileReading) : Type 0 where
   pub front : run (opening g) (take r.place xs) ≡ gate_at r.place r.held
-  pub generation : r.held.generation ≡ g
+  pub head : head_held r.held ≡ g
   pub first : IsPlaced r.place r.held.count
 
 -- nothing, once one was outside the format
-abbrev pub FactsIn : Mode → ℕ → List ℕ → FileReading → Type 0
+abbrev pub FactsIn : Mode → Header → List ℕ → FileReading → Type 0
 FactsIn Gate g xs r = Facts g xs r
 FactsIn Size g xs r = Facts g xs r
 FactsIn InBody g xs r = Facts g xs r
 FactsIn Shut g xs r = Facts g xs r
 FactsIn Broken g xs r = Unit {0}
 
-facts_in : (mode : Mode) (g : ℕ) (xs : List ℕ) (r : FileReading) → Facts g xs r → FactsIn mode g xs r
+facts_in : (mode : Mode) (g : Header) (xs : List ℕ) (r : FileReading) → Facts g xs r → FactsIn mode g xs r
 facts_in Gate g xs r f = f
 facts_in Size g xs r f = f
 facts_in InBody g xs r f = f
 facts_in Shut g xs r f = f
 facts_in Broken g xs r f = tt
 
-pub record IsRead (g : ℕ) (xs : List ℕ) (r : FileReading) : Type 0 where
+pub record IsRead (g : Header) (xs : List ℕ) (r : FileReading) : Type 0 where
   pub is : run (opening g) xs ≡ r
   pub within : r.place ≤ length xs
   pub at : IsAt r.mode r xs
   pub facts : FactsIn r.mode g xs r
 
-runs_on : (g : ℕ) (xs : List ℕ) (r : FileReading) (b : ℕ) → run (opening g) xs ≡ r → run (opening g) (xs ++ b ∷ []) ≡ byte_step r b
+runs_on : (g : Header) (xs : List ℕ) (r : FileReading) (b : ℕ) → run (opening g) xs ≡ r → run (opening g) (xs ++ b ∷ []) ≡ byte_step r b
 unfolding run
 runs_on g xs r b is = run-append (opening g) xs (b ∷ []) ∙ ap (λ s. byte_step s b) is
 
 -- a step that keeps place and batches
-stays : (g : ℕ) (xs : List ℕ) (r : FileReading) (b : ℕ) (mode : Mode) (size : ℕ) (bytes : List ℕ) → IsRead g xs r → Facts g xs r
+stays : (g : Header) (xs : List ℕ) (r : FileReading) (b : ℕ) (mode : Mode) (size : ℕ) (bytes : List ℕ) → IsRead g xs r → Facts g xs r
     → byte_step r b ≡ record { place = r.place; mode = mode; size = size; bytes = bytes; held = r.held }
     → IsAt mode (record { place = r.place; mode = mode; size = size; bytes = bytes; held = r.held }) (xs ++ b ∷ [])
     → IsRead g (xs ++ b ∷ []) (record { place = r.place; mode = mode; size = size; bytes = bytes; held = r.held })
@@ -90,13 +95,13 @@ stays g xs r b mode size bytes read facts steps at = record {
   at = at;
   facts = facts_in mode g (xs ++ b ∷ []) (record { place = r.place; mode = mode; size = size; bytes = bytes; held = r.held }) (record {
     front = ap (run (opening g)) (take-append-le r.place xs (b ∷ []) read.within) ∙ facts.front;
-    generation = facts.generation;
+    head = facts.head;
     first = facts.first;
   });
 }
 
 -- a step behind which nothing counts
-breaks : (g : ℕ) (xs : List ℕ) (r : FileReading) (b size : ℕ) (bytes : List ℕ) (held : Held) → IsRead g xs r
+breaks : (g : Header) (xs : List ℕ) (r : FileReading) (b size : ℕ) (bytes : List ℕ) (held : Held) → IsRead g xs r
     → byte_step r b ≡ record { place = r.place; mode = Broken; size = size; bytes = bytes; held = held }
     → IsRead g (xs ++ b ∷ []) (record { place = r.place; mode = Broken; size = size; bytes = bytes; held = held })
 breaks g xs r b size bytes held read steps = record {
@@ -107,7 +112,7 @@ breaks g xs r b size bytes held read steps = record {
 }
 
 -- a step that ends a batch
-joins : (g : ℕ) (xs : List ℕ) (r : FileReading) (b : ℕ) (later : Held) → IsRead g xs r → Facts g xs r → length xs ≡ r.place + 9 + length r.bytes
+joins : (g : Header) (xs : List ℕ) (r : FileReading) (b : ℕ) (later : Held) → IsRead g xs r → Facts g xs r → length xs ≡ r.place + 9 + length r.bytes
     → join r.place r.held (r.bytes ++ b ∷ []) ≡ Some later
     → byte_step r b ≡ gate_at (r.place + 9 + length (r.bytes ++ b ∷ [])) later
     → IsRead g (xs ++ b ∷ []) (gate_at (r.place + 9 + length (r.bytes ++ b ∷ [])) later)
@@ -121,12 +126,12 @@ joins g xs r b later read before size e steps =
       at = (len, refl);
       facts = record {
         front = ap (run (opening g)) (take_all _ (xs ++ b ∷ []) (omega (arith, len))) ∙ runs_on g xs r b read.is ∙ steps;
-        generation = facts.generation ∙ before.generation;
+        head = facts.head ∙ before.head;
         first = inr (omega (arith, facts.long), omega (arith, facts.count));
       };
     }
 
-next_in : (g : ℕ) (xs : List ℕ) (place : ℕ) (mode : Mode) (size : ℕ) (bytes : List ℕ) (held : Held) (b : ℕ)
+next_in : (g : Header) (xs : List ℕ) (place : ℕ) (mode : Mode) (size : ℕ) (bytes : List ℕ) (held : Held) (b : ℕ)
     → IsRead g xs (record { place = place; mode = mode; size = size; bytes = bytes; held = held })
     → IsRead g (xs ++ b ∷ []) (byte_step (record { place = place; mode = mode; size = size; bytes = bytes; held = held }) b)
 unfolding byte_step
@@ -169,40 +174,40 @@ next_in g xs place Shut size bytes held b read =
     stays g xs _ b Shut size bytes read read.facts refl (omega (arith, read.at.0, length-append xs (b ∷ [])), λ is. read.at.1 (sym (get_or_append_left xs (b ∷ []) 0 place read.at.0) ∙ is))
 next_in g xs place Broken size bytes held b read = breaks g xs _ b size bytes held read refl
 
-next : (g : ℕ) (xs : List ℕ) (r : FileReading) (b : ℕ) → IsRead g xs r → IsRead g (xs ++ b ∷ []) (byte_step r b)
+next : (g : Header) (xs : List ℕ) (r : FileReading) (b : ℕ) → IsRead g xs r → IsRead g (xs ++ b ∷ []) (byte_step r b)
 next g xs r b read = next_in g xs r.place r.mode r.size r.bytes r.held b read
 
-reads : (g : ℕ) (xs ys : List ℕ) (r : FileReading) → IsRead g xs r → IsRead g (xs ++ ys) (run r ys)
+reads : (g : Header) (xs ys : List ℕ) (r : FileReading) → IsRead g xs r → IsRead g (xs ++ ys) (run r ys)
 unfolding run
 reads g xs [] r read = subst (λ l. IsRead g l r) (sym (append-nil xs)) read
 reads g xs (y ∷ ys) r read = subst (λ l. IsRead g l (run (byte_step r y) ys)) (append_assoc xs (y ∷ []) ys) (reads g (xs ++ y ∷ []) ys (byte_step r y) (next g xs r y read))
 
-started : (g : ℕ) → IsRead g [] (opening g)
+started : (g : Header) → IsRead g [] (opening g)
 unfolding run gate_at begin
-started g = record { is = refl; within = omega arith; at = (refl, refl); facts = record { front = refl; generation = refl; first = inl (refl, refl) } }
+started g = record { is = refl; within = omega arith; at = (refl, refl); facts = record { front = refl; head = refl; first = inl (refl, refl) } }
 
-pub read_all : (g : ℕ) (xs : List ℕ) → IsRead g xs (run (opening g) xs)
+pub read_all : (g : Header) (xs : List ℕ) → IsRead g xs (run (opening g) xs)
 read_all g xs = reads g [] xs (opening g) (started g)
 
 -- where reading ended
 abbrev pub IsShut : ℕ → List ℕ → Type 0
 IsShut place xs = ((place < length xs) × (get_or xs place 0 ≢ 1)) ⊎ ((length xs ≡ place + 1) × (get_or xs place 0 ≡ 1)) ⊎ ((length xs ≡ 0) × (place ≡ 0))
 
-pub record IsEnded (g : ℕ) (xs : List ℕ) (e : ReadingEnd) : Type 0 where
+pub record IsEnded (g : Header) (xs : List ℕ) (e : ReadingEnd) : Type 0 where
   pub within : e.place ≤ length xs
   pub front : run (opening g) (take e.place xs) ≡ gate_at e.place e.held
-  pub generation : e.held.generation ≡ g
+  pub head : head_held e.held ≡ g
   pub first : IsPlaced e.place e.held.count
   pub shut : IsShut e.place xs
 
-made : (g : ℕ) (xs : List ℕ) (r : FileReading) (e : ReadingEnd) → IsRead g xs r → Facts g xs r → record { place = r.place; held = r.held } ≡ e → IsShut r.place xs → IsEnded g xs e
-made g xs r e read facts is shut = subst (IsEnded g xs) is (record { within = read.within; front = facts.front; generation = facts.generation; first = facts.first; shut = shut })
+made : (g : Header) (xs : List ℕ) (r : FileReading) (e : ReadingEnd) → IsRead g xs r → Facts g xs r → record { place = r.place; held = r.held } ≡ e → IsShut r.place xs → IsEnded g xs e
+made g xs r e read facts is shut = subst (IsEnded g xs) is (record { within = read.within; front = facts.front; head = facts.head; first = facts.first; shut = shut })
 
 cond_ok : (t : Bool) (x : ReadingEnd) (n : ℕ) (e : ReadingEnd) → cond t (Ok x) (Err n) ≡ Ok e → (t ≡ true) × (x ≡ e)
 cond_ok true x n e is = (refl, cc)
 cond_ok false x n e is = cc
 
-ended_in : (g : ℕ) (xs : List ℕ) (place : ℕ) (mode : Mode) (size : ℕ) (bytes : List ℕ) (held : Held) (e : ReadingEnd)
+ended_in : (g : Header) (xs : List ℕ) (place : ℕ) (mode : Mode) (size : ℕ) (bytes : List ℕ) (held : Held) (e : ReadingEnd)
     → IsRead g xs (record { place = place; mode = mode; size = size; bytes = bytes; held = held })
     → mode_end mode (record { place = place; mode = mode; size = size; bytes = bytes; held = held }) ≡ Ok e → IsEnded g xs e
 ended_in g xs place Gate size bytes held e read is =
@@ -218,11 +223,11 @@ ended_in g xs place Shut size bytes held e read is =
     made g xs _ e read read.facts (cc) shut
 ended_in g xs place Broken size bytes held e read is = cc
 
-pub ended : (g : ℕ) (xs : List ℕ) (e : ReadingEnd) → reading_end (run (opening g) xs) ≡ Ok e → IsEnded g xs e
+pub ended : (g : Header) (xs : List ℕ) (e : ReadingEnd) → reading_end (run (opening g) xs) ≡ Ok e → IsEnded g xs e
 unfolding reading_end
 ended g xs e is = let r = run (opening g) xs in ended_in g xs r.place r.mode r.size r.bytes r.held e (read_all g xs) is
 
-closes_in : (g : ℕ) (xs : List ℕ) (place : ℕ) (mode : Mode) (size : ℕ) (bytes : List ℕ) (held : Held) (e : ReadingEnd)
+closes_in : (g : Header) (xs : List ℕ) (place : ℕ) (mode : Mode) (size : ℕ) (bytes : List ℕ) (held : Held) (e : ReadingEnd)
     → IsRead g xs (record { place = place; mode = mode; size = size; bytes = bytes; held = held })
     → mode_end mode (record { place = place; mode = mode; size = size; bytes = bytes; held = held }) ≡ Ok e → must_close place xs ≡ not (is_shut mode)
 unfolding must_close
@@ -240,7 +245,7 @@ place_in Shut place size bytes held e is = cc
 place_in Broken place size bytes held e is = cc
 
 -- whether the gate at which reading ended is closed on the disk
-pub closes : (g : ℕ) (xs : List ℕ) (e : ReadingEnd) → reading_end (run (opening g) xs) ≡ Ok e → must_close e.place xs ≡ not (is_shut (run (opening g) xs).mode)
+pub closes : (g : Header) (xs : List ℕ) (e : ReadingEnd) → reading_end (run (opening g) xs) ≡ Ok e → must_close e.place xs ≡ not (is_shut (run (opening g) xs).mode)
 unfolding reading_end
 closes g xs e is =
     let r = run (opening g) xs in

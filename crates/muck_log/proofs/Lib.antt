@@ -3,6 +3,7 @@ pub mod Deltas
 pub mod Differing
 pub mod Files
 pub mod Fronts
+pub mod Known
 pub mod Moments
 pub mod Mounted
 pub mod Mounting

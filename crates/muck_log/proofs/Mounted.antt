@@ -12,11 +12,11 @@ use Rattle.muck_log.specs.Append.{IsEither}
 use Rattle.muck_log.proofs.Files.{file_facts, two}
 use Rattle.muck_log.proofs.Stores.{view, Fits, either, finished, stored_at, target_same, target_new, empty_same, swaps}
 
-short_batch : (payload : List ℕ) → length payload < 4 → whole_batch 1 payload ≡ Err 0
+short_batch : (payload : List ℕ) → length payload < 4 → whole_batch 2 payload ≡ Err 0
 unfolding whole_batch batch_at
 short_batch payload short = rw (lt-ltb (length payload) 4 short) refl
 
-pub laid_long : (payload : List ℕ) (v w : StoredWorld) → laid payload v ≡ Some w → 4 ≤ length payload
+pub laid_long : (payload : List ℕ) (v w : StoredWorld) → laid 2 payload v ≡ Some w → 4 ≤ length payload
 unfolding laid
 laid_long payload v w e = elim (cases_lt (length payload) 4) [
   | inl short ↦ absurd (none (ap (λ r. option_and_then (λ b. laid_over b v) (batch_if r)) (sym (short_batch payload short)) ∙ e))

@@ -35,7 +35,7 @@ not_put false o objects later is put = put
 not_put true o objects later is put = absurd cc
 
 -- The last record, and those before it.
-pub next_stored : (left rest : List Stored) (o : Stored) → left ≡ rest ++ o ∷ [] → All IsStored (reverse left) → IsStored o × All IsStored (reverse rest)
+pub next_stored : (left rest : List Stored) (o : Stored) → left ≡ rest ++ o ∷ [] → All (IsStored 2) (reverse left) → IsStored 2 o × All (IsStored 2) (reverse rest)
 next_stored left rest o is all =
-    let turn : All IsStored (o ∷ reverse rest) = subst (All IsStored) (turned left rest o is) all in
-    (All-head IsStored o (reverse rest) turn, All-tail IsStored o (reverse rest) turn)
+    let turn : All (IsStored 2) (o ∷ reverse rest) = subst (All (IsStored 2)) (turned left rest o is) all in
+    (All-head (IsStored 2) o (reverse rest) turn, All-tail (IsStored 2) o (reverse rest) turn)

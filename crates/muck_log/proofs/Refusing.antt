@@ -21,5 +21,5 @@ refused_untouched old new batch Stale is touched = touched
 
 pub refused_whole : (old new : LogState) (batch : Batch) (fault : LogFault) → IsRefused old new batch fault → IsTouching (Err fault)
     → (es : List Entry) (tune : Tune) → LeavesOut (base_of old) (persist es) batch.records → batch.tune ≡ tune → tune_fits tune ≡ true → 2 ≤ length es
-    → length old.chosen.held.world.objects ≤ length es → laid (payload_of old batch) (target old.chosen).held.world ≡ Some (record { objects = persist es; tune = tune })
+    → length old.chosen.held.world.objects ≤ length es → laid 2 (payload_of old batch) (target old.chosen).held.world ≡ Some (record { objects = persist es; tune = tune })
 refused_whole old new batch fault is touched = absurd (refused_untouched old new batch fault is touched)

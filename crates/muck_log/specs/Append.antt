@@ -18,6 +18,7 @@ IsEither before after now = (now ≡ Ok before) ⊎ (now ≡ Ok after)
 pub record IsTarget (log : LogState) (t : Target) : Type 0 where
   pub second : t.second ≡ (target log.chosen).second
   pub place : t.place ≡ (target log.chosen).place
+  pub version : (target log.chosen).held.version ≡ 2
   pub generation : t.generation ≡ (target log.chosen).held.generation
   pub count : t.count ≡ (target log.chosen).held.count
   pub opens : t.opens ≡ opens_new log.chosen.held
@@ -25,8 +26,8 @@ pub record IsTarget (log : LogState) (t : Target) : Type 0 where
 
 -- the world is the next one, and the rest is as it was
 pub record IsLaidNext (old new : LogState) (payload : List ℕ) : Type 0 where
-  pub world : laid payload (target old.chosen).held.world ≡ Some new.chosen.held.world
-  pub rest : new ≡ record old { chosen = record { second = old.chosen.second; place = old.chosen.place; held = record { generation = old.chosen.held.generation; number = old.chosen.held.number; count = old.chosen.held.count; last = old.chosen.held.last; world = new.chosen.held.world } } }
+  pub world : laid 2 payload (target old.chosen).held.world ≡ Some new.chosen.held.world
+  pub rest : new ≡ record old { chosen = record { second = old.chosen.second; place = old.chosen.place; held = record { version = old.chosen.held.version; generation = old.chosen.held.generation; number = old.chosen.held.number; count = old.chosen.held.count; last = old.chosen.held.last; world = new.chosen.held.world } } }
 
 -- the bytes of a batch: its records that differ from the world that it is laid over, which is the starting one where it opens a new
 -- generation
@@ -39,7 +40,7 @@ base_of log = if opens_new log.chosen.held then [] else log.chosen.held.world.ob
 
 -- the batch, laid over the world on which it stands, makes a world that hangs together with every value within its limits
 abbrev pub MakesWorld : LogState → Batch → Type 0
-MakesWorld log batch = (w : StoredWorld) × (laid (payload_of log batch) (target log.chosen).held.world ≡ Some w)
+MakesWorld log batch = (w : StoredWorld) × (laid 2 (payload_of log batch) (target log.chosen).held.world ≡ Some w)
 
 -- how many bytes the batch takes: gate, length, body and closed gate
 unfoldable pub more_of : LogState → List ℕ → ℕ
@@ -76,7 +77,7 @@ IsRefused old new batch (Damaged second at) = ⊥
 
 abbrev pub IsFinished : LogState → LogState → Target → ℕ → ℕ → Type 0
 IsFinished old new t number size = new ≡ record {
-  chosen = record { second = t.second; place = t.place + 9 + size; held = record { generation = t.generation; number = number; count = t.count + 1; last = t.place; world = old.chosen.held.world } };
+  chosen = record { second = t.second; place = t.place + 9 + size; held = record { version = 2; generation = t.generation; number = number; count = t.count + 1; last = t.place; world = old.chosen.held.world } };
   close = false;
   other_close = if t.opens then true else old.other_close;
   stale = old.stale;
@@ -88,7 +89,7 @@ abbrev pub LoadsEither : Chosen → Chosen → List ℕ → List ℕ → Type 0
 LoadsEither before after c d = IsEither before after (store_of c d)
 
 pub record IsNext (old new : LogState) (payload : List ℕ) : Type 0 where
-  pub makes : laid payload (target old.chosen).held.world ≡ Some new.chosen.held.world
+  pub makes : laid 2 payload (target old.chosen).held.world ≡ Some new.chosen.held.world
   pub chosen : new.chosen ≡ after_batch old.chosen payload new.chosen.held.world
   pub fresh : new.stale ≡ false
   pub limit : new.most ≡ old.most

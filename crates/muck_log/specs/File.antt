@@ -1,13 +1,15 @@
 -- The grammar of a file, read byte by byte.
-use Rattle.std.specs.Prelude.{◌==◌, ℕ, ◌+◌, ◌%◌, ◌^◌, Bool, false, Option, Some, None, Result, Ok, Err, List, [], ◌∷◌, ◌++◌, length, take, drop, nat_le, ◌&&◌, ◌||◌, if◌then◌else◌, option_and_then, option_map}
+use Rattle.std.specs.Prelude.{◌==◌, ℕ, ◌+◌, ◌-◌, ◌%◌, ◌^◌, Bool, false, Option, Some, None, Result, Ok, Err, List, [], ◌∷◌, ◌++◌, length, take, drop, nat_le, ◌&&◌, ◌||◌, if◌then◌else◌, option_and_then, option_map}
 use Rattle.std.specs.Int.{w64, from_be_bytes}
 use Rattle.muck_log.specs.Body.{Body, body_of}
 use Rattle.muck_log.specs.World.{StoredWorld, start, lost, laid}
+use Rattle.muck_log.specs.declared.body.Header.{Header}
 use Rattle.muck_log.specs.declared.reader.Mode.{Mode}
 use Rattle.muck_log.specs.declared.reader.Mode.TheVariants.{Gate, Size, Body as InBody, Shut, Broken}
 
 -- What the batches of a file make, so far.
 pub record Held : Type 0 where
+  pub version : ℕ  -- of their records
   pub generation : ℕ
   pub number : ℕ  -- of the last batch
   pub count : ℕ
@@ -18,14 +20,14 @@ pub record Held : Type 0 where
 unfoldable pub after_number : ℕ → ℕ
 after_number number = (number + 1) % 2 ^ 64
 
--- a batch of this generation and number may stand behind these
-unfoldable pub follows : Held → ℕ → ℕ → Bool
-follows held generation number = (generation == held.generation) && ((held.count == 0) || (number == after_number held.number))
+-- a batch of this version, generation and number may stand behind these
+unfoldable pub follows : Held → ℕ → ℕ → ℕ → Bool
+follows held version generation number = (version == held.version) && ((generation == held.generation) && ((held.count == 0) || (number == after_number held.number)))
 
 -- one batch more, whose gate is at this place
 unfoldable pub join : ℕ → Held → List ℕ → Option Held
-join place held bytes = option_and_then (λ (b : Body). if follows held b.generation b.number
-    then option_map (λ w. record { generation = held.generation; number = b.number; count = held.count + 1; last = place; world = w }) (laid b.payload held.world)
+join place held bytes = option_and_then (λ (b : Body). if follows held b.version b.generation b.number
+    then option_map (λ w. record { version = held.version; generation = held.generation; number = b.number; count = held.count + 1; last = place; world = w }) (laid b.version b.payload held.world)
     else None) (body_of bytes)
 
 -- A reading of a file so far.
@@ -39,12 +41,13 @@ pub record FileReading : Type 0 where
 unfoldable pub gate_at : ℕ → Held → FileReading
 gate_at place held = record { place = place; mode = Gate; size = 0; bytes = []; held = held }
 
-unfoldable pub begin : ℕ → Held
-begin generation = record { generation = generation; number = 0; count = 0; last = 0; world = start }
+-- what is held of a file that begins so, before its first batch
+unfoldable pub begin : Header → Held
+begin head = record { version = head.version; generation = head.generation; number = 0; count = 0; last = 0; world = start }
 
 -- what is held once a batch was outside the format
 unfoldable pub forgotten : Held
-forgotten = record { generation = 0; number = 0; count = 0; last = 0; world = lost }
+forgotten = record { version = 0; generation = 0; number = 0; count = 0; last = 0; world = lost }
 
 -- the length is whole
 abbrev pub length_read : FileReading → ℕ → FileReading
@@ -99,19 +102,27 @@ unfoldable pub is_gate_open : List ℕ → Bool
 is_gate_open (gate ∷ next ∷ file) = gate == 1
 is_gate_open file = false
 
--- the generation of an open file, where the first 25 bytes of its first body are there and parse
-unfoldable pub header : List ℕ → Option ℕ
+-- version and generation of a first body. Of version 1 it isn't the last generation: the next one has a number, too.
+abbrev pub header_of : Body → Option Header
+header_of b = if b.version == 1 && b.generation == 2 ^ 64 - 1 then None else Some (record { version = b.version; generation = b.generation })
+
+-- those of an open file, where the first 25 bytes of its first body are there and parse
+unfoldable pub header : List ℕ → Option Header
 header file = if nat_le 34 (length file) && nat_le 25 (from_be_bytes w64 (take 8 (drop 1 file)))
-    then option_map (λ (b : Body). b.generation) (body_of (take 25 (drop 9 file)))
+    then option_and_then header_of (body_of (take 25 (drop 9 file)))
     else None
+
+-- a file that is begun now
+abbrev pub header_written : ℕ → Header
+header_written generation = record { version = 2; generation = generation }
 
 -- An open file, read.
 pub record Opened : Type 0 where
-  pub generation : ℕ
+  pub head : Header
   pub ending : Result ReadingEnd ℕ
 
 -- a file: none where its first gate isn't open, and none in that where its header is bad
 unfoldable pub file_of : List ℕ → Option (Option Opened)
 file_of file = if is_gate_open file
-    then Some (option_map (λ g. record { generation = g; ending = reading_end (run (gate_at 0 (begin g)) file) }) (header file))
+    then Some (option_map (λ g. record { head = g; ending = reading_end (run (gate_at 0 (begin g)) file) }) (header file))
     else None

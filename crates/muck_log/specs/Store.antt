@@ -4,7 +4,7 @@ use Rattle.std.specs.Int.{w64, to_be_bytes}
 use Rattle.muck_disk.specs.Images.{Only}
 use Rattle.muck_log.specs.Body.{body_bytes}
 use Rattle.muck_log.specs.World.{StoredWorld}
-use Rattle.muck_log.specs.File.{Held, ReadingEnd, Opened, begin, file_of, after_number}
+use Rattle.muck_log.specs.File.{Held, ReadingEnd, Opened, begin, header_written, file_of, after_number}
 
 -- The batches of the chosen file.
 pub record Chosen : Type 0 where
@@ -21,14 +21,14 @@ file_loaded second (Ok end) = Ok (record { second = second; place = end.place; h
 file_loaded second (Err at) = Err (record { second = second; at = at })
 
 abbrev pub newer : Opened → Opened → Result Chosen Damage
-newer a b = if a.generation == b.generation then Err (record { second = true; at = 0 })
-    else (if nat_lt b.generation a.generation then file_loaded false a.ending else file_loaded true b.ending)
+newer a b = if a.head.generation == b.head.generation then Err (record { second = true; at = 0 })
+    else (if nat_lt b.head.generation a.head.generation then file_loaded false a.ending else file_loaded true b.ending)
 
 unfoldable pub file_picked : Option (Option Opened) → Option (Option Opened) → Result Chosen Damage
 file_picked (Some None) b = Err (record { second = false; at = 0 })
 file_picked None (Some None) = Err (record { second = true; at = 0 })
 file_picked (Some (Some a)) (Some None) = Err (record { second = true; at = 0 })
-file_picked None None = Ok (record { second = false; place = 0; held = begin 1 })
+file_picked None None = Ok (record { second = false; place = 0; held = begin (header_written 1) })
 file_picked (Some (Some a)) None = file_loaded false a.ending
 file_picked None (Some (Some b)) = file_loaded true b.ending
 file_picked (Some (Some a)) (Some (Some b)) = newer a b
@@ -46,13 +46,13 @@ store_of a b = file_picked (file_of a) (file_of b)
 unfoldable pub must_close : ℕ → List ℕ → Bool
 must_close place file = nat_le (length file) place || (get_or file place 0 == 1)
 
--- a dump opens a new generation in the other file
+-- a dump opens a new generation in the other file: behind batches of version 1, or behind 64 where there is a next one
 unfoldable pub opens_new : Held → Bool
-opens_new held = nat_le 64 held.count && nat_lt held.generation (2 ^ 64 - 1)
+opens_new held = held.version == 1 || (nat_le 64 held.count && nat_lt held.generation (2 ^ 64 - 1))
 
 -- where the next batch goes: file, place and what stands before it there
 unfoldable pub target : Chosen → Chosen
-target s = if opens_new s.held then record { second = not s.second; place = 0; held = begin (s.held.generation + 1) } else s
+target s = if opens_new s.held then record { second = not s.second; place = 0; held = begin (header_written (s.held.generation + 1)) } else s
 
 -- the next batch of the store
 unfoldable pub next_body : Chosen → List ℕ → List ℕ
@@ -63,7 +63,7 @@ unfoldable pub after_batch : Chosen → List ℕ → StoredWorld → Chosen
 after_batch s payload world = let t = target s in record {
   second = t.second;
   place = t.place + 9 + length (next_body s payload);
-  held = record { generation = t.held.generation; number = after_number s.held.number; count = t.held.count + 1; last = t.place; world = world };
+  held = record { version = t.held.version; generation = t.held.generation; number = after_number s.held.number; count = t.held.count + 1; last = t.place; world = world };
 }
 
 -- length, body and closed gate, which stand behind a gate

@@ -106,9 +106,9 @@ batch_if (Ok b) = Some b
 batch_if (Err left) = None
 
 -- The one place where the grammar of records, their limits and the world come in: the world with these bytes laid over it, or none
--- where they are no batch to their end, or don't leave such a world.
-unfoldable pub laid : List ℕ → StoredWorld → Option StoredWorld
-laid payload world = option_and_then (λ b. laid_over b world) (batch_if (whole_batch 1 payload))
+-- where they are no batch of that version to their end, or don't leave such a world.
+unfoldable pub laid : ℕ → List ℕ → StoredWorld → Option StoredWorld
+laid version payload world = option_and_then (λ b. laid_over b world) (batch_if (whole_batch version payload))
 
 -- What is written.
 

@@ -6,6 +6,7 @@ ghost use Rattle.muck_model.specs.Bytes.{text_fault};
 ghost use Rattle.muck_codec.specs.Spelling.{spelling};
 ghost use Rattle.muck_codec.specs.inner.Stored.{IsStored, IsTune};
 ghost use Rattle.muck_codec.specs.Batches.{batch_bytes};
+ghost use Rattle.muck_log.specs.Body.{is_version};
 ghost use Rattle.muck_log.specs.World.{StoredWorld, stored_room_zero, first_digest, stored_player_one, start, lost, is_fine, IsFine, record_placed, all_placed, laid, kept_record, differs, records_written};
 ghost use Rattle.muck_store.specs.Limits.{record_fits};
 ghost use Rattle.muck_log.specs.inner.Head.{IsLaid, IsPut, IsPlaced, ArePlaced};
@@ -36,7 +37,7 @@ impl Model for Kept {
 
     ghost view = { λ w. record { objects = w.objects.items; tune = w.tune } };
 
-    ghost invariant = { λ w. All IsStored w.objects.items };
+    ghost invariant = { λ w. All (IsStored 2) w.objects.items };
 }
 
 // A text of these bytes, which are one.
@@ -130,7 +131,7 @@ fn is_fine(alloc: Global, objects: &[Stored], tune: &Tune) -> Result<bool, NoMem
 #[tactic(auto, unfolding(crate::specs::World::record_placed))]
 fn place(objects: &mut Vec<Stored>, object: Stored) -> Result<bool, NoMemory>
     ensures placed { IfOk result (λ yes. IsPlaced yes object objects.old.items objects.new.items) }
-    ensures stored { IsStored object → All IsStored objects.old.items → All IsStored objects.new.items }
+    ensures stored { IsStored 2 object → All (IsStored 2) objects.old.items → All (IsStored 2) objects.new.items }
 {
     if object.dbref.0 < 0 {
         return Ok(false);
@@ -150,7 +151,7 @@ fn place(objects: &mut Vec<Stored>, object: Stored) -> Result<bool, NoMemory>
 // Puts these records in their places, the last one first; false where one has none.
 fn place_all(objects: &mut Vec<Stored>, records: Vec<Stored>) -> Result<bool, NoMemory>
     ensures placed { IfOk result (λ yes. ArePlaced yes (reverse records.items) objects.old.items objects.new.items) }
-    ensures stored { All IsStored (reverse records.items) → All IsStored objects.old.items → All IsStored objects.new.items }
+    ensures stored { All (IsStored 2) (reverse records.items) → All (IsStored 2) objects.old.items → All (IsStored 2) objects.new.items }
 {
     let mut left = records;
     while let Some(object) = left.pop() {
@@ -196,7 +197,7 @@ impl Kept {
     /// The record of each object, by its number from 0 on.
     pub fn objects(&self) -> &[Stored]
         ensures objects { result.now ≡ self.now.objects }
-        ensures storable { All IsStored self.now.objects }
+        ensures storable { All (IsStored 2) self.now.objects }
     {
         &self.objects
     }
@@ -211,7 +212,7 @@ impl Kept {
     // Puts the records and the parameters of a batch over it; false where that can't be, and nothing is said of it then.
     #[tactic(auto, unfolding(crate::specs::World::laid_over))]
     fn put(&mut self, batch: Batch) -> Result<bool, NoMemory>
-        requires storable { All IsStored batch.records }
+        requires storable { All (IsStored 2) batch.records }
         ensures { IfOk result (λ yes. IsPut yes batch self.old self.new) }
     {
         let Batch { records, tune } = batch;
@@ -222,13 +223,14 @@ impl Kept {
         Ok(true)
     }
 
-    // Lays the bytes of a batch over it; false where that can't be, and nothing is said of it then.
-    #[tactic(auto, unfolding(crate::specs::World::laid))]
-    pub(crate) fn lay(&mut self, payload: &[u8]) -> Result<bool, NoMemory>
-        ensures laid { IfOk result (λ yes. IsLaid yes payload.now self.old self.new) }
+    // Lays the bytes of a batch of that version over it; false where that can't be, and nothing is said of it then.
+    #[tactic(auto, using(crate::proofs::Known::all_second), unfolding(crate::specs::World::laid))]
+    pub(crate) fn lay(&mut self, version: u8, payload: &[u8]) -> Result<bool, NoMemory>
+        requires { is_version version ≡ true }
+        ensures laid { IfOk result (λ yes. IsLaid yes version payload.now self.old self.new) }
         ensures fine { IfOk result (λ yes. yes ≡ true → IsFine self.new) }
     {
-        let batch = match take_batch(self.alloc, 1, payload) {
+        let batch = match take_batch(self.alloc, version, payload) {
             Ok(batch) => batch,
             Err(CodecFault::BadRecord { .. }) => return Ok(false),
             Err(CodecFault::NoMemory) => return Err(NoMemory),
@@ -243,9 +245,9 @@ impl Kept {
     // nothing of the world is judged.
     pub(crate) fn lay_known(&mut self, batch: Batch) -> Result<(), NoMemory>
         requires few { length batch.records < 2 ^ 32 }
-        requires storable { All IsStored batch.records }
-        requires makes { (w : StoredWorld) × (laid (batch_bytes batch.records batch.tune) self.old ≡ Some w) }
-        ensures laid { OnOk result (laid (batch_bytes batch.records batch.tune) self.old ≡ Some self.new) }
+        requires storable { All (IsStored 2) batch.records }
+        requires makes { (w : StoredWorld) × (laid 2 (batch_bytes batch.records batch.tune) self.old ≡ Some w) }
+        ensures laid { OnOk result (laid 2 (batch_bytes batch.records batch.tune) self.old ≡ Some self.new) }
         ensures fine { OnOk result (IsFine self.new) }
     {
         see_tune(batch.tune);
@@ -278,15 +280,15 @@ fn is_kept(objects: &[Stored], object: &Stored) -> bool
 // Whether a record differs from what is kept of its object.
 #[tactic(auto, using(crate::proofs::Differing::kept_differs))]
 fn is_written(objects: &[Stored], object: &Stored) -> bool
-    ensures { All IsStored objects.now → IsStored object.now → result ≡ differs objects.now object.now }
+    ensures { All (IsStored 2) objects.now → IsStored 2 object.now → result ≡ differs objects.now object.now }
 {
     !is_kept(objects, object)
 }
 
 // Leaves out the records that are what is kept of their objects. It takes no memory.
 fn leave_out_kept(objects: &[Stored], records: &mut Vec<Stored>)
-    requires kept { All IsStored objects.now }
-    requires storable { All IsStored records.old.items }
+    requires kept { All (IsStored 2) objects.now }
+    requires storable { All (IsStored 2) records.old.items }
     ensures { records.new.items ≡ records_written objects.now records.old.items }
 {
     records.retain(|object| is_written(objects, object));
@@ -296,12 +298,12 @@ impl Kept {
     // What is written of a batch that is laid over it: its records that differ from what is kept. It takes no memory.
     #[tactic(auto, using(crate::proofs::Written::few))]
     pub(crate) fn leave_out(&self, batch: Batch) -> Batch
-        requires storable { All IsStored batch.records }
+        requires storable { All (IsStored 2) batch.records }
         ensures records { result.records ≡ records_written self.now.objects batch.records }
         ensures tune { result.tune ≡ batch.tune }
         ensures few { length result.records ≤ length batch.records }
-        ensures storable { All IsStored result.records }
-        ensures kept { All IsStored self.now.objects }
+        ensures storable { All (IsStored 2) result.records }
+        ensures kept { All (IsStored 2) self.now.objects }
     {
         let Batch { records, tune } = batch;
         let mut records = records.into_vec();
@@ -315,7 +317,7 @@ impl Kept {
 
 // Writes these records.
 fn put_records(alloc: Global, records: &[Stored], out: &mut Vec<u8>) -> Result<(), NoMemory>
-    requires { All IsStored records.now }
+    requires { All (IsStored 2) records.now }
     ensures { OnOk result (out.new.items ≡ out.old.items ++ flat_map spelling records.now) }
 {
     for object in records {
@@ -328,7 +330,7 @@ fn put_records(alloc: Global, records: &[Stored], out: &mut Vec<u8>) -> Result<(
 #[tactic(auto, unfolding(muck_codec::specs::Batches::batch_bytes))]
 pub(crate) fn payload(alloc: Global, batch: &Batch) -> Result<Vec<u8>, NoMemory>
     requires few { length batch.now.records < 2 ^ 32 }
-    requires storable { All IsStored batch.now.records }
+    requires storable { All (IsStored 2) batch.now.records }
     ensures { IfOk result (λ v. v.items ≡ batch_bytes batch.now.records batch.now.tune) }
 {
     let count = batch.records.len() as u32;

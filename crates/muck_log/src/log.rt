@@ -9,7 +9,7 @@ ghost use Rattle.muck_model.specs.declared.tune.Tune.{Tune};
 ghost use Rattle.spec_live.specs.Objects.{Entry as WorldEntry};
 ghost use Rattle.muck_store.specs.inner.Changes.{LeavesOut};
 ghost use Rattle.muck_store.specs.Forms.{persist};
-ghost use Rattle.muck_log.specs.File.{after_number, begin};
+ghost use Rattle.muck_log.specs.File.{after_number, begin, header_written};
 ghost use Rattle.muck_log.specs.inner.Mount.{IsLoaded, IsLoadFault};
 ghost use Rattle.muck_log.specs.Store.{LeavesBoth, MayBeAt, IsMounted, LogState, target, opens_new, next_body, after_batch, store_of, framed, pick, IsDone};
 ghost use Rattle.muck_log.specs.Append.{IsEither, IsAppended, IsLaidNext, IsTarget, IsReady, IsRefused, IsFinished, IsNext, IsTouching, LoadsEither, MakesWorld, base_of, payload_of};
@@ -32,6 +32,7 @@ pub struct Log {
     alloc: Global,
     second: bool,
     place: u64,
+    version: u8,
     generation: u64,
     number: u64,
     count: u64,
@@ -47,12 +48,13 @@ impl Model for Log {
     ghost use Rattle.std.specs.Prelude.{◌≡◌, ◌≤◌, ◌<◌, ◌^◌, false};
     ghost use Rattle.muck_log.specs.Store.{LogState};
     ghost use Rattle.muck_log.specs.World.{IsFine};
+    ghost use Rattle.muck_log.specs.inner.Head.{HasVersion};
 
     ghost Value = { LogState };
 
-    ghost view = { λ l. record { chosen = record { second = l.second; place = l.place; held = record { generation = l.generation; number = l.number; count = l.count; last = l.last; world = l.world } }; close = l.close; other_close = l.other_close; stale = l.stale; most = l.most } };
+    ghost view = { λ l. record { chosen = record { second = l.second; place = l.place; held = record { version = l.version; generation = l.generation; number = l.number; count = l.count; last = l.last; world = l.world } }; close = l.close; other_close = l.other_close; stale = l.stale; most = l.most } };
 
-    ghost invariant = { λ l. (l.count ≤ l.place) × (l.most < 2 ^ 63) × (l.generation < 2 ^ 64) × (l.stale ≡ false → IsFine l.world) };
+    ghost invariant = { λ l. (l.count ≤ l.place) × (l.most < 2 ^ 63) × (l.generation < 2 ^ 64) × HasVersion l.version l.generation × (l.stale ≡ false → IsFine l.world) };
 }
 
 // Where the next batch goes.
@@ -84,7 +86,7 @@ fn encode(
 ) -> Result<Vec<u8>, AllocError>
     ensures { IfOk result (λ v. v.items ≡ body_bytes generation number payload.now) }
 {
-    let mut body = Vec::from_slice(alloc, b"MUCK\x01")?;
+    let mut body = Vec::from_slice(alloc, b"MUCK\x02")?;
     body.extend_from_slice(&generation.to_be_bytes())?;
     body.extend_from_slice(&number.to_be_bytes())?;
     body.extend_from_slice(payload)?;
@@ -102,13 +104,13 @@ fn frame(alloc: Global, body: &[u8]) -> Result<Vec<u8>, AllocError>
 }
 
 impl Log {
-    /// Whether the next batch opens a new generation in the other file, and so is laid over the starting world. It takes no
-    /// memory.
+    /// Whether the next batch opens a new generation in the other file, and so is laid over the starting world: where what is
+    /// kept is of version 1, or has 64 batches and a next generation. It takes no memory.
     #[tactic(auto, unfolding(crate::specs::Store::opens_new))]
     pub fn opens_new(&self) -> bool
         ensures { result ≡ opens_new self.now.chosen.held }
     {
-        self.count >= 64 && self.generation < u64::MAX
+        self.version == 1 || self.count >= 64 && self.generation < u64::MAX
     }
 
     // The log of an empty store.
@@ -120,7 +122,7 @@ impl Log {
         most: u64,
     ) -> Result<Log, NoMemory>
         requires { most < 2 ^ 63 }
-        ensures empty { IfOk result (λ log. log ≡ record { chosen = record { second = false; place = 0; held = begin 1 }; close = close; other_close = other_close; stale = false; most = most }) }
+        ensures empty { IfOk result (λ log. log ≡ record { chosen = record { second = false; place = 0; held = begin (header_written 1) }; close = close; other_close = other_close; stale = false; most = most }) }
         ensures fine { IfOk result (λ log. IsFine log.chosen.held.world) }
     {
         let world = Kept::starting(alloc)?;
@@ -128,6 +130,7 @@ impl Log {
             alloc,
             second: false,
             place: 0,
+            version: 2,
             generation: 1,
             number: 0,
             count: 0,
@@ -159,6 +162,7 @@ impl Log {
                 alloc,
                 second,
                 place: parts.place,
+                version: parts.version,
                 generation: parts.generation,
                 number: parts.number,
                 count: parts.count,
@@ -188,7 +192,7 @@ impl Log {
         self.number.wrapping_add(1)
     }
 
-    #[tactic(auto, unfolding(crate::specs::Store::target, crate::specs::File::begin, crate::specs::Store::opens_new))]
+    #[tactic(auto, using(crate::proofs::Known::opens_next, crate::proofs::Known::stays_second), unfolding(crate::specs::Store::target, crate::specs::File::begin))]
     fn target(&self) -> Target
         ensures target { IsTarget self.now result }
         ensures count { result.count ≤ result.place }
@@ -219,8 +223,8 @@ impl Log {
     fn lay_next(&mut self, batch: Batch) -> Result<(), NoMemory>
         requires fresh { self.old.stale ≡ false }
         requires few { length batch.records < 2 ^ 32 }
-        requires storable { All IsStored batch.records }
-        requires makes { (w : StoredWorld) × (laid (batch_bytes batch.records batch.tune) (target self.old.chosen).held.world ≡ Some w) }
+        requires storable { All (IsStored 2) batch.records }
+        requires makes { (w : StoredWorld) × (laid 2 (batch_bytes batch.records batch.tune) (target self.old.chosen).held.world ≡ Some w) }
         ensures { OnOk result (IsLaidNext self.old self.new (batch_bytes batch.records batch.tune)) }
     {
         let opens = self.opens_new();
@@ -238,7 +242,7 @@ impl Log {
     #[tactic(auto, unfolding(crate::specs::Append::base_of))]
     pub fn base(&self) -> &[Stored]
         ensures base { result.now ≡ base_of self.now }
-        ensures storable { All IsStored result.now }
+        ensures storable { All (IsStored 2) result.now }
     {
         if self.opens_new() {
             return &[];
@@ -249,11 +253,11 @@ impl Log {
     // What is written of a batch: its records that differ from the world that it is laid over.
     #[tactic(auto, unfolding(crate::specs::Append::payload_of, crate::specs::Store::target, crate::specs::File::begin))]
     fn leave_out(&self, batch: Batch) -> Result<Batch, NoMemory>
-        requires storable { All IsStored batch.records }
+        requires storable { All (IsStored 2) batch.records }
         ensures bytes { IfOk result (λ left. batch_bytes left.records left.tune ≡ payload_of self.now batch) }
         ensures few { IfOk result (λ left. length left.records ≤ length batch.records) }
-        ensures storable { IfOk result (λ left. All IsStored left.records) }
-        ensures kept { OnOk result (All IsStored (target self.now.chosen).held.world.objects) }
+        ensures storable { IfOk result (λ left. All (IsStored 2) left.records) }
+        ensures kept { OnOk result (All (IsStored 2) (target self.now.chosen).held.world.objects) }
     {
         if self.opens_new() {
             return Ok(Kept::starting(self.alloc)?.leave_out(batch));
@@ -265,10 +269,10 @@ impl Log {
     #[tactic(auto, unfolding(crate::specs::Append::more_of, crate::specs::Store::next_body))]
     fn prepare(&mut self, batch: Batch) -> Result<Ready, LogFault>
         requires few { length batch.records < 2 ^ 32 }
-        requires storable { All IsStored batch.records }
+        requires storable { All (IsStored 2) batch.records }
         requires makes { self.old.stale ≡ false → MakesWorld self.old batch }
         ensures ok { IfOk result (λ ready. IsReady self.old self.new (payload_of self.old batch) ready) }
-        ensures kept { OnOk result (All IsStored (target self.old.chosen).held.world.objects) }
+        ensures kept { OnOk result (All (IsStored 2) (target self.old.chosen).held.world.objects) }
         ensures err { IfErr result (λ fault. IsRefused self.old self.new batch fault) }
     {
         if self.stale {
@@ -298,6 +302,7 @@ impl Log {
     }
 
     // The batch is written.
+    #[tactic(auto, using(crate::proofs::Known::second_known))]
     fn finish(&mut self, target: Target, number: u64, size: u64)
         requires room { target.place + 10 + size < 2 ^ 63 }
         requires count { target.count ≤ target.place }
@@ -305,6 +310,7 @@ impl Log {
     {
         self.second = target.second;
         self.place = target.place + 9 + size;
+        self.version = 2;
         self.generation = target.generation;
         self.number = number;
         self.count = target.count + 1;
@@ -339,15 +345,15 @@ impl Log {
         batch: Batch,
     ) -> Result<u64, LogFault>
         requires few { length batch.records < 2 ^ 32 }
-        requires storable { All IsStored batch.records }
+        requires storable { All (IsStored 2) batch.records }
         requires makes { self.old.stale ≡ false → MakesWorld self.old batch }
         requires mounted { D.tells ≡ true → self.old.stale ≡ false → IsMounted D.seen D.moment D.images self.old first.old second.old }
         ensures answer { IsAppended self.old self.new batch result }
         ensures whole { IsTouching result → (es : List WorldEntry) (tune : Tune) → LeavesOut (base_of self.old) (persist es) batch.records → batch.tune ≡ tune → tune_fits tune ≡ true → 2 ≤ length es
-            → length self.old.chosen.held.world.objects ≤ length es → laid (payload_of self.old batch) (target self.old.chosen).held.world ≡ Some (record { objects = persist es; tune = tune }) }
+            → length self.old.chosen.held.world.objects ≤ length es → laid 2 (payload_of self.old batch) (target self.old.chosen).held.world ≡ Some (record { objects = persist es; tune = tune }) }
         ensures chosen { OnOk result (IsNext self.old self.new (payload_of self.old batch)) }
         ensures mounted { D.tells ≡ true → OnOk result (IsMounted D.seen D.moment D.images self.new first.new second.new) }
-        ensures any { D.tells ≡ true → self.old.stale ≡ false → (w : StoredWorld) → laid (payload_of self.old batch) (target self.old.chosen).held.world ≡ Some w
+        ensures any { D.tells ≡ true → self.old.stale ≡ false → (w : StoredWorld) → laid 2 (payload_of self.old batch) (target self.old.chosen).held.world ≡ Some w
             → LeavesBoth D.moment D.images first.old second.old first.new second.new (LoadsEither self.old.chosen (after_batch self.old.chosen (payload_of self.old batch) w)) }
         ensures other { pick (target self.old.chosen).second second.new first.new ≡ pick (target self.old.chosen).second second.old first.old }
         ensures untouched { IsTouching result ⊎ ((first.new ≡ first.old) × (second.new ≡ second.old)) }

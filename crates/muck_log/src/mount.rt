@@ -5,9 +5,11 @@ ghost use Rattle.muck_io.specs.Faults.{Rose};
 ghost use Rattle.muck_log.specs.File.{gate_at, begin, run, reached, is_gate_open};
 ghost use Rattle.muck_log.specs.Store.{LeavesOnly, LeavesBoth, must_close, pick};
 ghost use Rattle.muck_log.specs.World.{IsFine, is_fine};
-ghost use Rattle.muck_log.specs.inner.Mount.{IsLook, IsFirst, choice, IsMountedAs, IsMountFault};
+ghost use Rattle.muck_log.specs.Body.{is_version};
+ghost use Rattle.muck_log.specs.inner.Head.{HasVersion};
+ghost use Rattle.muck_log.specs.inner.Mount.{IsLook, IsFirst, IsKnown, MayLoad, begun, choice, IsMountedAs, IsMountFault};
 
-use crate::body::{head_of, word_at};
+use crate::body::{Head, Header, head_of, word_at};
 use crate::reader::Reader;
 use crate::{Log, LogFault};
 use muck_disk::{Disk, DiskFault};
@@ -18,7 +20,7 @@ use std::alloc::{AllocError, Global};
 pub enum First {
     Shut,
     Bad,
-    Open(u64),
+    Open(Header),
 }
 
 // The first 34 bytes of a file, judged.
@@ -30,7 +32,8 @@ pub struct Look {
 
 #[tactic(auto, unfolding(crate::specs::Store::must_close, crate::specs::File::is_gate_open, crate::specs::File::header))]
 fn look_at(bytes: &[u8]) -> Look
-    ensures { IsLook result bytes.now }
+    ensures look { IsLook result bytes.now }
+    ensures known { IsKnown result.first }
 {
     if bytes.is_empty() {
         return Look {
@@ -56,16 +59,32 @@ fn look_at(bytes: &[u8]) -> Look
     }
 }
 
+// A file that begins so. In version 1 the last generation is none, since no next one would have a number.
+fn begun(head: Head) -> First
+    requires { is_version head.version ≡ true }
+    ensures begun { result ≡ begun head }
+    ensures known { IsKnown result }
+{
+    if head.version == 1 && head.generation == u64::MAX {
+        return First::Bad;
+    }
+    First::Open(Header {
+        version: head.version,
+        generation: head.generation,
+    })
+}
+
 #[tactic(auto, unfolding(crate::specs::File::header))]
 fn first_of(bytes: &[u8]) -> First
     requires { is_gate_open bytes.now ≡ true }
-    ensures { IsFirst result bytes.now }
+    ensures first { IsFirst result bytes.now }
+    ensures known { IsKnown result }
 {
     if bytes.len() < 34 || word_at(bytes, 1) < 25 {
         return First::Bad;
     }
     match head_of(bytes.split_at(9).1.split_at(25).0) {
-        Some(head) => First::Open(head.generation),
+        Some(head) => begun(head),
         None => First::Bad,
     }
 }
@@ -75,11 +94,14 @@ fn first_of(bytes: &[u8]) -> First
 pub enum Choice {
     Damaged(bool),
     Empty,
-    Load(bool, u64),
+    Load(bool, Header),
 }
 
 fn choose(a: First, b: First) -> Choice
-    ensures { result ≡ choice a b }
+    requires first { IsKnown a }
+    requires second { IsKnown b }
+    ensures choice { result ≡ choice a b }
+    ensures known { MayLoad result }
 {
     match (a, b) {
         (First::Bad, _) => Choice::Damaged(false),
@@ -88,9 +110,9 @@ fn choose(a: First, b: First) -> Choice
         (First::Open(g), First::Shut) => Choice::Load(false, g),
         (First::Shut, First::Open(h)) => Choice::Load(true, h),
         (First::Open(g), First::Open(h)) => {
-            if g == h {
+            if g.generation == h.generation {
                 Choice::Damaged(true)
-            } else if h < g {
+            } else if h.generation < g.generation {
                 Choice::Load(false, g)
             } else {
                 Choice::Load(true, h)
@@ -102,6 +124,7 @@ fn choose(a: First, b: First) -> Choice
 // Reads the first bytes.
 fn read_first<D: Disk>(disk: &mut D) -> Result<Look, DiskFault>
     ensures look { D.tells ≡ true → IfOk result (λ look. IsLook look (D.seen disk.old)) }
+    ensures known { IfOk result (λ look. IsKnown look.first) }
     ensures attached { D.attached disk.new ≡ D.attached disk.old }
     ensures seen { D.tells ≡ true → D.seen disk.new ≡ D.seen disk.old }
     ensures any { D.tells ≡ true → LeavesOnly D.moment D.images disk.old disk.new (D.images disk.old (D.moment disk.old)) }
@@ -141,8 +164,9 @@ fn piece<D: Disk>(disk: &mut D, at: u64, size: u64, buf: &mut [u8]) -> Result<us
 }
 
 // Reads a file from its start to where its row of batches ends.
-fn read_all<D: Disk>(alloc: Global, disk: &mut D, generation: u64) -> Result<Reader, LogFault>
-    ensures reads { D.tells ≡ true → IfOk result (λ r. r ≡ run (gate_at 0 (begin generation)) (D.seen disk.old)) }
+fn read_all<D: Disk>(alloc: Global, disk: &mut D, head: Header) -> Result<Reader, LogFault>
+    requires { HasVersion head.version head.generation }
+    ensures reads { D.tells ≡ true → IfOk result (λ r. r ≡ run (gate_at 0 (begin head)) (D.seen disk.old)) }
     ensures err { IfErr result (λ e. (e ≡ LogFault.NoMemory) ⊎ (e ≡ LogFault.DiskFault)) }
     ensures attached { D.attached disk.new ≡ D.attached disk.old }
     ensures seen { D.tells ≡ true → D.seen disk.new ≡ D.seen disk.old }
@@ -150,7 +174,7 @@ fn read_all<D: Disk>(alloc: Global, disk: &mut D, generation: u64) -> Result<Rea
     ensures later { D.faults disk.old ≤ D.faults disk.new }
     ensures cause { IsErrOf result LogFault.DiskFault → Rose (D.faults disk.old) (D.faults disk.new) }
 {
-    let mut reader = Reader::new(alloc, generation)?;
+    let mut reader = Reader::new(alloc, head)?;
     let mut buf = buffer(alloc)?;
     let size = disk.size()?;
     let mut at: u64 = 0;
@@ -171,9 +195,10 @@ fn read_chosen<D: Disk>(
     first: &mut D,
     second: &mut D,
     at: bool,
-    generation: u64,
+    head: Header,
 ) -> Result<Reader, LogFault>
-    ensures reads { D.tells ≡ true → IfOk result (λ r. r ≡ run (gate_at 0 (begin generation)) (pick at (D.seen first.old) (D.seen second.old))) }
+    requires { HasVersion head.version head.generation }
+    ensures reads { D.tells ≡ true → IfOk result (λ r. r ≡ run (gate_at 0 (begin head)) (pick at (D.seen first.old) (D.seen second.old))) }
     ensures err { IfErr result (λ e. (e ≡ LogFault.NoMemory) ⊎ (e ≡ LogFault.DiskFault)) }
     ensures first_attached { D.attached first.new ≡ D.attached first.old }
     ensures second_attached { D.attached second.new ≡ D.attached second.old }
@@ -186,9 +211,9 @@ fn read_chosen<D: Disk>(
     ensures cause { IsErrOf result LogFault.DiskFault → Rose (D.faults first.old) (D.faults first.new) ⊎ Rose (D.faults second.old) (D.faults second.new) }
 {
     if at {
-        return Ok(read_all(alloc, second, generation)?);
+        return Ok(read_all(alloc, second, head)?);
     }
-    Ok(read_all(alloc, first, generation)?)
+    Ok(read_all(alloc, first, head)?)
 }
 
 impl Log {
@@ -268,8 +293,8 @@ fn mount_synced<D: Disk>(
     match choose(a.first, b.first) {
         Choice::Damaged(at) => Err(LogFault::Damaged { second: at, at: 0 }),
         Choice::Empty => Ok(Log::empty(alloc, a.close, b.close, most)?),
-        Choice::Load(at, generation) => {
-            let reader = read_chosen(alloc, first, second, at, generation)?;
+        Choice::Load(at, head) => {
+            let reader = read_chosen(alloc, first, second, at, head)?;
             let other_close = other_of(at, a.close, b.close);
             match Log::loaded(alloc, reader, at, other_close, most) {
                 Ok(log) => Ok(log),

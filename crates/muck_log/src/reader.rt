@@ -2,11 +2,11 @@
 ghost use Rattle.std.specs.Prelude.{◌≡◌, ◌≤◌, ◌<◌, ◌+◌, ◌-◌, ◌^◌, List, ℕ, length, take, true, OnOk, IfOk, IfErr};
 ghost use Rattle.muck_log.specs.File.{gate_at, begin, byte_step, run, reached, length_read, body_judged, forgotten, join, follows};
 ghost use Rattle.muck_log.specs.declared.reader.Mode.TheVariants.{Broken};
-ghost use Rattle.muck_log.specs.inner.Head.{IsJoined, IsParts, is_over};
+ghost use Rattle.muck_log.specs.inner.Head.{HasVersion, IsJoined, IsParts, is_over};
 ghost use Rattle.muck_log.specs.World.{IsFine};
 ghost use Rattle.std.specs.Int.{w64, from_be_bytes};
 
-use crate::body::{Head, head_of, word_at};
+use crate::body::{Head, Header, head_of, word_at};
 use crate::{Kept, LogFault};
 use std::alloc::Global;
 use std::marker::Model;
@@ -28,6 +28,7 @@ pub struct Reader {
     mode: Mode,
     size: u64,
     bytes: Vec<u8>,
+    version: u8,
     generation: u64,
     number: u64,
     count: u64,
@@ -38,19 +39,20 @@ pub struct Reader {
 impl Model for Reader {
     ghost use Rattle.std.specs.Prelude.{◌≤◌};
     ghost use Rattle.muck_log.specs.File.{FileReading};
-    ghost use Rattle.muck_log.specs.inner.Head.{IsFineIn};
+    ghost use Rattle.muck_log.specs.inner.Head.{IsFineIn, HasVersionIn};
 
     ghost Value = { FileReading };
 
-    ghost view = { λ r. record { place = r.place; mode = r.mode; size = r.size; bytes = r.bytes.items; held = record { generation = r.generation; number = r.number; count = r.count; last = r.last; world = r.world } } };
+    ghost view = { λ r. record { place = r.place; mode = r.mode; size = r.size; bytes = r.bytes.items; held = record { version = r.version; generation = r.generation; number = r.number; count = r.count; last = r.last; world = r.world } } };
 
-    ghost invariant = { λ r. (r.count ≤ r.place) × IsFineIn r.mode r.world };
+    ghost invariant = { λ r. (r.count ≤ r.place) × IsFineIn r.mode r.world × HasVersionIn r.mode r.version r.generation };
 }
 
 impl Reader {
     #[tactic(auto, unfolding(crate::specs::File::gate_at, crate::specs::File::begin))]
-    pub(crate) fn new(alloc: Global, generation: u64) -> Result<Reader, LogFault>
-        ensures ok { IfOk result (λ r. r ≡ gate_at 0 (begin generation)) }
+    pub(crate) fn new(alloc: Global, head: Header) -> Result<Reader, LogFault>
+        requires { HasVersion head.version head.generation }
+        ensures ok { IfOk result (λ r. r ≡ gate_at 0 (begin head)) }
         ensures err { IfErr result (λ e. e ≡ LogFault.NoMemory) }
     {
         let world = Kept::starting(alloc)?;
@@ -59,7 +61,8 @@ impl Reader {
             mode: Mode::Gate,
             size: 0,
             bytes: Vec::new(alloc),
-            generation,
+            version: head.version,
+            generation: head.generation,
             number: 0,
             count: 0,
             last: 0,
@@ -107,6 +110,7 @@ impl Reader {
     fn sized(&mut self)
         requires whole { length self.old.bytes ≡ 8 }
         requires fine { IsFine self.old.held.world }
+        requires known { HasVersion self.old.held.version self.old.held.generation }
         ensures { self.new ≡ length_read self.old (from_be_bytes w64 self.old.bytes) }
     {
         let size = word_at(&self.bytes, 0);
@@ -121,9 +125,10 @@ impl Reader {
 
     #[tactic(auto, unfolding(crate::specs::File::follows, crate::specs::File::after_number))]
     fn follows(&self, head: Head) -> bool
-        ensures { result ≡ follows self.now.held head.generation head.number }
+        ensures { result ≡ follows self.now.held head.version head.generation head.number }
     {
-        head.generation == self.generation
+        head.version == self.version
+            && head.generation == self.generation
             && (self.count == 0 || head.number == self.number.wrapping_add(1))
     }
 
@@ -143,7 +148,7 @@ impl Reader {
         }
         let mode = self.mode;
         self.mode = Mode::Broken;
-        if !self.world.lay(self.bytes.split_at(21).1)? {
+        if !self.world.lay(head.version, self.bytes.split_at(21).1)? {
             return Ok(false);
         }
         self.mode = mode;
@@ -178,6 +183,7 @@ impl Reader {
     {
         self.mode = Mode::Broken;
         self.size = 0;
+        self.version = 0;
         self.generation = 0;
         self.number = 0;
         self.count = 0;
@@ -190,6 +196,7 @@ impl Reader {
 #[derive(Drop)]
 pub struct Parts {
     pub(crate) place: u64,
+    pub(crate) version: u8,
     pub(crate) generation: u64,
     pub(crate) number: u64,
     pub(crate) count: u64,
@@ -249,6 +256,7 @@ impl Reader {
     pub fn finish(self) -> Result<Parts, u64>
         ensures parts { IsParts self result }
         ensures fine { IfOk result (λ parts. IsFine parts.world) }
+        ensures known { IfOk result (λ parts. HasVersion parts.version parts.generation) }
     {
         let close = self.mode != Mode::Shut;
         let ends = match self.mode {
@@ -261,6 +269,7 @@ impl Reader {
         if ends {
             return Ok(Parts {
                 place: self.place,
+                version: self.version,
                 generation: self.generation,
                 number: self.number,
                 count: self.count,

@@ -1,5 +1,5 @@
-use Rattle.std.specs.Prelude.{◌≡◌, ℕ, ◌+◌, Bool, true, false, Option, Some, None, List, option_map, Result, Ok, Err, not, ◌≤◌}
-use Rattle.muck_log.specs.Body.{Body, body_of}
+use Rattle.std.specs.Prelude.{◌≡◌, ℕ, ◌+◌, Bool, true, false, Option, Some, None, List, option_map, Result, Ok, Err, not, ◌≤◌, ◌<◌, ◌-◌, ◌^◌}
+use Rattle.muck_log.specs.Body.{Body, body_of, is_version}
 use Rattle.muck_log.specs.World.{StoredWorld, laid, laid_over, record_placed, all_placed, judged_world, IsFine}
 use Rattle.muck_codec.specs.declared.stored.Batch.{Batch}
 use Rattle.muck_codec.specs.declared.stored.Stored.{Stored}
@@ -9,14 +9,14 @@ use Rattle.muck_log.specs.declared.reader.Parts.{Parts}
 use Rattle.muck_log.specs.declared.reader.Mode.{Mode}
 use Rattle.muck_log.specs.declared.reader.Mode.TheVariants.{Shut, Broken}
 
--- generation and number of a body
+-- version, generation and number of a body
 abbrev pub head_in : List ℕ → Option Head
-head_in bytes = option_map (λ (b : Body). record { generation = b.generation; number = b.number }) (body_of bytes)
+head_in bytes = option_map (λ (b : Body). record { version = b.version; generation = b.generation; number = b.number }) (body_of bytes)
 
 -- the world with the payload laid over it, or none
-abbrev pub IsLaid : Bool → List ℕ → StoredWorld → StoredWorld → Type 0
-IsLaid true payload old new = laid payload old ≡ Some new
-IsLaid false payload old new = laid payload old ≡ None
+abbrev pub IsLaid : Bool → ℕ → List ℕ → StoredWorld → StoredWorld → Type 0
+IsLaid true version payload old new = laid version payload old ≡ Some new
+IsLaid false version payload old new = laid version payload old ≡ None
 
 -- the records and the parameters are in their places, where such a world may be; or it can't be laid
 abbrev pub IsPut : Bool → Batch → StoredWorld → StoredWorld → Type 0
@@ -34,7 +34,7 @@ ArePlaced false os old new = all_placed os old ≡ None
 
 -- the batch that was read is laid over the world, and its number is kept; else nothing is said of the world
 abbrev pub IsJoined : Bool → FileReading → FileReading → Type 0
-IsJoined true old new = (join old.place old.held old.bytes ≡ Some (record { generation = old.held.generation; number = new.held.number; count = old.held.count + 1; last = old.place; world = new.held.world })) × (new ≡ record old { held = record { generation = old.held.generation; number = new.held.number; count = old.held.count; last = old.held.last; world = new.held.world } })
+IsJoined true old new = (join old.place old.held old.bytes ≡ Some (record { version = old.held.version; generation = old.held.generation; number = new.held.number; count = old.held.count + 1; last = old.place; world = new.held.world })) × (new ≡ record old { held = record { version = old.held.version; generation = old.held.generation; number = new.held.number; count = old.held.count; last = old.held.last; world = new.held.world } })
 IsJoined false old new = (join old.place old.held old.bytes ≡ None) × (new.place ≡ old.place)
 
 -- what is held is a world that hangs together, unless a batch was outside the format
@@ -52,7 +52,7 @@ is_shut Shut = true
 is_shut _ = false
 
 pub record IsWhole (r : FileReading) (p : Parts) : Type 0 where
-  pub ends : reading_end r ≡ Ok (record { place = p.place; held = record { generation = p.generation; number = p.number; count = p.count; last = p.last; world = p.world } })
+  pub ends : reading_end r ≡ Ok (record { place = p.place; held = record { version = p.version; generation = p.generation; number = p.number; count = p.count; last = p.last; world = p.world } })
   pub close : p.close ≡ not (is_shut r.mode)
   pub count : p.count ≤ p.place
 
@@ -60,3 +60,13 @@ pub record IsWhole (r : FileReading) (p : Parts) : Type 0 where
 abbrev pub IsParts : FileReading → Result Parts ℕ → Type 0
 IsParts r (Ok p) = IsWhole r p
 IsParts r (Err at) = reading_end r ≡ Err at
+
+-- a version that there is; behind version 1 a generation may follow
+pub record HasVersion (version generation : ℕ) : Type 0 where
+  pub known : is_version version ≡ true
+  pub next : version ≡ 1 → generation < 2 ^ 64 - 1
+
+-- what is held has one, unless a batch was outside the format
+abbrev pub HasVersionIn : Mode → ℕ → ℕ → Type 0
+HasVersionIn Broken version generation = Unit {0}
+HasVersionIn _ version generation = HasVersion version generation

@@ -1,10 +1,11 @@
 -- What mounting finds.
-use Rattle.std.specs.Prelude.{◌≡◌, ℕ, Bool, true, false, Some, None, Ok, Err, List, ◌==◌, nat_lt, if◌then◌else◌, not}
-use Rattle.muck_log.specs.File.{FileReading, begin, gate_at, run, reading_end, is_gate_open, header}
+use Rattle.std.specs.Prelude.{◌≡◌, ℕ, Bool, true, false, Some, None, Ok, Err, List, ◌==◌, ◌-◌, ◌^◌, ◌&&◌, nat_lt, if◌then◌else◌, not}
+use Rattle.muck_log.specs.File.{FileReading, begin, header_written, gate_at, run, reading_end, is_gate_open, header}
 use Rattle.muck_log.specs.Store.{LogState, IsMounted, store_of, file_loaded, must_close, pick}
-use Rattle.muck_log.specs.inner.Head.{is_shut}
+use Rattle.muck_log.specs.inner.Head.{HasVersion, is_shut}
 use Rattle.muck_log.specs.declared.fault.LogFault.{LogFault}
 use Rattle.muck_log.specs.declared.fault.LogFault.TheVariants.{NoMemory, DiskFault, Damaged as DamagedAt, StoreFull, Stale}
+use Rattle.muck_log.specs.declared.body.Head.{Head}
 use Rattle.muck_log.specs.declared.mount.First.{First}
 use Rattle.muck_log.specs.declared.mount.First.TheVariants.{Shut, Bad, Open}
 use Rattle.muck_log.specs.declared.mount.Look.{Look}
@@ -16,13 +17,28 @@ IsFirst Shut file = is_gate_open file ≡ false
 IsFirst Bad file = (is_gate_open file ≡ true) × (header file ≡ None)
 IsFirst (Open g) file = (is_gate_open file ≡ true) × (header file ≡ Some g)
 
+-- a file that begins so
+abbrev pub begun : Head → First
+begun head = if head.version == 1 && head.generation == 2 ^ 64 - 1 then Bad else Open (record { version = head.version; generation = head.generation })
+
+-- such a file has a version that there is
+abbrev pub IsKnown : First → Type 0
+IsKnown Shut = Unit {0}
+IsKnown Bad = Unit {0}
+IsKnown (Open g) = HasVersion g.version g.generation
+
+abbrev pub MayLoad : Choice → Type 0
+MayLoad (Damaged second) = Unit {0}
+MayLoad Empty = Unit {0}
+MayLoad (Load second g) = HasVersion g.version g.generation
+
 pub record IsLook (look : Look) (file : List ℕ) : Type 0 where
   pub first : IsFirst look.first file
   pub close : look.close ≡ must_close 0 file
 
 abbrev pub IsChoice : Choice → List ℕ → List ℕ → Type 0
 IsChoice (Damaged second) a b = store_of a b ≡ Err (record { second = second; at = 0 })
-IsChoice Empty a b = store_of a b ≡ Ok (record { second = false; place = 0; held = begin 1 })
+IsChoice Empty a b = store_of a b ≡ Ok (record { second = false; place = 0; held = begin (header_written 1) })
 IsChoice (Load second g) a b = store_of a b ≡ file_loaded second (reading_end (run (gate_at 0 (begin g)) (pick second a b)))
 
 abbrev pub choice : First → First → Choice
@@ -32,7 +48,7 @@ choice (Open g) Bad = Damaged true
 choice Shut Shut = Empty
 choice (Open g) Shut = Load false g
 choice Shut (Open h) = Load true h
-choice (Open g) (Open h) = if g == h then Damaged true else (if nat_lt h g then Load false g else Load true h)
+choice (Open g) (Open h) = if g.generation == h.generation then Damaged true else (if nat_lt h.generation g.generation then Load false g else Load true h)
 
 -- the log that a reading makes
 pub record IsLoaded (reading : FileReading) (at other : Bool) (most : ℕ) (log : LogState) : Type 0 where

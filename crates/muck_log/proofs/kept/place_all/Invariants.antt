@@ -7,7 +7,7 @@ use Rattle.muck_log.proofs.kept.place_all.Given as goal
 abbrev pub invariant-loop-object : goal.invariant-loop-object
 invariant-loop-object l = record {
   placed : all_placed (reverse l.left.items) l.objects.items ≡ all_placed (reverse l.fn.records.items) l.initial.objects.items;
-  stored : All IsStored (reverse l.fn.records.items) → All IsStored l.initial.objects.items → All IsStored (reverse l.left.items) × All IsStored l.objects.items;
+  stored : All (IsStored 2) (reverse l.fn.records.items) → All (IsStored 2) l.initial.objects.items → All (IsStored 2) (reverse l.left.items) × All (IsStored 2) l.objects.items;
 }
 
 abbrev pub decreases-loop-object : goal.decreases-loop-object

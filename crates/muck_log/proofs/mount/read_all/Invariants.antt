@@ -8,7 +8,7 @@ invariant-loop-at g l = record {
   within : l.at ≤ l.size;
   reached : reached l.reader ≤ l.at;
   room : 0 < length l.buf.items;
-  told : g.D.Disk.tells ≡ true → IsSoFar g.D.Disk.seen g.D.Disk.moment g.D.Disk.images l.fn.disk l.disk l.fn.generation l.at l.size l.reader;
+  told : g.D.Disk.tells ≡ true → IsSoFar g.D.Disk.seen g.D.Disk.moment g.D.Disk.images l.fn.disk l.disk l.fn.head l.at l.size l.reader;
   attached : g.D.Disk.attached l.disk ≡ g.D.Disk.attached l.fn.disk;
   later : g.D.Disk.faults l.fn.disk ≤ g.D.Disk.faults l.disk;
 }

@@ -7,7 +7,7 @@ use Rattle.muck_log.proofs.reader.Reader.take_some.Goals.{then-bytes-left, else-
 
 pub returns-then-self-had-gt1-clause-run : goal.returns-then-self-had-gt1-clause-run
 returns-then-self-had-gt1-clause-run c =
-    let r : FileReading = record { place = c.self.inside.place; mode = c.self.inside.mode; size = c.self.inside.size; bytes = c.self.inside.bytes.items; held = record { generation = c.self.inside.generation; number = c.self.inside.number; count = c.self.inside.count; last = c.self.inside.last; world = c.self.inside.world } } in
+    let r : FileReading = record { place = c.self.inside.place; mode = c.self.inside.mode; size = c.self.inside.size; bytes = c.self.inside.bytes.items; held = record { version = c.self.inside.version; generation = c.self.inside.generation; number = c.self.inside.number; count = c.self.inside.count; last = c.self.inside.last; world = c.self.inside.world } } in
     let n = c.if-bytes-left.n in
     let part = take n c.args.bytes.now in
     let items = c.in_ok-extend_from_slice.ensures.items ∙ ap (λ l. c.self.inside.bytes.items ++ l) c.split_at.ensures.front in
