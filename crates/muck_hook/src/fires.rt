@@ -47,7 +47,7 @@ fn named_program(value: &PropValue) -> Option<Dbref>
 {
     match value {
         PropValue::Text(text) => Dbref::read(text.as_slice()),
-        PropValue::Number(_) => None,
+        PropValue::Number(_) | PropValue::Ref(_) | PropValue::Key(_) => None,
     }
 }
 

@@ -1,5 +1,6 @@
 // The definitions that the objects of the world lend.
 ghost use Rattle.std.specs.Prelude.{◌≡◌, ◌∷◌, [], IfOk, codes, map};
+ghost use Rattle.muck_prop.specs.Store.{IsSpellable};
 ghost use Rattle.muck_library.specs.Programs.{defs_dir, definition_of, defs_of};
 
 use muck_db::{Db, value_text};
@@ -26,6 +27,7 @@ fn directory(alloc: Global) -> Result<Path, NoMemory>
 }
 
 fn definition_of(alloc: Global, property: Listed) -> Result<Definition, NoMemory>
+    requires { IsSpellable property.value }
     ensures { IfOk result (λ definition. definition ≡ definition_of property) }
 {
     let Listed { rest, value } = property;

@@ -1,9 +1,9 @@
 // What is told of properties.
-ghost use Rattle.std.specs.Prelude.{◌≡◌, IfOk, MatchOption, [], ◌∷◌, false};
+ghost use Rattle.std.specs.Prelude.{◌≡◌, IfOk, IfSome, MatchOption, [], ◌∷◌, false};
 ghost use Rattle.std.specs.Option.{option_copied, option_map_or, option_map};
 ghost use Rattle.mpi.specs.Hosting.{Means};
 ghost use Rattle.mpi.specs.Thoughts.{found_or_bad};
-ghost use Rattle.muck_prop.specs.Store.{is_dir};
+ghost use Rattle.muck_prop.specs.Store.{is_dir, IsSpellable};
 ghost use Rattle.spec_live.specs.Seen.{places_of};
 ghost use Rattle.spec_live.specs.Worth.{value_text};
 ghost use Rattle.muck_perm.specs.inner.Guards.{objects_of};
@@ -34,7 +34,8 @@ pub(crate) fn path_of(alloc: Global, text: &Line) -> Result<Path, MpiFault>
 
 // The value that an object has at a path, if it is there.
 fn value_of<'a>(object: Option<&'a Object>, path: &Path) -> Option<&'a PropValue>
-    ensures { option_copied result ≡ value_of (option_copied object.entry) path.now }
+    ensures value { option_copied result ≡ value_of (option_copied object.entry) path.now }
+    ensures spelled { IfSome result (λ value. IsSpellable value.now) }
 {
     match object {
         Some(object) => object.props().get(path),
@@ -44,6 +45,7 @@ fn value_of<'a>(object: Option<&'a Object>, path: &Path) -> Option<&'a PropValue
 
 // Its text.
 fn text_of(alloc: Global, value: Option<&PropValue>) -> Result<Option<Line>, NoMemory>
+    requires { IfSome value (λ value. IsSpellable value.now) }
     ensures { IfOk result (λ text. text ≡ option_map value_text (option_copied value.entry)) }
 {
     match value {

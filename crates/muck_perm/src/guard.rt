@@ -1,10 +1,11 @@
 // The world under an actor.
-ghost use Rattle.std.specs.Prelude.{◌≡◌, ◌≤◌, IfOk, None, length, true, min};
+ghost use Rattle.std.specs.Prelude.{◌≡◌, ◌≤◌, IfOk, IfSome, None, length, true, min};
 ghost use Rattle.std.specs.Option.{option_copied, option_and_then, option_map};
 ghost use Rattle.std.specs.FinMap.{get};
 ghost use Rattle.muck_model.specs.Bytes.{lines_most};
 ghost use Rattle.muck_model.specs.declared.dbref.Kind.{Kind};
 ghost use Rattle.muck_prop.specs.Paths.{class_of};
+ghost use Rattle.muck_prop.specs.Store.{IsSpellable};
 ghost use Rattle.spec_live.specs.Objects.{dbref_of, nothing, home, object_at};
 ghost use Rattle.spec_live.specs.Lives.{tell, tell_player, tell_but, tell_others, tell_all, leave, random_word, draw};
 ghost use Rattle.spec_live.specs.Flags.{with_flag, without_flag};
@@ -358,6 +359,7 @@ impl<'a> Guard<'a> {
         value: PropValue,
     ) -> Result<(), DbFault>
         requires leave { IsLeave pass (Act.Write object path) self.old }
+        requires spelled { IsSpellable value }
         ensures { Tries (property_stored object path value) (checked every_number object (objects_of self.old)) self.old self.new result }
     {
         let _ = pass;
@@ -386,6 +388,7 @@ impl<'a> Guard<'a> {
     ) -> Result<(), DbFault>
         requires leave { IsLeave pass (Act.Change object) self.old }
         requires guarded { is_guarded (class_of path) ≡ true }
+        requires spelled { IsSpellable value }
         ensures { Tries (property_stored object path value) (checked every_number object (objects_of self.old)) self.old self.new result }
     {
         let _ = pass;
@@ -549,7 +552,8 @@ impl<'a> Guard<'a> {
     /// The value of a property.
     pub fn read(&self, pass: Pass, object: Dbref, path: &Path) -> Option<&PropValue>
         requires leave { IsLeave pass (Act.Read object path.now) self.now }
-        ensures { option_copied result ≡ option_and_then (λ o. get o.props path.now) (object_at object (objects_of self.now)) }
+        ensures spelled { IfSome result (λ value. IsSpellable value.now) }
+        ensures value { option_copied result ≡ option_and_then (λ o. get o.props path.now) (object_at object (objects_of self.now)) }
     {
         let _ = pass;
         match self.db.get(object) {

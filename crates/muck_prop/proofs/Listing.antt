@@ -7,14 +7,16 @@ use Rattle.std.specs.BTreeMap.Range.{entries_between}
 use Rattle.std.specs.declared.ops.Bound.TheVariants.{Excluded, Unbounded}
 use Rattle.std.specs.FinMap.{from_entries, entries}
 use Rattle.std.specs.Ordering.{is_lt}
+use Rattle.std.specs.Prelude.{All}
 use Rattle.std.proofs.lemmas.List.{length-drop}
+use Rattle.std.proofs.lemmas.List.Elements.{All-nil, All-cons, All-same}
 use Rattle.muck_laws.proofs.Orders.{is_less}
 use Rattle.muck_prop.specs.declared.props.Listed.{Listed}
 use Rattle.muck_prop.specs.declared.value.PropValue.{PropValue}
 use Rattle.muck_prop.specs.Order.{path_cmp, is_below}
 use Rattle.muck_prop.specs.Paths.{IsPath, IsSegment, path_text}
-use Rattle.muck_prop.specs.Store.{IsKept, path_behind, listed_below}
-use Rattle.muck_prop.proofs.Maps.{entries_are}
+use Rattle.muck_prop.specs.Store.{IsKept, IsSpellable, path_behind, listed_below}
+use Rattle.muck_prop.proofs.Maps.{entries_are, kept_filtered}
 use Rattle.muck_prop.proofs.Sequence.{none_below, after_start_reaches}
 
 -- ---- the rest of a path
@@ -125,3 +127,12 @@ listed_is dir es sorted = ap (λ fs. map (path_behind (length dir)) (filter (goe
 
 pub all_is : (es : List (List (List ℕ) × PropValue)) → IsStrictlySortedBy path_cmp (keys_of es) → AllByRecursion IsKept es → map (path_behind 0) (filter (goes_on []) es) ≡ map (path_behind 0) (entries (from_entries {R = path_cmp} es))
 all_is es sorted kept = ap (map (path_behind 0)) (all_below_top es kept ∙ sym (entries_are es sorted))
+
+-- what is written of each lock is a text that is read as it again
+
+spelled_each : (n : ℕ) (es : List (List (List ℕ) × PropValue)) → AllByRecursion IsKept es → All (λ (l : Listed). IsSpellable l.value) (map (path_behind n) es)
+spelled_each n [] kept = All-nil (λ (l : Listed). IsSpellable l.value)
+spelled_each n (e ∷ es) kept = All-cons (λ (l : Listed). IsSpellable l.value) (path_behind n e) (map (path_behind n) es) kept.0.spelled (spelled_each n es kept.1)
+
+pub below_spelled : (n : ℕ) (test : List (List ℕ) × PropValue → Bool) (es : List (List (List ℕ) × PropValue)) (list : List Listed) → list ≡ map (path_behind n) (filter test es) → AllByRecursion IsKept es → All (λ (l : Listed). IsSpellable l.value) list
+below_spelled n test es list is kept = All-same (λ (l : Listed). IsSpellable l.value) list _ is (spelled_each n (filter test es) (kept_filtered test es kept))

@@ -1,5 +1,5 @@
 // The properties of one object.
-ghost use Rattle.std.specs.Prelude.{◌≡◌, ◌<◌, map as mapped, [], Some, None, IfOk, IfSome, OnOk, OnErr, is_some, is_ok, true, false, not, length, ◌≤◌, Ok, Err, List, ℕ, if◌then◌else◌};
+ghost use Rattle.std.specs.Prelude.{◌≡◌, ◌<◌, map as mapped, [], Some, None, IfOk, IfSome, OnOk, OnErr, All, is_some, is_ok, true, false, not, length, ◌≤◌, Ok, Err, List, ℕ, if◌then◌else◌};
 ghost use Rattle.std.specs.Option.{option_copied, option_map_or, unwrap_or};
 ghost use Rattle.std.specs.FinMap as map;
 ghost use Rattle.std.specs.Range.Bound.{bound_map};
@@ -285,7 +285,8 @@ impl Props {
     /// The properties below a directory, in the order of their paths: those whose paths continue it. It is one search
     /// and a step for each of them.
     pub fn below(&self, alloc: Global, dir: &Path) -> Result<Row<Listed>, NoMemory>
-        ensures { IfOk result (λ list. list ≡ listed_below dir.now self.now) }
+        ensures list { IfOk result (λ list. list ≡ listed_below dir.now self.now) }
+        ensures spelled { IfOk result (λ list. All (λ listed. IsSpellable listed.value) list) }
     {
         let list = all_below(alloc, &self.values, &dir.segments)?;
         Ok(list)

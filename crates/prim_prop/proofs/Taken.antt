@@ -3,8 +3,9 @@ use Rattle.std.proofs.Common.{◌≡◌, ℕ, zero, suc, ◌+◌, List, [], ◌�
 use Rattle.std.specs.Prelude.{ℤ}
 use Rattle.std.specs.Option.{option_map_or}
 use Rattle.std.proofs.lemmas.Option.{same_Some}
+use Rattle.muck_model.specs.declared.dbref.Dbref.{Dbref}
 use Rattle.muck_prop.specs.declared.value.PropValue.{PropValue}
-use Rattle.muck_prop.specs.declared.value.PropValue.TheVariants.{Text, Number}
+use Rattle.muck_prop.specs.declared.value.PropValue.TheVariants.{Text, Number, Ref}
 use Rattle.muck_prop.specs.Paths.{path_fault, path_text, segments_of}
 use Rattle.spec_live.specs.declared.object.Object.{Object}
 use Rattle.spec_live.specs.Lives.{Live}
@@ -89,19 +90,26 @@ pub stored_text : (stack : List Datum) (t : List ℕ) → text_at 0 stack ≡ So
 stored_text (text u ∷ rest) t e = ap (λ k. Some (Text k)) (same_Some u t e)
 stored_text stack t e = absurd (cc)
 
-pub stored_none : (stack : List Datum) → int_at 0 stack ≡ None → text_at 0 stack ≡ None → stored_by stack ≡ None
-stored_none (int m ∷ rest) e f = absurd (cc)
-stored_none (text u ∷ rest) e f = absurd (cc)
-stored_none [] e f = refl
-stored_none (_ ∷ rest) e f = refl
+pub stored_object : (stack : List Datum) (d : Dbref) → object_at 0 stack ≡ Some d.0 → stored_by stack ≡ Some (Ref d)
+stored_object (object z ∷ rest) d e = ap (λ k. Some (Ref (object_numbered k))) (same_Some z d.0 e)
+stored_object stack d e = absurd (cc)
 
-pub ruleset stored_steps = (stored_int, stored_text, stored_none)
+pub stored_none : (stack : List Datum) → int_at 0 stack ≡ None → object_at 0 stack ≡ None → text_at 0 stack ≡ None → stored_by stack ≡ None
+stored_none (int m ∷ rest) e o f = absurd (cc)
+stored_none (object z ∷ rest) e o f = absurd (cc)
+stored_none (text u ∷ rest) e o f = absurd (cc)
+stored_none [] e o f = refl
+stored_none (_ ∷ rest) e o f = refl
+
+pub ruleset stored_steps = (stored_int, stored_object, stored_text, stored_none)
 
 pub put_so : (a : Actor) (stack : List Datum) (w : Live) (v : PropValue) (d : ℤ) (t : List ℕ) → stored_by stack ≡ Some v → named_in (drop 1 stack) ≡ Some (d, t) → property_put a (take 3 stack) w ≡ property_put_at a t d v w
 put_so a (int n ∷ text u ∷ object o ∷ rest) w v d t f e =
     ap (λ (q : ℤ × List ℕ). property_put_at a q.1 q.0 (Number n) w) (same_Some (o, u) (d, t) e) ∙ ap (λ x. property_put_at a t d x w) (same_Some (Number n) v f)
 put_so a (text y ∷ text u ∷ object o ∷ rest) w v d t f e =
     ap (λ (q : ℤ × List ℕ). property_put_at a q.1 q.0 (Text y) w) (same_Some (o, u) (d, t) e) ∙ ap (λ x. property_put_at a t d x w) (same_Some (Text y) v f)
+put_so a (object r ∷ text u ∷ object o ∷ rest) w v d t f e =
+    ap (λ (q : ℤ × List ℕ). property_put_at a q.1 q.0 (Ref (object_numbered r)) w) (same_Some (o, u) (d, t) e) ∙ ap (λ x. property_put_at a t d x w) (same_Some (Ref (object_numbered r)) v f)
 put_so a stack w v d t f e = absurd (cc)
 
 -- an integer and a text upon them

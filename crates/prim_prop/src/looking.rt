@@ -15,7 +15,7 @@ use muck_model::{Line, NoMemory};
 use muck_perm::Guard;
 use muck_prop::{Path, PropValue};
 use muf_frame::{Frame, PrimFault};
-use muf_model::{MufFault, Text, Value};
+use muf_model::{MufFault, Shared, Text, Value};
 use prim_common::Made;
 use spec_live::Object;
 use std::alloc::Global;
@@ -49,6 +49,8 @@ fn as_item(alloc: Global, value: Option<&PropValue>) -> Result<Value, NoMemory>
     match value {
         Some(PropValue::Text(line)) => text_item(alloc, line.copy(alloc)?),
         Some(PropValue::Number(number)) => Ok(Value::Int(*number)),
+        Some(PropValue::Ref(d)) => Ok(Value::Ref(*d)),
+        Some(PropValue::Key(lock)) => Ok(Value::Key(Shared::new(alloc, lock.copy(alloc)?)?)),
         None => Ok(Value::Int(0)),
     }
 }

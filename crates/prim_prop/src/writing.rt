@@ -1,6 +1,7 @@
 // SETPROP, ADDPROP and REMOVE_PROP.
-ghost use Rattle.std.specs.Prelude.{◌≡◌, IfOk, take};
+ghost use Rattle.std.specs.Prelude.{◌≡◌, IfOk, IfSome, take};
 ghost use Rattle.std.specs.Option.{option_map};
+ghost use Rattle.muck_prop.specs.Store.{IsSpellable};
 ghost use Rattle.muf_frame.specs.inner.Shown.{Shown, flat};
 ghost use Rattle.muck_perm.specs.inner.Guards.{world_of};
 ghost use Rattle.spec_prims.specs.PropRows.{property_added, property_put, property_put_at, removed, text_or};
@@ -35,6 +36,7 @@ fn put_at(
     text: &Text,
     value: PropValue,
 ) -> Result<Made, PrimFault>
+    requires { IsSpellable value }
     ensures { Makes (property_put_at guard.old.actor text.now object.0 value (world_of guard.old)) guard.old guard.new result }
 {
     let path = path_of(guard.alloc(), text)?;
@@ -48,13 +50,17 @@ fn put_at(
     }
 }
 
-// What the top stores: an integer or a text.
+// What the top stores: an integer, the number of an object or a text.
 #[tactic(auto, using(crate::proofs::Taken::stored_steps))]
 fn stored_by(alloc: Global, frame: &Frame) -> Result<Option<PropValue>, NoMemory>
-    ensures { IfOk result (λ value. value ≡ stored_by (flat frame.now).stack) }
+    ensures stored { IfOk result (λ value. value ≡ stored_by (flat frame.now).stack) }
+    ensures spelled { IfOk result (λ value. IfSome value IsSpellable) }
 {
     if let Some(number) = frame.int_at(0) {
         return Ok(Some(PropValue::Number(number)));
+    }
+    if let Some(object) = frame.object_at(0) {
+        return Ok(Some(PropValue::Ref(object)));
     }
     match frame.text_at(0) {
         Some(text) => Ok(Some(PropValue::Text(text.as_line().copy(alloc)?))),
@@ -86,7 +92,8 @@ pub(crate) fn added_by(frame: &Frame) -> Option<(i32, &Text)>
 
 // The text where it isn't empty, and else the integer.
 fn text_or(alloc: Global, text: &Text, number: i32) -> Result<PropValue, NoMemory>
-    ensures { IfOk result (λ value. value ≡ text_or text.now number) }
+    ensures value { IfOk result (λ value. value ≡ text_or text.now number) }
+    ensures spelled { IfOk result IsSpellable }
 {
     if text.as_slice().is_empty() {
         return Ok(PropValue::Number(number));

@@ -6,7 +6,7 @@ use Rattle.std.specs.FinMap.{entries}
 use Rattle.muck_model.specs.declared.dbref.Dbref.{Dbref}
 use Rattle.muck_model.specs.Numbers.{dbref_written}
 use Rattle.muck_prop.specs.declared.value.PropValue.{PropValue}
-use Rattle.muck_prop.specs.declared.value.PropValue.TheVariants.{Text, Number}
+use Rattle.muck_prop.specs.declared.value.PropValue.TheVariants.{Text, Number, Ref, Key}
 use Rattle.muck_prop.specs.Order.{is_below}
 use Rattle.muck_prop.specs.Store.{PropMap}
 use Rattle.spec_live.specs.Flags.{link}
@@ -65,6 +65,8 @@ values_in dir props = values_among dir (entries props)
 abbrev pub named_program : PropValue → Option Dbref
 named_program (Text text) = dbref_written text
 named_program (Number n) = None
+named_program (Ref d) = None
+named_program (Key lock) = None
 
 -- What an object names fires where it is a program with a level, and has flag L or the owner of that object.
 abbrev pub may_fire : List Entry → Dbref → Dbref → Bool

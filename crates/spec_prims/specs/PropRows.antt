@@ -6,7 +6,7 @@ use Rattle.std.specs.FinMap.{get, keys}
 use Rattle.muck_model.specs.declared.dbref.Dbref.{Dbref}
 use Rattle.muck_prop.specs.declared.path.PropFault.{PropFault}
 use Rattle.muck_prop.specs.declared.value.PropValue.{PropValue}
-use Rattle.muck_prop.specs.declared.value.PropValue.TheVariants.{Text, Number}
+use Rattle.muck_prop.specs.declared.value.PropValue.TheVariants.{Text, Number, Ref, Key}
 use Rattle.muck_prop.specs.Paths.{is_slash, path_fault, path_text, segments_of}
 use Rattle.muck_prop.specs.Order.{child}
 use Rattle.muck_prop.specs.Store.{kept_text, kept_number, is_dir, next_among}
@@ -24,7 +24,7 @@ use Rattle.muf_model.specs.declared.prims.Primitive.{Primitive}
 use Rattle.muf_model.specs.declared.prims.Family.{Family}
 use Rattle.muf_model.specs.declared.prims.Family.TheVariants as kind
 use Rattle.muf_model.specs.declared.prims.Primitive.TheVariants.{GetProp, GetPropStr, GetPropVal, SetProp, AddProp, RemoveProp, NextProp, IsPropDir, EnvProp, EnvPropStr, ParseMpi}
-use Rattle.muf_model.specs.Datum.{Datum, int, text, object}
+use Rattle.muf_model.specs.Datum.{Datum, int, text, object, lock}
 use Rattle.muf_model.specs.Prims.{family_of}
 use Rattle.muf_model.specs.StackRows.{truth_item}
 use Rattle.spec_prims.specs.Asking.{object_numbered, fault_of_denial}
@@ -47,6 +47,8 @@ value_of o path = option_and_then (λ o. get o.props path) o
 abbrev pub as_item : Option PropValue → Datum
 as_item (Some (Text t)) = text t
 as_item (Some (Number n)) = int n
+as_item (Some (Ref d)) = object d.0
+as_item (Some (Key l)) = lock l
 as_item None = int (pos 0)
 
 abbrev pub value_as_text : Option PropValue → Datum
@@ -123,6 +125,7 @@ property_put_at a t d value w = row_at_path (path_fault t) (written_at a (segmen
 abbrev pub property_put : Actor → List Datum → Live → WorldAnswer
 property_put a (int n ∷ text t ∷ object d ∷ []) w = property_put_at a t d (Number n) w
 property_put a (text u ∷ text t ∷ object d ∷ []) w = property_put_at a t d (Text u) w
+property_put a (object r ∷ text t ∷ object d ∷ []) w = property_put_at a t d (Ref (object_numbered r)) w
 property_put a items w = refuses BadType
 
 -- the text, where it isn't empty, and else the integer

@@ -1,13 +1,14 @@
 -- What the rows take, and what is asked for.
 use Rattle.std.specs.Prelude.{◌≡◌, ℕ, ℤ, List, ◌∷◌, Option, Some, None, is_some, true, Result, Ok, Err}
 use Rattle.muck_prop.specs.declared.value.PropValue.{PropValue}
-use Rattle.muck_prop.specs.declared.value.PropValue.TheVariants.{Text, Number}
+use Rattle.muck_prop.specs.declared.value.PropValue.TheVariants.{Text, Number, Ref}
 use Rattle.muck_prop.specs.Paths.{path_fault, segments_of}
 use Rattle.spec_live.specs.declared.fault.DbFault.{DbFault}
 use Rattle.spec_live.specs.declared.fault.DbFault.TheVariants.{NoMemory as WantsMemory}
 use Rattle.muf_model.specs.declared.fault.MufFault.{MufFault}
 use Rattle.muf_model.specs.declared.fault.MufFault.TheVariants.{BadArgument}
 use Rattle.muf_model.specs.Datum.{Datum, int, text, object}
+use Rattle.spec_prims.specs.Asking.{object_numbered}
 use Rattle.muf_frame.specs.declared.fault.PrimFault.{PrimFault}
 use Rattle.muf_frame.specs.declared.fault.PrimFault.TheVariants.{Fault, NoMemory}
 use Rattle.prim_common.specs.declared.made.Made.{Made}
@@ -18,10 +19,11 @@ abbrev pub named_in : List Datum → Option (ℤ × List ℕ)
 named_in (text t ∷ object d ∷ rest) = Some (d, t)
 named_in stack = None
 
--- what the top stores: an integer or a text
+-- what the top stores: an integer, a text or the number of an object
 abbrev pub stored_by : List Datum → Option PropValue
 stored_by (int n ∷ rest) = Some (Number n)
 stored_by (text t ∷ rest) = Some (Text t)
+stored_by (object d ∷ rest) = Some (Ref (object_numbered d))
 stored_by stack = None
 
 -- an integer and a text under it
