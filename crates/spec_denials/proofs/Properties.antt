@@ -8,7 +8,7 @@ use Rattle.muck_laws.proofs.Options.{none_of, some_is}
 use Rattle.muck_model.specs.declared.dbref.Dbref.{Dbref}
 use Rattle.muck_prop.specs.declared.path.PropFault.{PropFault}
 use Rattle.muck_prop.specs.declared.value.PropValue.{PropValue}
-use Rattle.muck_prop.specs.declared.value.PropValue.TheVariants.{Text, Number}
+use Rattle.muck_prop.specs.declared.value.PropValue.TheVariants.{Text, Number, Ref}
 use Rattle.muck_prop.specs.Paths.{path_fault, path_text, segments_of}
 use Rattle.muck_prop.specs.Order.{child, is_below}
 use Rattle.muck_prop.specs.Store.{is_after, next_among}
@@ -71,6 +71,7 @@ module _ (B : MufFault → Live → Type 0) (a : Actor) (w : Live) where
   pub names_put : (items : List Datum) → RowNames B (first_denied w.objects a (puts items)) (property_put a items w)
   names_put (int n ∷ text t ∷ object d ∷ []) = names_put_at t d (Number n)
   names_put (text u ∷ text t ∷ object d ∷ []) = names_put_at t d (Text u)
+  names_put (object r ∷ text t ∷ object d ∷ []) = names_put_at t d (Ref (object_numbered r))
   names_put _ = tt
 
   pub names_added : (items : List Datum) → RowNames B (first_denied w.objects a (adds items)) (property_added a items w)

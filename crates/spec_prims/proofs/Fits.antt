@@ -12,7 +12,7 @@ use Rattle.std.specs.List.{filter_map}
 use Rattle.std.specs.Option.{option_or, option_map_or}
 use Rattle.muck_prop.specs.declared.path.PropFault.{PropFault}
 use Rattle.muck_prop.specs.declared.value.PropValue.{PropValue}
-use Rattle.muck_prop.specs.declared.value.PropValue.TheVariants.{Text, Number}
+use Rattle.muck_prop.specs.declared.value.PropValue.TheVariants.{Text, Number, Ref}
 use Rattle.muck_prop.specs.Paths.{path_fault, path_text, segments_of}
 use Rattle.spec_live.specs.declared.object.Object.{Object}
 use Rattle.spec_live.specs.Objects.{object_at}
@@ -144,6 +144,7 @@ fits_put_at a t d value items w = fits_written a t (object_numbered d) (property
 fits_put : (a : Actor) (items : List Datum) (w : Live) → Fits items w (property_put a items w)
 fits_put a (int n ∷ text t ∷ object d ∷ []) w = fits_put_at a t d (Number n) (int n ∷ text t ∷ object d ∷ []) w
 fits_put a (text u ∷ text t ∷ object d ∷ []) w = fits_put_at a t d (Text u) (text u ∷ text t ∷ object d ∷ []) w
+fits_put a (object r ∷ text t ∷ object d ∷ []) w = fits_put_at a t d (Ref (object_numbered r)) (object r ∷ text t ∷ object d ∷ []) w
 fits_put a _ w = tt
 
 fits_added : (a : Actor) (items : List Datum) (w : Live) → Fits items w (property_added a items w)

@@ -26,7 +26,7 @@ use Rattle.muck_model.specs.declared.dbref.Dbref.{Dbref}
 use Rattle.muck_model.specs.declared.dbref.Denial.{Denial}
 use Rattle.muck_prop.specs.declared.path.PropFault.{PropFault}
 use Rattle.muck_prop.specs.declared.value.PropValue.{PropValue}
-use Rattle.muck_prop.specs.declared.value.PropValue.TheVariants.{Text, Number}
+use Rattle.muck_prop.specs.declared.value.PropValue.TheVariants.{Text, Number, Ref}
 use Rattle.muck_prop.specs.Paths.{path_fault, segments_of}
 use Rattle.spec_live.specs.declared.object.Object.{Object}
 use Rattle.spec_live.specs.Objects.{Entry, object_at}
@@ -167,6 +167,7 @@ opens_put_at a t d value w =
 opens_put : (a : Actor) (items : List Datum) (w : Live) → RowOpen a w (property_put a items w)
 opens_put a (int n ∷ text t ∷ object d ∷ []) w = opens_put_at a t d (Number n) w
 opens_put a (text u ∷ text t ∷ object d ∷ []) w = opens_put_at a t d (Text u) w
+opens_put a (object r ∷ text t ∷ object d ∷ []) w = opens_put_at a t d (Ref (object_numbered r)) w
 opens_put a _ w = tt
 
 opens_added : (a : Actor) (items : List Datum) (w : Live) → RowOpen a w (property_added a items w)

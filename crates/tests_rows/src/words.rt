@@ -1,5 +1,6 @@
 // The parts of a row, and texts as they are shown.
 ghost use Rattle.std.specs.Prelude.{◌≤◌, length, IfOk};
+ghost use Rattle.muck_prop.specs.Store.{IsSpellable};
 
 use muck_model::{Dbref, Line, NoMemory, decimal};
 use muck_prop::{Path, PropValue, read_path};
@@ -76,7 +77,9 @@ pub fn path(alloc: Global, bytes: &[u8]) -> Result<Path, NoMemory> {
 }
 
 /// The value that is written so: a number, or else a text.
-pub fn value(alloc: Global, bytes: &[u8]) -> Result<PropValue, NoMemory> {
+pub fn value(alloc: Global, bytes: &[u8]) -> Result<PropValue, NoMemory>
+    ensures { IfOk result IsSpellable }
+{
     match str::from_utf8(bytes)
         .ok()
         .and_then(|text| text.parse().ok())

@@ -1,4 +1,7 @@
 // What is built of a program of the world.
+ghost use Rattle.std.specs.Prelude.{IfOk};
+ghost use Rattle.muck_prop.specs.Store.{IsSpellable};
+
 use crate::codes::{code_text, shown};
 use crate::tokens::{flaw_text, owned};
 use muck_db::Db;
@@ -23,7 +26,9 @@ fn with_program(alloc: Global, source: &[u8]) -> Result<Db, NoMemory> {
 }
 
 // What a property is that holds this text, or this number where the text is empty.
-fn value_of(alloc: Global, text: &[u8], number: i32) -> Result<PropValue, NoMemory> {
+fn value_of(alloc: Global, text: &[u8], number: i32) -> Result<PropValue, NoMemory>
+    ensures { IfOk result IsSpellable }
+{
     if text.is_empty() {
         return Ok(PropValue::Number(number));
     }

@@ -10,6 +10,8 @@ fn held(out: &mut String, value: Option<&PropValue>) -> Result<(), NoMemory> {
     match value {
         Some(PropValue::Number(number)) => Ok(write!(out, "{number}")?),
         Some(PropValue::Text(text)) => add(out, text.as_slice()),
+        Some(PropValue::Ref(d)) => Ok(write!(out, "#{}", d.0)?),
+        Some(PropValue::Key(_)) => Ok(out.push_str("a lock")?),
         None => Ok(out.push_str("no value")?),
     }
 }

@@ -1,6 +1,6 @@
 -- Worked rows of the primitives of properties, which the checker computes.
 use Rattle.std.specs.Prelude.{◌≡◌, ℕ, pos, List, [], ◌∷◌, Some, None, codes, refl}
-use Rattle.muck_prop.specs.declared.value.PropValue.TheVariants.{Text, Number}
+use Rattle.muck_prop.specs.declared.value.PropValue.TheVariants.{Text, Number, Ref}
 use Rattle.spec_live.specs.Objects.{dbref_of, object_at, number_in, kind_in, object_in}
 use Rattle.spec_live.specs.Boards.{first_tune, early_board}
 use Rattle.spec_live.specs.Start.{room_zero, player_one, first_objects}
@@ -10,7 +10,7 @@ use Rattle.spec_rights.specs.Verdict.{is_near, controls}
 use Rattle.spec_rights.specs.Changing.{property_stored, unstored}
 use Rattle.muf_model.specs.declared.fault.MufFault.TheVariants.{BadType, BadArgument, Denied}
 use Rattle.muf_model.specs.declared.prims.Primitive.TheVariants.{GetProp, GetPropStr, SetProp, AddProp, RemoveProp, NextProp, EnvProp}
-use Rattle.muf_model.specs.Datum.{Datum, int, text, object}
+use Rattle.muf_model.specs.Datum.{Datum, int, text, object, items}
 use Rattle.spec_prims.specs.Asking.{level_fault, is_number_there, near_fault}
 use Rattle.spec_prims.specs.Row.{gives, refuses}
 use Rattle.spec_prims.specs.Shared.{first_fault, shared}
@@ -40,10 +40,11 @@ PropWorked =
     × (shared SetProp (stranger 3) None 0 (int (pos 1) ∷ upon (codes "~x")) at_first ≡ refuses (Denied 4))
     × (shared SetProp (stranger 2) None 0 (int (pos 1) ∷ upon (codes "_x")) at_first ≡ refuses (Denied 6))
     × (shared RemoveProp (stranger 1) None 0 (upon (codes "x")) at_first ≡ refuses (Denied 7))
-    -- what is neither a text nor an integer isn't stored
-    × (shared SetProp (acting_at 1 1) None 0 (object (pos 1) ∷ upon (codes "x")) at_first ≡ refuses BadType)
+    -- what is neither a text nor an integer nor an object isn't stored
+    × (shared SetProp (acting_at 1 1) None 0 (items [] ∷ upon (codes "x")) at_first ≡ refuses BadType)
     -- what is stored, at which path, and what is added and removed
     × (shared SetProp (acting_at 1 1) None 0 (int (pos 5) ∷ upon (codes "/A//b/")) at_first ≡ gives [] (property_stored (dbref_of 1) (codes "a" ∷ codes "b" ∷ []) (Number (pos 5)) at_first))
+    × (shared SetProp (acting_at 1 1) None 0 (object (pos 5) ∷ upon (codes "x")) at_first ≡ gives [] (property_stored (dbref_of 1) (codes "x" ∷ []) (Ref (dbref_of 5)) at_first))
     × (shared AddProp (acting_at 1 1) None 0 (int (pos 5) ∷ text (codes "t") ∷ upon (codes "x")) at_first ≡ gives [] (property_stored (dbref_of 1) (codes "x" ∷ []) (Text (codes "t")) at_first))
     × (shared AddProp (acting_at 1 1) None 0 (int (pos 5) ∷ text [] ∷ upon (codes "x")) at_first ≡ gives [] (property_stored (dbref_of 1) (codes "x" ∷ []) (Number (pos 5)) at_first))
     × (shared RemoveProp (acting_at 1 1) None 0 (upon (codes "x")) at_first ≡ gives [] (unstored (dbref_of 1) (codes "x" ∷ []) at_first))
@@ -57,4 +58,4 @@ PropWorked =
 
 pub prop_worked : PropWorked
 unfolding PropWorked first_tune early_board object_at number_in kind_in object_in room_zero player_one first_objects is_near controls owner_at owns controls_as level_fault is_number_there near_fault first_fault shared
-prop_worked = (refl, refl, refl, refl, refl, refl, refl, refl, refl, refl, refl, refl, refl, refl, refl, refl, refl, refl, refl, refl, refl)
+prop_worked = (refl, refl, refl, refl, refl, refl, refl, refl, refl, refl, refl, refl, refl, refl, refl, refl, refl, refl, refl, refl, refl, refl)
