@@ -45,13 +45,13 @@ module _ {D : Type 0} (seen : D → List ℕ) (moment : D → ℕ) (images : D �
       (subst (λ (b : D). LeavesBoth moment images f s f b (LoadsEither log.chosen x)) (sym g) (stays log f s x m))
 
   module _ (log new : LogState) (f s f' s' : D) (batch : Batch) (made : Kept) (m : IsMounted seen moment images log f s)
-      (any : (w : Kept) → laid (payload_of log batch) (target log.chosen).held.world ≡ Some w → LeavesBoth moment images f s f' s' (LoadsEither log.chosen (after_batch log.chosen (payload_of log batch) w)))
+      (any : (w : Kept) → laid 2 (payload_of log batch) (target log.chosen).held.world ≡ Some w → LeavesBoth moment images f s f' s' (LoadsEither log.chosen (after_batch log.chosen (payload_of log batch) w)))
       (payload : List ℕ) (same : payload_of log batch ≡ payload) where
     abbrev Said : List ℕ → Option LogState → Result (Unit {0}) LogFault → Type 0
     Said bytes left r = Appended seen moment images bytes made log left f s f' s' r
 
     abbrev Made : Type 0
-    Made = laid (payload_of log batch) (target log.chosen).held.world ≡ Some made
+    Made = laid 2 (payload_of log batch) (target log.chosen).held.world ≡ Some made
 
     pub appended_ok : (left : Option LogState) → left ≡ Some new → Made → IsNext log new (payload_of log batch) → IsMounted seen moment images new f' s' → (target log.chosen).place + more_of log (payload_of log batch) ≤ log.most → Said payload left (Ok tt)
     appended_ok left is makes next there fits =

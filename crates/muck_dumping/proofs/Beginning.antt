@@ -28,13 +28,13 @@ use Rattle.muck_dumping.proofs.Steps.{at_note}
 use Rattle.muck_dumping.proofs.Marks.{batch_at_cut}
 
 -- what a Cut hands out is the batch of the world, where it says all of it
-pub batch_cut : (base taken : List Stored) (w : World) (p : Pending) (batch : Batch) → p.batch ≡ batch → taken ≡ base → p.size ≡ length w.live.objects → LeavesOut taken (persist w.live.objects) batch.records → All IsStored batch.records → batch.tune ≡ w.live.board.tune →
+pub batch_cut : (base taken : List Stored) (w : World) (p : Pending) (batch : Batch) → p.batch ≡ batch → taken ≡ base → p.size ≡ length w.live.objects → LeavesOut taken (persist w.live.objects) batch.records → All (IsStored 2) batch.records → batch.tune ≡ w.live.board.tune →
     IsConsistent w.live.objects → IsWithinLimits w.live.objects → IsInRange w.live.board.tune → IsBatchOfWorld base w p
 batch_cut base taken w p batch is over size records storable tuning consistent limits tuned = record {
   records =
       subst (λ (b : Batch). LeavesOut base (persist w.live.objects) b.records) (sym is)
       (subst (λ (os : List Stored). LeavesOut os (persist w.live.objects) batch.records) over records);
-  storable = subst (λ (b : Batch). All IsStored b.records) (sym is) storable;
+  storable = subst (λ (b : Batch). All (IsStored 2) b.records) (sym is) storable;
   tuning = ap (λ (b : Batch). b.tune) is ∙ tuning;
   size = size;
   consistent = consistent;

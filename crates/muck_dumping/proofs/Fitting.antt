@@ -50,7 +50,7 @@ persist_fits es within = all_fit es 0 es (λ k e is. within k e.object (object_a
 
 -- the batch of a dump that began makes the world of which it is
 pub makes_world : (o : Option LogState) (log : LogState) (p : Pending) → o ≡ Some log → (objects : List Entry) × (tune : Tune) × IsBatchOf (base_in o) objects tune p
-    → All IsStored log.chosen.held.world.objects → length log.chosen.held.world.objects ≤ p.size → MakesWorld log p.batch
+    → All (IsStored 2) log.chosen.held.world.objects → length log.chosen.held.world.objects ≤ p.size → MakesWorld log p.batch
 makes_world o log p is has kept covers =
     let objects = has.0 in
     let tune = has.1 in

@@ -87,7 +87,7 @@ same_world x y e = cc
 
 pub appended_holds : (marks : Bool) (o : Option LogState) (log new : LogState) (p : Pending) (es : List Object) (tune : Tune) → o ≡ Some log → IsBatchOf (base_in o) es tune p → length log.chosen.held.world.objects ≤ p.size →
     (LeavesOut (base_of log) (persist es) p.batch.records → p.batch.tune ≡ tune → tune_fits tune ≡ true → 2 ≤ length es → length log.chosen.held.world.objects ≤ length es →
-    laid (payload_of log p.batch) (target log.chosen).held.world ≡ Some (record { objects = persist es; tune = tune })) →
+    laid 2 (payload_of log p.batch) (target log.chosen).held.world ≡ Some (record { objects = persist es; tune = tune })) →
     IsNext log new (payload_of log p.batch) → HoldsThese marks (Some new) es
 appended_holds marks o log new p es tune is b covers whole next = λ on x same.
     let left : LeavesOut (base_of log) (persist es) p.batch.records = subst (λ (y : Option LogState). LeavesOut (base_in y) (persist es) p.batch.records) is b.records in

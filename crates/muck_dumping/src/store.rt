@@ -38,7 +38,7 @@ pub struct Store {
 fn is_of_world(log: &Log, pending: &Pending) -> bool
     ensures covers { result ≡ true → length log.now.chosen.held.world.objects ≤ pending.now.size }
     ensures more { result ≡ false → pending.now.size < length log.now.chosen.held.world.objects }
-    ensures kept { All IsStored log.now.chosen.held.world.objects }
+    ensures kept { All (IsStored 2) log.now.chosen.held.world.objects }
 {
     let kept = log.kept().objects();
     kept.len() <= pending.size as usize

@@ -28,7 +28,7 @@ whole w objects sound same =
     let b = and_parts (list_all record_fits w.objects) _ a.1 in
     rw same (and_parts (tune_fits w.tune) (is_whole_store w.objects) b.1).1
 
-pub properties : (w : StoredWorld) (objects : List Stored) → IsSound w → objects ≡ w.objects → All (λ s. AreProperties s.props) objects
-properties w objects sound same = rw same (All-weaker IsStored (λ s. AreProperties s.props) (λ x s. s.props) w.objects sound.stored)
+pub properties : (w : StoredWorld) (objects : List Stored) → IsSound w → objects ≡ w.objects → All (λ s. AreProperties 2 s.props) objects
+properties w objects sound same = rw same (All-weaker (IsStored 2) (λ s. AreProperties 2 s.props) (λ x s. s.props) w.objects sound.stored)
 
 pub ruleset loads = (few, fit, whole, properties)

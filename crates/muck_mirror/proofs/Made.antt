@@ -36,7 +36,7 @@ judged_fine tune (Some l) v e = by (is_fine l tune) refl e
     by true f e = subst IsFine (same_Some (held l tune) v e) f
     by false f e = absurd (none-some v e)
 
-pub sound_made : (yes : Bool) (b : Batch) (old now : List Stored) → yes ≡ true → AreLaid yes b old now → All IsStored now → IsSound (held now b.tune)
+pub sound_made : (yes : Bool) (b : Batch) (old now : List Stored) → yes ≡ true → AreLaid yes b old now → All (IsStored 2) now → IsSound (held now b.tune)
 unfolding laid_over
 sound_made true b old now e laid stored = record { fine = judged_fine b.tune (all_placed b.records old) (held now b.tune) laid; stored = stored }
 sound_made false b old now e laid stored = absurd cc

@@ -3,6 +3,7 @@ use Rattle.std.specs.Prelude.{ℕ, suc, ◌+◌, ◌-◌, ◌==◌, if◌then◌
 use Rattle.std.specs.Int.{w64, to_be_bytes}
 use Rattle.muck_codec.specs.Reading.{◌>>=◌, number_at}
 use Rattle.muck_codec.specs.Batches.{whole_batch}
+use Rattle.muck_log.specs.Body.{is_version}
 
 -- these very bytes
 unfoldable pub literal_at : List ℕ → List ℕ → Result (List ℕ) ℕ
@@ -10,10 +11,10 @@ literal_at [] bytes = Ok bytes
 literal_at (w ∷ wanted) [] = Err 0
 literal_at (w ∷ wanted) (b ∷ bytes) = if b == w then literal_at wanted bytes else Err (suc (length bytes))
 
--- the version, of which there is one
+-- the version of its records
 unfoldable pub version_at : List ℕ → Result (ℕ × List ℕ) ℕ
 version_at [] = Err 0
-version_at (b ∷ bytes) = if b == 1 then Ok (1, bytes) else Err (suc (length bytes))
+version_at (b ∷ bytes) = if is_version b then Ok (b, bytes) else Err (suc (length bytes))
 
 -- The head of a body: version and number.
 pub record Head : Type 0 where

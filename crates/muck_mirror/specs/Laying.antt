@@ -12,4 +12,4 @@ laid_in version payload w = option_and_then (λ b. laid_over b w) (batch_if (who
 -- a consistent world with every value within its limits, of which each record has a spelling
 pub record IsSound (w : StoredWorld) : Type 0 where
   pub fine : IsFine w
-  pub stored : All IsStored w.objects
+  pub stored : All (IsStored 2) w.objects

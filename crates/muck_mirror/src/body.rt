@@ -1,7 +1,8 @@
 // The head of a body.
-ghost use Rattle.std.specs.Prelude.{◌≡◌, IfOk};
+ghost use Rattle.std.specs.Prelude.{◌≡◌, true, IfOk};
 ghost use Rattle.std.specs.Int.{w64};
 ghost use Rattle.muck_codec.specs.Reading.{number_at};
+ghost use Rattle.muck_log.specs.Body.{is_version};
 ghost use Rattle.muck_mirror.specs.Bodies.{literal_at, version_at, body_head_at};
 ghost use Rattle.muck_mirror.specs.inner.Heading.{Gives, seen};
 
@@ -30,13 +31,13 @@ fn literal_at<'a>(wanted: &[u8], bytes: &'a [u8]) -> Result<&'a [u8], usize>
 #[tactic(auto, unfolding(crate::specs::Bodies::version_at))]
 fn version_at(bytes: &[u8]) -> Result<(u8, &[u8]), usize>
     ensures reads { Gives (λ x. (x.0, x.1.now)) result (version_at bytes.now) }
-    ensures one { IfOk result (λ x. x.0 ≡ 1) }
+    ensures known { IfOk result (λ x. is_version x.0 ≡ true) }
 {
     match bytes {
         [] => Err(0),
         [b, rest @ ..] => {
-            if *b == 1 {
-                return Ok((1, rest));
+            if *b == 1 || *b == 2 {
+                return Ok((*b, rest));
             }
             Err(bytes.len())
         }
@@ -59,7 +60,7 @@ fn number_at(bytes: &[u8]) -> Result<(u64, &[u8]), usize>
 #[tactic(auto, unfolding(crate::specs::Bodies::body_head_at))]
 pub(crate) fn head_at(generation: u64, bytes: &[u8]) -> Result<(Head, &[u8]), usize>
     ensures reads { Gives (λ x. (seen x.0, x.1.now)) result (body_head_at generation bytes.now) }
-    ensures one { IfOk result (λ x. x.0.version ≡ 1) }
+    ensures known { IfOk result (λ x. is_version x.0.version ≡ true) }
 {
     let rest = literal_at(b"MUCK", bytes)?;
     let (version, rest) = version_at(rest)?;

@@ -1,9 +1,10 @@
 // Feeding a mirror.
-ghost use Rattle.std.specs.Prelude.{◌≡◌, ◌≤◌, length, drop, IfOk, OnOk, OnErr};
+ghost use Rattle.std.specs.Prelude.{◌≡◌, ◌≤◌, length, drop, true, IfOk, OnOk, OnErr};
+ghost use Rattle.muck_log.specs.Body.{is_version};
 ghost use Rattle.muck_mirror.specs.Laying.{IsSound, laid_in};
 ghost use Rattle.muck_mirror.specs.Bodies.{fed_body_in};
 ghost use Rattle.muck_mirror.specs.Mirrors.{ahead, is_body_kept, bodies_kept_with, bodies_followed, fed, next_fed};
-ghost use Rattle.muck_mirror.specs.inner.Feeding.{IsBodyRead, ComesTo, IsPlace};
+ghost use Rattle.muck_mirror.specs.inner.Feeding.{IsBodyRead, IsKnown, ComesTo, IsPlace};
 
 use crate::World;
 use crate::body::head_at;
@@ -15,15 +16,16 @@ use std::alloc::Global;
 /// The most bodies that are kept.
 const KEPT_MOST: usize = 64;
 
-// The number of a body that was read, and the bytes of its batch; or the place of the first byte that no body continues.
+// Version and number of a body that was read, and the bytes of its batch; or the place of the first byte that no body continues.
 enum Reading<'a> {
-    Body(u64, &'a [u8]),
+    Body(u8, u64, &'a [u8]),
     Strange(usize),
 }
 
 #[tactic(auto, unfolding(crate::specs::Bodies::fed_body_in))]
 fn read_body<'a>(alloc: Global, generation: u64, bytes: &'a [u8]) -> Result<Reading<'a>, NoMemory>
-    ensures { IfOk result (λ read. IsBodyRead read (fed_body_in generation bytes.now)) }
+    ensures read { IfOk result (λ read. IsBodyRead read (fed_body_in generation bytes.now)) }
+    ensures known { IfOk result IsKnown }
 {
     let (head, rest) = match head_at(generation, bytes) {
         Ok(found) => found,
@@ -31,7 +33,7 @@ fn read_body<'a>(alloc: Global, generation: u64, bytes: &'a [u8]) -> Result<Read
     };
     let before = bytes.len().saturating_sub(rest.len());
     match take_batch(alloc, head.version, rest) {
-        Ok(_) => Ok(Reading::Body(head.number, rest)),
+        Ok(_) => Ok(Reading::Body(head.version, head.number, rest)),
         Err(CodecFault::BadRecord { at }) => Ok(Reading::Strange(before.saturating_add(at))),
         Err(CodecFault::NoMemory) => Err(NoMemory),
     }
@@ -71,7 +73,7 @@ fn follow(world: &mut World, kept: &[Waiting], next: u64) -> Result<Come, NoMemo
     if first.number != next {
         return Ok(Come { next, gone: 0 });
     }
-    let Some(undo) = world.lay(&first.payload)? else {
+    let Some(undo) = world.lay(first.version, &first.payload)? else {
         return Ok(Come { next, gone: 1 });
     };
     match follow(world, rest, next.wrapping_add(1)) {
@@ -123,8 +125,8 @@ impl Mirror {
         ensures fed { IfOk result (λ answer. (answer, self.new) ≡ fed self.old body.now) }
         ensures unchanged { OnErr result (self.new ≡ self.old) }
     {
-        let (number, payload) = match read_body(self.alloc, self.generation, body)? {
-            Reading::Body(number, payload) => (number, payload),
+        let (version, number, payload) = match read_body(self.alloc, self.generation, body)? {
+            Reading::Body(version, number, payload) => (version, number, payload),
             Reading::Strange(at) => return Ok(Fed::Strange { at: at as u64 }),
         };
         let far = ahead(self.next, number);
@@ -132,22 +134,23 @@ impl Mirror {
             return Ok(Fed::Known);
         }
         if far == 0 {
-            return self.apply(payload);
+            return self.apply(version, payload);
         }
         if self.kept.len() >= KEPT_MOST {
             return Ok(Fed::Full);
         }
-        self.keep(number, payload)?;
+        self.keep(version, number, payload)?;
         Ok(Fed::Early)
     }
 
     // The next batch, and those that follow it. Where memory is wanted all is as it was.
     #[tactic(auto, unfolding(muck_log::specs::File::after_number))]
-    fn apply(&mut self, payload: &[u8]) -> Result<Fed, NoMemory>
-        ensures fed { IfOk result (λ answer. (answer, self.new) ≡ next_fed self.old (laid_in 1 payload.now self.old.world)) }
+    fn apply(&mut self, version: u8, payload: &[u8]) -> Result<Fed, NoMemory>
+        requires { is_version version ≡ true }
+        ensures fed { IfOk result (λ answer. (answer, self.new) ≡ next_fed self.old (laid_in version payload.now self.old.world)) }
         ensures unchanged { OnErr result (self.new ≡ self.old) }
     {
-        let Some(undo) = self.world.lay(payload)? else {
+        let Some(undo) = self.world.lay(version, payload)? else {
             return Ok(Fed::Strange { at: 0 });
         };
         match follow(&mut self.world, &self.kept, self.next.wrapping_add(1)) {
@@ -166,13 +169,21 @@ impl Mirror {
     }
 
     // One that is ahead.
-    fn keep(&mut self, number: u64, payload: &[u8]) -> Result<(), NoMemory>
-        ensures kept { OnOk result (self.new ≡ record self.old { kept = bodies_kept_with self.old.next (record { version = 1; number = number; payload = payload.now }) self.old.kept }) }
+    fn keep(&mut self, version: u8, number: u64, payload: &[u8]) -> Result<(), NoMemory>
+        requires { is_version version ≡ true }
+        ensures kept { OnOk result (self.new ≡ record self.old { kept = bodies_kept_with self.old.next (record { version = version; number = number; payload = payload.now }) self.old.kept }) }
         ensures unchanged { OnErr result (self.new ≡ self.old) }
     {
         let payload = Vec::from_slice(self.alloc, payload)?;
         let at = place_of(&self.kept, self.next, number);
-        self.kept.insert(at, Waiting { number, payload })?;
+        self.kept.insert(
+            at,
+            Waiting {
+                version,
+                number,
+                payload,
+            },
+        )?;
         Ok(())
     }
 }

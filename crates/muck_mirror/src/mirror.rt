@@ -23,19 +23,24 @@ pub enum Fed {
     Strange { at: u64 },
 }
 
-// A body that is kept: its number, and the bytes of its batch, which is of version 1.
+// A body that is kept: the version of its records, its number, and the bytes of its batch.
 #[derive(Drop)]
 pub struct Waiting {
+    pub version: u8,
     pub number: u64,
     pub payload: Vec<u8>,
 }
 
 impl Model for Waiting {
+    ghost use Rattle.std.specs.Prelude.{◌≡◌, true};
+    ghost use Rattle.muck_log.specs.Body.{is_version};
     ghost use Rattle.muck_mirror.specs.Bodies.{FedBody};
 
     ghost Value = { FedBody };
 
-    ghost view = { λ b. record { version = 1; number = b.number; payload = b.payload.items } };
+    ghost invariant = { λ b. is_version b.version ≡ true };
+
+    ghost view = { λ b. record { version = b.version; number = b.number; payload = b.payload.items } };
 }
 
 /// A mirror of a store, which follows it by its batches. It always holds a consistent world with every value within its limits.

@@ -1,11 +1,12 @@
 // The world that a mirror holds. A batch is laid over it in place, and what it replaces is kept until nothing can fail any more.
-ghost use Rattle.std.specs.Prelude.{◌≡◌, ◌≤◌, ◌<◌, ℕ, All, IfOk, OnOk, OnErr, length, reverse, slice_set, slice_index_or, []};
+ghost use Rattle.std.specs.Prelude.{◌≡◌, ◌≤◌, ◌<◌, ℕ, true, All, IfOk, OnOk, OnErr, length, reverse, slice_set, slice_index_or, []};
 ghost use Rattle.spec_live.specs.Objects.{index_of};
 ghost use Rattle.std.specs.List.{list_all};
 ghost use Rattle.muck_codec.specs.inner.Stored.{IsStored};
 ghost use Rattle.muck_log.specs.World.{start, is_fine, record_placed, all_placed};
 ghost use Rattle.muck_log.specs.inner.Head.{IsPlaced, ArePlaced};
 ghost use Rattle.muck_store.specs.Limits.{record_fits};
+ghost use Rattle.muck_log.specs.Body.{is_version};
 ghost use Rattle.muck_mirror.specs.Laying.{IsSound, laid_in};
 ghost use Rattle.muck_mirror.specs.inner.Undoing.{put_back, undone, undone_world, AreLaid, IsLaid, IsUndone};
 
@@ -112,7 +113,7 @@ fn place(
     replaced: &mut Vec<Replaced>,
 ) -> Result<bool, NoMemory>
     ensures placed { IfOk result (λ yes. IsPlaced yes object objects.old.items objects.new.items) }
-    ensures stored { IsStored object → All IsStored objects.old.items → All IsStored objects.new.items }
+    ensures stored { IsStored 2 object → All (IsStored 2) objects.old.items → All (IsStored 2) objects.new.items }
     ensures back { (count : ℕ) → count ≤ length objects.old.items → undone count replaced.new.items objects.new.items ≡ undone count replaced.old.items objects.old.items }
     ensures longer { length objects.old.items ≤ length objects.new.items }
 {
@@ -137,7 +138,7 @@ fn place_all(
     replaced: &mut Vec<Replaced>,
 ) -> Result<bool, NoMemory>
     ensures placed { IfOk result (λ yes. ArePlaced yes (reverse records.items) objects.old.items objects.new.items) }
-    ensures stored { All IsStored (reverse records.items) → All IsStored objects.old.items → All IsStored objects.new.items }
+    ensures stored { All (IsStored 2) (reverse records.items) → All (IsStored 2) objects.old.items → All (IsStored 2) objects.new.items }
     ensures back { (count : ℕ) → count ≤ length objects.old.items → undone count replaced.new.items objects.new.items ≡ undone count replaced.old.items objects.old.items }
 {
     let mut left = records;
@@ -188,7 +189,7 @@ fn put(
 ) -> Result<bool, NoMemory>
     requires none { replaced.old.items ≡ [] }
     ensures laid { IfOk result (λ yes. AreLaid yes batch objects.old.items objects.new.items) }
-    ensures stored { All IsStored batch.records → All IsStored objects.old.items → All IsStored objects.new.items }
+    ensures stored { All (IsStored 2) batch.records → All (IsStored 2) objects.old.items → All (IsStored 2) objects.new.items }
     ensures back { undone (length objects.old.items) replaced.new.items objects.new.items ≡ objects.old.items }
 {
     let Batch { records, tune } = batch;
@@ -230,7 +231,7 @@ impl World {
 
     // Lays a batch over it, and answers what undoes it; none where that can't be. Nothing is changed then, nor where memory is wanted.
     fn lay_batch(&mut self, batch: Batch) -> Result<Option<Undo>, NoMemory>
-        requires stored { All IsStored batch.records }
+        requires stored { All (IsStored 2) batch.records }
         requires sound { IsSound self.old }
         ensures laid { IfOk result (λ undo. IsUndone undo batch self.old self.new) }
         ensures unchanged { OnErr result (self.new ≡ self.old) }
@@ -260,15 +261,16 @@ impl World {
         }
     }
 
-    // Lays the bytes of a batch over it.
-    #[tactic(auto, unfolding(crate::specs::Laying::laid_in))]
-    pub(crate) fn lay(&mut self, payload: &[u8]) -> Result<Option<Undo>, NoMemory>
+    // Lays the bytes of a batch of that version over it.
+    #[tactic(auto, using(muck_log::proofs::Known::all_second), unfolding(crate::specs::Laying::laid_in))]
+    pub(crate) fn lay(&mut self, version: u8, payload: &[u8]) -> Result<Option<Undo>, NoMemory>
+        requires known { is_version version ≡ true }
         requires sound { IsSound self.old }
-        ensures laid { IfOk result (λ undo. IsLaid undo payload.now self.old self.new) }
+        ensures laid { IfOk result (λ undo. IsLaid undo version payload.now self.old self.new) }
         ensures unchanged { OnErr result (self.new ≡ self.old) }
         ensures sound { OnOk result (IsSound self.new) }
     {
-        match take_batch(self.alloc, 1, payload) {
+        match take_batch(self.alloc, version, payload) {
             Ok(batch) => self.lay_batch(batch),
             Err(CodecFault::BadRecord { .. }) => Ok(None),
             Err(CodecFault::NoMemory) => Err(NoMemory),

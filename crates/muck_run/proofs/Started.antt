@@ -58,8 +58,8 @@ bootable kept fine =
     let c = and_parts (tune_fits kept.tune) (is_whole_store kept.objects) b.1 in
     record { few = leb-true (length kept.objects) 100000 a.0; whole = c.1; fit = b.0; tuned = c.0 }
 
-pub properties : (os : List Stored) → All IsStored os → All (λ s. AreProperties s.props) os
-properties os all = All-weaker IsStored (λ s. AreProperties s.props) (λ x s. s.props) os all
+pub properties : (os : List Stored) → All (IsStored 2) os → All (λ s. AreProperties 2 s.props) os
+properties os all = All-weaker (IsStored 2) (λ s. AreProperties 2 s.props) (λ x s. s.props) os all
 
 -- the objects of records have no marks
 pub unmarked : (os : List Stored) (n : ℕ) → mark_in (loaded os) n ≡ None
@@ -107,11 +107,11 @@ pub known_from : (began : ℕ) (kept : Kept) (es : List Happened) → AllLawful 
 known_from began kept es lawful = all_known_booted (loaded kept.objects) kept.tune began began (unmarked kept.objects) es lawful
 
 -- what a dump would store of that world is what was kept
-pub held_again : (began : ℕ) (kept : Kept) → IsBootable kept → All (λ s. AreProperties s.props) kept.objects → kept ≡ persisted (booted_at began kept)
+pub held_again : (began : ℕ) (kept : Kept) → IsBootable kept → All (λ s. AreProperties 2 s.props) kept.objects → kept ≡ persisted (booted_at began kept)
 unfolding world_booted early_board
 held_again began kept is props =
     ap (λ (os : List Stored). let k : Kept = record { objects = os; tune = kept.tune } in k)
-    (sym (persist_loaded kept.objects is.few is.whole (recursion_from_All (λ s. AreProperties s.props) kept.objects props)))
+    (sym (persist_loaded kept.objects is.few is.whole (recursion_from_All (λ s. AreProperties 2 s.props) kept.objects props)))
 
 pub hangs : (began : ℕ) (kept : Kept) → IsBootable kept → IsConsistent (booted_at began kept).live.objects
 unfolding world_booted
@@ -130,7 +130,7 @@ pub begins_idle : (began : ℕ) (log : LogState) (note : Note) (h : History) →
 unfolding now world_booted
 begins_idle began log note h is = ap (λ (x : History). (now x).dumps.running) is
 
-module _ {D : Type 0} (began : ℕ) (seen : D → List ℕ) (moment : D → ℕ) (images : D → ℕ → List ℕ → Type 0) (faults : D → ℕ) (log : LogState) (f s : D) (is : IsBootable log.chosen.held.world) (props : All (λ x. AreProperties x.props) log.chosen.held.world.objects) (on : IsMountedAs seen moment images file_most log f s) where
+module _ {D : Type 0} (began : ℕ) (seen : D → List ℕ) (moment : D → ℕ) (images : D → ℕ → List ℕ → Type 0) (faults : D → ℕ) (log : LogState) (f s : D) (is : IsBootable log.chosen.held.world) (props : All (λ x. AreProperties 2 x.props) log.chosen.held.world.objects) (on : IsMountedAs seen moment images file_most log f s) where
   rests_there : Rests seen moment images faults (Some log) f s log.chosen.held.number (begun (booted_at began log.chosen.held.world) (note_of moment faults f s (unbegun_at began log)))
   rests_there =
       rests_begun seen moment images faults log f s (booted_at began log.chosen.held.world) (note_of moment faults f s (unbegun_at began log)) on.mounted on.limit (held_again began log.chosen.held.world is props)

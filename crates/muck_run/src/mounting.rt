@@ -97,7 +97,7 @@ pub fn mount<D: Disk>(alloc: Global, store: &str, first: &mut D, second: &mut D)
 #[tactic(auto, using(muck_model::proofs::Parameters::in_range, crate::proofs::Started::properties, crate::proofs::Started::unmarked, crate::proofs::Started::unmoved))]
 fn boot(alloc: Global, kept: &Kept, began: u64) -> Result<World, NoMemory>
     requires { IsBootable kept.now }
-    ensures storable { All IsStored kept.now.objects }
+    ensures storable { All (IsStored 2) kept.now.objects }
     ensures world { IfOk result (λ w. w ≡ record { start = booted_at began kept.now; entries = []; notes = []; counted = None }) }
 {
     let db = Db::load(alloc, kept.objects())?;
@@ -116,7 +116,7 @@ pub fn awake<D: Disk>(
     began: u64,
 ) -> Result<World, NoMemory>
     requires bootable { IsBootable log.now.chosen.held.world }
-    ensures properties { OnOk result (All (λ s. AreProperties s.props) log.now.chosen.held.world.objects) }
+    ensures properties { OnOk result (All (λ s. AreProperties 2 s.props) log.now.chosen.held.world.objects) }
     ensures world { IfOk result (λ w. w ≡ begun_at began log.now (note_of D.moment D.faults first.now second.now (unbegun_at began log.now))) }
 {
     let mut world = boot(alloc, log.kept(), began)?;

@@ -79,7 +79,7 @@ pub fn begin<D: Disk>(
 ) -> Result<(World, Vec<u8>), NoMemory>
     requires bootable { IsBootable log.now.chosen.held.world }
     ensures room { IfOk result (λ made. 131090 ≤ vec_len made.1) }
-    ensures properties { OnOk result (All (λ s. AreProperties s.props) log.now.chosen.held.world.objects) }
+    ensures properties { OnOk result (All (λ s. AreProperties 2 s.props) log.now.chosen.held.world.objects) }
     ensures world { IfOk result (λ made. made.0 ≡ begun_at 0 log.now (note_of D.moment D.faults first.now second.now (unbegun_at 0 log.now))) }
 {
     let buf = buffer(alloc)?;

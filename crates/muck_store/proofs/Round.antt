@@ -35,13 +35,13 @@ all_further : (b p : List (List ℕ)) (ks : List (List (List ℕ))) → path_cmp
 all_further b p [] lt h = tt
 all_further b p (k ∷ ks) lt h = (path_cmp_total.trans b p k lt h.0, all_further b p ks lt h.1)
 
-runs_behind : (b : List (List ℕ)) (ps : List Property) → Run (λ (p : Property). p.path) IsProperty (Some b) ps → AllByRecursion (λ k. path_cmp b k ≡ Less) (keys_of (map (λ p. entry_at p) ps))
+runs_behind : (b : List (List ℕ)) (ps : List Property) → Run (λ (p : Property). p.path) (IsProperty 2) (Some b) ps → AllByRecursion (λ k. path_cmp b k ≡ Less) (keys_of (map (λ p. entry_at p) ps))
 runs_behind b [] h = tt
 runs_behind b (p ∷ ps) h =
     let lt : path_cmp b p.path ≡ Less = is_less (path_cmp b p.path) h.0.0.1 in
     (lt, all_further b p.path (keys_of (map (λ x. entry_at x) ps)) lt (runs_behind p.path ps h.1))
 
-runs_sorted : (before : Option (List (List ℕ))) (ps : List Property) → Run (λ (p : Property). p.path) IsProperty before ps → IsStrictlySortedBy path_cmp (keys_of (map (λ p. entry_at p) ps))
+runs_sorted : (before : Option (List (List ℕ))) (ps : List Property) → Run (λ (p : Property). p.path) (IsProperty 2) before ps → IsStrictlySortedBy path_cmp (keys_of (map (λ p. entry_at p) ps))
 unfolding IsStrictlySortedBy
 runs_sorted before [] h = tt
 runs_sorted before (p ∷ ps) h = (runs_behind p.path ps h.1, runs_sorted (Some p.path) ps h.1)
@@ -50,7 +50,7 @@ entries_again : (ps : List Property) → map (λ e. property_of e) (map (λ p. e
 entries_again [] = refl
 entries_again (p ∷ ps) = ap (λ t. p ∷ t) (entries_again ps)
 
-props_again : (ps : List Property) → AreProperties ps → properties_of (from_entries (map (λ p. entry_at p) ps)) ≡ ps
+props_again : (ps : List Property) → AreProperties 2 ps → properties_of (from_entries (map (λ p. entry_at p) ps)) ≡ ps
 props_again ps h = ap (λ es. map (λ e. property_of e) es) (entries_are (map (λ p. entry_at p) ps) (runs_sorted None ps h.1)) ∙ entries_again ps
 
 -- Numbers of objects.
@@ -173,7 +173,7 @@ chained_blank os k s h e g =
 chained : (os : List Stored) (k : ℕ) (s : Stored) → Hanging os → slice_get os k ≡ Some s → Chained os k s
 chained os k s h e = elim (cases_Bool (is_garbage s.kind)) [ inl g ↦ chained_blank os k s h e g | inr a ↦ chained_alive os k s h e a ]
 
-each_again : (os : List Stored) (k : ℕ) (s : Stored) → Hanging os → slice_get os k ≡ Some s → AreProperties s.props → stored_of (loaded os) k (entry_of_stored os s) ≡ s
+each_again : (os : List Stored) (k : ℕ) (s : Stored) → Hanging os → slice_get os k ≡ Some s → AreProperties 2 s.props → stored_of (loaded os) k (entry_of_stored os s) ≡ s
 unfolding stored_of entry_of_stored
 each_again os k s h e props =
     let n : ℕ = length os in
@@ -203,10 +203,10 @@ from_again os es k (s ∷ rest) h =
     let tail : stored_from es (suc k) (map (entry_of_stored os) rest) ≡ rest = from_again os es (suc k) rest (λ j n x e q. h (suc j) n x (omega (arith, e)) q) in
     ap (λ x. x ∷ stored_from es (suc k) (map (entry_of_stored os) rest)) head ∙ ap (λ t. s ∷ t) tail
 
-pub persist_loaded : (os : List Stored) → length os ≤ 100000 → is_whole_store os ≡ true → AllByRecursion (λ s. AreProperties s.props) os → persist (loaded os) ≡ os
+pub persist_loaded : (os : List Stored) → length os ≤ 100000 → is_whole_store os ≡ true → AllByRecursion (λ s. AreProperties 2 s.props) os → persist (loaded os) ≡ os
 unfolding persist loaded
 persist_loaded os few w props =
     let h : Hanging os = hanging os w in
     from_again os (map (entry_of_stored os) os) 0 os (λ j n s e q.
     let at : slice_get os n ≡ Some s = ap (λ z. slice_get os z) (sym (let i : j ≡ n = omega (arith, e) in i)) ∙ q in
-    each_again os n s h at (all_get (λ x. AreProperties x.props) os n s props at))
+    each_again os n s h at (all_get (λ x. AreProperties 2 x.props) os n s props at))

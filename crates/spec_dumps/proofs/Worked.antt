@@ -1,6 +1,6 @@
 -- The worked rows.
 use Rattle.std.proofs.Common.{◌≡◌, inl, inr, ℕ, ◌+◌, ◌-◌, ◌<◌, ◌≤◌, ◌^◌, true, false, zero, suc, List, [], ◌∷◌, take, refl, ap, ◌∙◌, subst, arith, Result, Ok, lit<}
-use Rattle.std.specs.Prelude.{not, nat_le, nat_lt, ◌&&◌, if◌then◌else◌}
+use Rattle.std.specs.Prelude.{◌==◌, not, nat_le, nat_lt, ◌&&◌, ◌||◌, if◌then◌else◌}
 use Rattle.muck_model.specs.declared.event.Entry.{Entry}
 use Rattle.muck_model.specs.declared.event.Event.TheVariants.{Cut, Stored, DumpFailed}
 use Rattle.muck_model.specs.declared.note.Note.{Note}
@@ -10,7 +10,7 @@ use Rattle.muck_codec.specs.Batches.{batch_bytes, tune_bytes}
 use Rattle.muck_store.specs.Forms.{persist, stored_from}
 use Rattle.muck_log.specs.Append.{more_of, payload_of}
 use Rattle.muck_log.specs.Body.{body_bytes, magic}
-use Rattle.muck_log.specs.File.{after_number, begin, file_of, is_gate_open}
+use Rattle.muck_log.specs.File.{after_number, begin, file_of, is_gate_open, header_written}
 use Rattle.muck_log.specs.Store.{Chosen, Damage, opens_new, target, next_body, after_batch, store_of, file_picked}
 use Rattle.muck_log.specs.World.{start, records_written}
 use Rattle.spec_events.specs.World.{World, world_booted}
@@ -31,7 +31,7 @@ held_one images f s t u x y v o =
 -- No cause.
 
 abbrev empty : Chosen
-empty = record { second = false; place = 0; held = begin 1 }
+empty = record { second = false; place = 0; held = begin (header_written 1) }
 
 none_stored : store_of [] [] ≡ Ok empty
 unfolding store_of file_picked file_of is_gate_open
@@ -67,24 +67,24 @@ no_front s none f = at f.count f.short f.cut f.number (f.acknowledged 2 1 (omega
 
 -- No delta.
 
-goes_on : (s : Chosen) → s.held.count ≡ 1 → opens_new s.held ≡ false
+goes_on : (s : Chosen) → s.held.version ≡ 2 → s.held.count ≡ 1 → opens_new s.held ≡ false
 unfolding opens_new
-goes_on s count = ap (λ n. nat_le 64 n && nat_lt s.held.generation (2 ^ 64 - 1)) count
+goes_on s version count = ap (λ v. v == 1 || (nat_le 64 s.held.count && nat_lt s.held.generation (2 ^ 64 - 1))) version ∙ ap (λ n. nat_le 64 n && nat_lt s.held.generation (2 ^ 64 - 1)) count
 
 target_is : (s : Chosen) → opens_new s.held ≡ false → target s ≡ s
 unfolding target
-target_is s old = ap (λ b. if b then (record { second = not s.second; place = 0; held = begin (s.held.generation + 1) }) else s) old
+target_is s old = ap (λ b. if b then (record { second = not s.second; place = 0; held = begin (header_written (s.held.generation + 1)) }) else s) old
 
-same_generation : (s : Chosen) (w : World) → s.held.count ≡ 1 → (dumped_on s w).held.generation ≡ s.held.generation
+same_generation : (s : Chosen) (w : World) → s.held.version ≡ 2 → s.held.count ≡ 1 → (dumped_on s w).held.generation ≡ s.held.generation
 unfolding after_batch
-same_generation s w count = ap (λ (t : Chosen). t.held.generation) (target_is s (goes_on s count))
+same_generation s w version count = ap (λ (t : Chosen). t.held.generation) (target_is s (goes_on s version count))
 
 no_delta : {D : Type 0} (images : D → ℕ → List ℕ → Type 0) (f s : D) (x next : Chosen) (w now : World) (mounted n : ℕ) (h : List Entry) (notes : List Note) (before note : Note) →
-    HoldsBy images f s before x → x.held.count ≡ 1 → HoldsBy images f s note next → next.held.generation ≡ x.held.generation + 1 → IsDelta images f s w mounted h notes n before note now → ⊥
-no_delta images f s x next w now mounted n h notes before note held count wrote opens d =
+    HoldsBy images f s before x → x.held.version ≡ 2 → x.held.count ≡ 1 → HoldsBy images f s note next → next.held.generation ≡ x.held.generation + 1 → IsDelta images f s w mounted h notes n before note now → ⊥
+no_delta images f s x next w now mounted n h notes before note held version count wrote opens d =
     let base : d.base ≡ x = held_one images f s before.first_moment before.second_moment d.base x d.held held in
     let made : next ≡ dumped_on d.base now = held_one images f s note.first_moment note.second_moment next (dumped_on d.base now) wrote d.wrote in
-    let same : (dumped_on d.base now).held.generation ≡ d.base.held.generation = same_generation d.base now (ap (λ (y : Chosen). y.held.count) base ∙ count) in
+    let same : (dumped_on d.base now).held.generation ≡ d.base.held.generation = same_generation d.base now (ap (λ (y : Chosen). y.held.version) base ∙ version) (ap (λ (y : Chosen). y.held.count) base ∙ count) in
     omega (arith, opens, ap (λ (y : Chosen). y.held.generation) made, same, ap (λ (y : Chosen). y.held.generation) base)
 
 pub rows : Rows
@@ -92,6 +92,6 @@ unfolding Rows
 rows = (
   no_cause,
   no_front,
-  λ test s next w now mounted n h notes held count wrote opens d. no_delta _ _ _ s next w now mounted n h notes (quiet_note 0 0) (quiet_note 1 1) held count wrote opens d,
+  λ test s next w now mounted n h notes held version count wrote opens d. no_delta _ _ _ s next w now mounted n h notes (quiet_note 0 0) (quiet_note 1 1) held version count wrote opens d,
   λ test t u s other v o. held_one _ _ _ t u s other v o,
 )

@@ -29,7 +29,7 @@ fresh_begun began log note h is = record {
 
 -- the log stands on the disks from which it was mounted
 pub ready_begun : {D : Type 0} (began : ℕ) (seen : D → List ℕ) (moment : D → ℕ) (images : D → ℕ → List ℕ → Type 0) (faults : D → ℕ) (log : LogState) (f s : D) → IsBootable log.chosen.held.world
-    → All (λ x. AreProperties x.props) log.chosen.held.world.objects → IsMountedAs seen moment images file_most log f s → (h : History) → h ≡ begun_at began log (note_of moment faults f s (unbegun_at began log))
+    → All (λ x. AreProperties 2 x.props) log.chosen.held.world.objects → IsMountedAs seen moment images file_most log f s → (h : History) → h ≡ begun_at began log (note_of moment faults f s (unbegun_at began log))
     → HasLog seen moment images faults (Some log) f s log.chosen.held.number h
 ready_begun began seen moment images faults log f s boots props mounted h is = record {
   keeps = (rests_started began seen moment images faults log f s boots props mounted (Some log) h refl is).keeps;

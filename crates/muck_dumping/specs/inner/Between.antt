@@ -35,7 +35,7 @@ base_in log = option_map_or base_of log []
 -- the batch is that of a world of these objects and parameters, which can be stored, and each of its records has a spelling
 pub record IsBatchOf (base : List Stored) (objects : List Object) (tune : Tune) (p : Pending) : Type 0 where
   pub records : LeavesOut base (persist objects) p.batch.records
-  pub storable : All IsStored p.batch.records
+  pub storable : All (IsStored 2) p.batch.records
   pub tuning : p.batch.tune ≡ tune
   pub size : p.size ≡ length objects
   pub consistent : IsConsistent objects

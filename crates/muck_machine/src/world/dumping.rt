@@ -47,7 +47,7 @@ impl World {
         requires lawful { is_lawful (now self.old) (record { party = party; event = Event.Cut k }) ≡ true }
         requires kept { KeepsUndue base.now (now self.old).live.objects }
         ensures records { IfOk result (λ batch. LeavesOut base.now (persist (now self.old).live.objects) batch.records) }
-        ensures storable { IfOk result (λ batch. All IsStored batch.records) }
+        ensures storable { IfOk result (λ batch. All (IsStored 2) batch.records) }
         ensures tune { IfOk result (λ batch. batch.tune ≡ (now self.old).live.board.tune) }
         ensures consistent { OnOk result (IsConsistent (now self.old).live.objects) }
         ensures limits { OnOk result (IsWithinLimits (now self.old).live.objects) }
@@ -62,7 +62,7 @@ impl World {
     pub fn cut_full(&mut self, party: u8, k: u64, base: &[Stored]) -> Result<Batch, NoMemory>
         requires { is_lawful (now self.old) (record { party = party; event = Event.Cut k }) ≡ true }
         ensures records { IfOk result (λ batch. LeavesOut base.now (persist (now self.old).live.objects) batch.records) }
-        ensures storable { IfOk result (λ batch. All IsStored batch.records) }
+        ensures storable { IfOk result (λ batch. All (IsStored 2) batch.records) }
         ensures tune { IfOk result (λ batch. batch.tune ≡ (now self.old).live.board.tune) }
         ensures consistent { OnOk result (IsConsistent (now self.old).live.objects) }
         ensures limits { OnOk result (IsWithinLimits (now self.old).live.objects) }
@@ -94,7 +94,7 @@ impl World {
         requires lawful { is_lawful (now self.old) (record { party = party; event = Event.Cut k }) ≡ true }
         requires kept { by_marks ≡ true → KeepsUndue base.now (now self.old).live.objects }
         ensures records { IfOk result (λ batch. LeavesOut base.now (persist (now self.old).live.objects) batch.records) }
-        ensures storable { IfOk result (λ batch. All IsStored batch.records) }
+        ensures storable { IfOk result (λ batch. All (IsStored 2) batch.records) }
         ensures tune { IfOk result (λ batch. batch.tune ≡ (now self.old).live.board.tune) }
         ensures consistent { OnOk result (IsConsistent (now self.old).live.objects) }
         ensures limits { OnOk result (IsWithinLimits (now self.old).live.objects) }

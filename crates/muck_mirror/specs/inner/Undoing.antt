@@ -30,6 +30,6 @@ IsUndone (Some u) b old new = (laid_over b old ≡ Some new) × (undone_world u 
 IsUndone None b old new = (laid_over b old ≡ None) × (new ≡ old)
 
 -- the same of the bytes of a batch
-abbrev pub IsLaid : Option Undo → List ℕ → StoredWorld → StoredWorld → Type 0
-IsLaid (Some u) payload old new = (laid_in 1 payload old ≡ Some new) × (undone_world u new ≡ old)
-IsLaid None payload old new = (laid_in 1 payload old ≡ None) × (new ≡ old)
+abbrev pub IsLaid : Option Undo → ℕ → List ℕ → StoredWorld → StoredWorld → Type 0
+IsLaid (Some u) version payload old new = (laid_in version payload old ≡ Some new) × (undone_world u new ≡ old)
+IsLaid None version payload old new = (laid_in version payload old ≡ None) × (new ≡ old)

@@ -20,7 +20,7 @@ impl State {
     pub fn begin_dump(&mut self, k: u64, base: &[Stored], by_marks: bool) -> Result<Batch, NoMemory>
         requires { by_marks ≡ true → KeepsUndue base.now self.old.live.objects }
         ensures records { IfOk result (λ batch. LeavesOut base.now (persist self.old.live.objects) batch.records) }
-        ensures storable { IfOk result (λ batch. All IsStored batch.records) }
+        ensures storable { IfOk result (λ batch. All (IsStored 2) batch.records) }
         ensures tune { IfOk result (λ batch. batch.tune ≡ self.old.live.board.tune) }
         ensures step { OnOk result (self.new ≡ happened self.old 0 (Event.Cut k)) }
     {
@@ -33,7 +33,7 @@ impl State {
     fn batch(&mut self, base: &[Stored], by_marks: bool) -> Result<Batch, NoMemory>
         requires { by_marks ≡ true → KeepsUndue base.now self.old.live.objects }
         ensures records { IfOk result (λ batch. LeavesOut base.now (persist self.old.live.objects) batch.records) }
-        ensures storable { IfOk result (λ batch. All IsStored batch.records) }
+        ensures storable { IfOk result (λ batch. All (IsStored 2) batch.records) }
         ensures tune { IfOk result (λ batch. batch.tune ≡ self.old.live.board.tune) }
         ensures step { OnOk result (self.new ≡ on_live (resaved pending) self.old) }
     {

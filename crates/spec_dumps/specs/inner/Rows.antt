@@ -36,9 +36,9 @@ Rows =
     (HasCause nothing_left true true bare 0 (by_porter (Cut 1) ∷ by_porter (DumpFailed 1) ∷ []) one_dump 0 (quiet_note 1 1) (quiet_note 0 0) → ⊥)
     -- a dump was stored, and this store, of number 0, doesn't have it: it is no front
     × ((s : Chosen) → s.held.number ≡ 0 → IsFront bare 0 (by_porter (Cut 1) ∷ by_porter (Stored 1) ∷ []) one_dump 2 s → ⊥)
-    -- a store held one batch, and one dump later it is of the next generation: that was no delta
+    -- a store held one batch of version 2, and one dump later it is of the next generation: that was no delta
     × ((test : Bool → ℕ → List ℕ → Bool) (s next : Chosen) (w now : World) (mounted n : ℕ) (h : List Entry) (notes : List Note) →
-    HoldsBy (left_by test) false true (quiet_note 0 0) s → s.held.count ≡ 1 → HoldsBy (left_by test) false true (quiet_note 1 1) next → next.held.generation ≡ s.held.generation + 1 →
+    HoldsBy (left_by test) false true (quiet_note 0 0) s → s.held.version ≡ 2 → s.held.count ≡ 1 → HoldsBy (left_by test) false true (quiet_note 1 1) next → next.held.generation ≡ s.held.generation + 1 →
     IsDelta (left_by test) false true w mounted h notes n (quiet_note 0 0) (quiet_note 1 1) now → ⊥)
     -- both disks hold one store at a moment, and no other
     × ((test : Bool → ℕ → List ℕ → Bool) (t u : ℕ) (s other : Chosen) → HoldsAt (left_by test) false true t u s → HoldsAt (left_by test) false true t u other → s ≡ other)

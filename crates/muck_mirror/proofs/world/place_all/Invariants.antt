@@ -8,7 +8,7 @@ use Rattle.muck_mirror.proofs.world.place_all.Given as goal
 abbrev pub invariant-loop-object : goal.invariant-loop-object
 invariant-loop-object l = record {
   placed : all_placed (reverse l.left.items) l.objects.items ≡ all_placed (reverse l.fn.records.items) l.initial.objects.items;
-  stored : All IsStored (reverse l.fn.records.items) → All IsStored l.initial.objects.items → All IsStored (reverse l.left.items) × All IsStored l.objects.items;
+  stored : All (IsStored 2) (reverse l.fn.records.items) → All (IsStored 2) l.initial.objects.items → All (IsStored 2) (reverse l.left.items) × All (IsStored 2) l.objects.items;
   back : (count : ℕ) → count ≤ length l.initial.objects.items → undone count l.replaced.items l.objects.items ≡ undone count l.initial.replaced.items l.initial.objects.items;
   longer : length l.initial.objects.items ≤ length l.objects.items;
 }

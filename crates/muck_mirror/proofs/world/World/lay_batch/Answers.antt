@@ -13,7 +13,7 @@ returns-in-Ok-true-clause-laid c = (
 
 pub returns-in-Ok-true-clause-sound : goal.returns-in-Ok-true-clause-sound
 returns-in-Ok-true-clause-sound c =
-    let before : All IsStored c.self.inside.objects.items = subst (λ (w : StoredWorld). All IsStored w.objects) (sym c.self.view_is) c.requires.sound.stored in
+    let before : All (IsStored 2) c.self.inside.objects.items = subst (λ (w : StoredWorld). All (IsStored 2) w.objects) (sym c.self.view_is) c.requires.sound.stored in
     sound_made c.in-Ok-true.field-0 c.args.batch c.self.inside.objects.items c.put.new.objects.items c.in-Ok-true.field-0-test c.in-Ok-true.ensures.laid (c.put.ensures.stored c.requires.stored before)
 
 pub returns-in-Ok-false-clause-laid : goal.returns-in-Ok-false-clause-laid
