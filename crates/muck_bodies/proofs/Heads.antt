@@ -1,14 +1,14 @@
 -- The head of a file, by its first 34 bytes.
 use Rattle.std.proofs.Common.{◌≡◌, ◌≢◌, ℕ, zero, suc, ◌+◌, ◌-◌, ◌<◌, ◌≤◌, Bool, true, false, leb, eqb, List, [], ◌∷◌, length, take, drop, get_or, Some, None, refl, sym, ◌∙◌, ap, subst, arith, length-take, length-drop}
-use Rattle.std.specs.Prelude.{min, find, if◌then◌else◌, ◌&&◌, bytes_eq}
-use Rattle.std.proofs.lemmas.List.{drop-drop, take-take}
+use Rattle.std.specs.Prelude.{min, find, if◌then◌else◌, ◌&&◌, bytes_eq, codes}
+use Rattle.std.proofs.lemmas.List.{drop-drop, get_or-take, take-take}
 use Rattle.std.proofs.lemmas.Bool.{le-leb, lt-leb}
 use Rattle.std.specs.Int.{w64, from_be_bytes}
 use Rattle.std.specs.Option.{option_map_or}
 use Rattle.muck_laws.proofs.Parts.{body_front, nine}
 use Rattle.muck_laws.proofs.Places.{first_byte}
 use Rattle.muck_laws.proofs.Texts.{same_word, size_word}
-use Rattle.muck_log.specs.Body.{Body, body_of, magic}
+use Rattle.muck_log.specs.Body.{Body, body_of, is_version}
 use Rattle.muck_bodies.specs.Bodies.{bodies_up_to, bodies_of, body_numbered, body_number, generation_of}
 use Rattle.muck_bodies.proofs.Firsts.{first_short, first_shut, first_cut, first_whole}
 use Rattle.muck_bodies.specs.declared.head.Head.{Head}
@@ -52,23 +52,29 @@ whole_head front file rest left size d long same at is gate some fits =
 -- The generation and the number of a body stand in its first 25 bytes.
 
 parsed : List ℕ → Body
-parsed bytes = record { generation = from_be_bytes w64 (take 8 (drop 5 bytes)); number = from_be_bytes w64 (take 8 (drop 13 bytes)); payload = drop 21 bytes }
+parsed bytes = record { version = get_or bytes 4 0; generation = from_be_bytes w64 (take 8 (drop 5 bytes)); number = from_be_bytes w64 (take 8 (drop 13 bytes)); payload = drop 21 bytes }
 
 by_test : (f : Body → ℕ) (t : Bool) (a b : Body) → f a ≡ f b → option_map_or f (if t then Some a else None) 0 ≡ option_map_or f (if t then Some b else None) 0
 by_test f true a b e = e
 by_test f false a b e = refl
 
-same_test : (size : ℕ) (l : List ℕ) → 25 ≤ size → size ≤ length l → (leb 25 (length (take 25 l)) && bytes_eq (take 5 (take 25 l)) magic) ≡ (leb 25 (length (take size l)) && bytes_eq (take 5 (take size l)) magic)
+-- they are those of a body that parses
+parses : List ℕ → Bool
+parses bytes = bytes_eq (take 4 bytes) (codes "MUCK") && is_version (get_or bytes 4 0)
+
+same_test : (size : ℕ) (l : List ℕ) → 25 ≤ size → size ≤ length l → (leb 25 (length (take 25 l)) && parses (take 25 l)) ≡ (leb 25 (length (take size l)) && parses (take size l))
+unfolding parses
 same_test size l big fits =
-    ap (λ t. t && bytes_eq (take 5 (take 25 l)) magic) (le-leb 25 (length (take 25 l)) (omega (arith, big, fits, length-take 25 l)))
-    ∙ ap (λ k. bytes_eq k magic) (take-take 5 25 l (omega arith) ∙ sym (take-take 5 size l (omega (arith, big))))
-    ∙ ap (λ t. t && bytes_eq (take 5 (take size l)) magic) (sym (le-leb 25 (length (take size l)) (omega (arith, big, fits, length-take size l))))
+    ap (λ t. t && parses (take 25 l)) (le-leb 25 (length (take 25 l)) (omega (arith, big, fits, length-take 25 l)))
+    ∙ ap (λ k. bytes_eq k (codes "MUCK") && is_version (get_or (take 25 l) 4 0)) (take-take 4 25 l (omega arith) ∙ sym (take-take 4 size l (omega (arith, big))))
+    ∙ ap (λ v. bytes_eq (take 4 (take size l)) (codes "MUCK") && is_version v) (get_or-take 25 l 4 0 (omega arith) ∙ sym (get_or-take size l 4 0 (omega (arith, big))))
+    ∙ ap (λ t. t && parses (take size l)) (sym (le-leb 25 (length (take size l)) (omega (arith, big, fits, length-take size l))))
 
 same_front : (f : Body → ℕ) (size : ℕ) (l : List ℕ) → 25 ≤ size → size ≤ length l → f (parsed (take 25 l)) ≡ f (parsed (take size l)) → option_map_or f (body_of (take 25 l)) 0 ≡ option_map_or f (body_of (take size l)) 0
-unfolding body_of parsed
+unfolding body_of parsed parses
 same_front f size l big fits e =
     ap (λ t. option_map_or f (if t then Some (parsed (take 25 l)) else None) 0) (same_test size l big fits)
-    ∙ by_test f (leb 25 (length (take size l)) && bytes_eq (take 5 (take size l)) magic) (parsed (take 25 l)) (parsed (take size l)) e
+    ∙ by_test f (leb 25 (length (take size l)) && parses (take size l)) (parsed (take 25 l)) (parsed (take size l)) e
 
 pub same_generation : (size : ℕ) (l : List ℕ) → 25 ≤ size → size ≤ length l → generation_of (take 25 l) ≡ generation_of (take size l)
 unfolding parsed
@@ -79,10 +85,10 @@ unfolding parsed
 same_number size l big fits = same_front (λ (b : Body). b.number) size l big fits (same_word 13 size l (omega arith) big)
 
 pub small_mark : (f : Body → ℕ) (file : List ℕ) (size : ℕ) → size < 25 → 0 ≡ option_map_or f (body_of (take size (drop 9 file))) 0
-unfolding body_of parsed
+unfolding body_of parsed parses
 small_mark f file size small =
     let bytes = take size (drop 9 file) in
-    sym (ap (λ t. option_map_or f (if t && bytes_eq (take 5 bytes) magic then Some (parsed bytes) else None) 0) (lt-leb 25 (length bytes) (omega (arith, small, length-take size (drop 9 file)))))
+    sym (ap (λ t. option_map_or f (if t && parses bytes then Some (parsed bytes) else None) 0) (lt-leb 25 (length bytes) (omega (arith, small, length-take size (drop 9 file)))))
 
 pub small_whole : (h : Head) (file : List ℕ) → h.generation ≡ 0 → h.number ≡ 0 → h.size < 25 → 9 + h.size ≤ length file
     → ((n : ℕ) → bodies_up_to (suc n) file ≡ take h.size (drop 9 file) ∷ bodies_up_to n (drop (9 + h.size) file)) → IsWhole h file

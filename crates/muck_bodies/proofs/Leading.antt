@@ -5,6 +5,7 @@ use Rattle.std.proofs.lemmas.List.{append-nil, drop-drop}
 use Rattle.std.proofs.lemmas.Option.{same_Some, none-some}
 use Rattle.std.proofs.lemmas.Bool.{cond-true, cond-false, eq-eqb, ne_eqb, eqb-false, leb-true, leb-false, le-leb}
 use Rattle.std.specs.Int.{w64, from_be_bytes}
+use Rattle.muck_log.specs.declared.body.Header.{Header}
 use Rattle.muck_log.specs.File.{Held, ReadingEnd, Opened, FileReading, gate_at, byte_step, byte_stepped, run, length_read, body_judged, join, begin, mode_end, reading_end, is_gate_open, header, file_of}
 use Rattle.muck_log.proofs.Runs.{run-append, run_shut, shut_at, size_at, body_at}
 use Rattle.muck_bodies.specs.Bodies.{framed_then, bodies_up_to, bodies_of, Lead}
@@ -146,20 +147,20 @@ lead (suc n) place held (gate ∷ next ∷ rest) e le ok = by (λ p k l short ok
     by more true ok = in_size n place held next rest e ok more
     by more false ok = ap (λ (y : ReadingEnd). y.held) (sym (ok_same (record { place = place; held = held }) e (ap (λ (r : FileReading). mode_end r.mode r) (sym (run_shut place held (next ∷ rest))) ∙ ok)))
 
-read_so : ℕ → List ℕ → Opened
-read_so g file = record { generation = g; ending = reading_end (run (gate_at 0 (begin g)) file) }
+read_so : Header → List ℕ → Opened
+read_so g file = record { head = g; ending = reading_end (run (gate_at 0 (begin g)) file) }
 
-pub leads : (file : List ℕ) (generation : ℕ) (e : ReadingEnd) → file_of file ≡ Some (Some (record { generation = generation; ending = Ok e })) → Lead (begin generation) (bodies_of file) e.held
+pub leads : (file : List ℕ) (head : Header) (e : ReadingEnd) → file_of file ≡ Some (Some (record { head = head; ending = Ok e })) → Lead (begin head) (bodies_of file) e.held
 unfolding file_of bodies_of reading_end read_so
-leads file generation e is = by (is_gate_open file) (header file) is
+leads file head e is = by (is_gate_open file) (header file) is
   where
-    of : (g : ℕ) → read_so g file ≡ record { generation = generation; ending = Ok e } → Lead (begin generation) (bodies_up_to (length file) file) e.held
+    of : (g : Header) → read_so g file ≡ record { head = head; ending = Ok e } → Lead (begin head) (bodies_up_to (length file) file) e.held
     of g same =
-        let g_is : g ≡ generation = ap (λ (o : Opened). o.generation) same in
+        let g_is : g ≡ head = ap (λ (o : Opened). o.head) same in
         let ok : Ends (run (gate_at 0 (begin g)) file) e = ap (λ (o : Opened). o.ending) same in
-        lead (length file) 0 (begin generation) file e (omega arith) (subst (λ n. Ends (run (gate_at 0 (begin n)) file) e) g_is ok)
+        lead (length file) 0 (begin head) file e (omega arith) (subst (λ n. Ends (run (gate_at 0 (begin n)) file) e) g_is ok)
 
-    by : (b : Bool) (h : Option ℕ) → (if b then Some (option_map (λ g. read_so g file) h) else None) ≡ Some (Some (record { generation = generation; ending = Ok e })) → Lead (begin generation) (bodies_up_to (length file) file) e.held
+    by : (b : Bool) (h : Option Header) → (if b then Some (option_map (λ g. read_so g file) h) else None) ≡ Some (Some (record { head = head; ending = Ok e })) → Lead (begin head) (bodies_up_to (length file) file) e.held
     by true None same = absurd (cc)
-    by true (Some g) same = of g (same_Some _ _ (same_Some (Some (read_so g file)) (Some (record { generation = generation; ending = Ok e })) same))
+    by true (Some g) same = of g (same_Some _ _ (same_Some (Some (read_so g file)) (Some (record { head = head; ending = Ok e })) same))
     by false h same = absurd (none-some _ same)

@@ -1,14 +1,16 @@
 -- Where the batches of a store begin.
 use Rattle.std.proofs.Common.{◌≡◌, ℕ, zero, suc, ◌+◌, ◌-◌, ◌≤◌, Bool, true, false, eqb, leb, ltb, List, [], ◌∷◌, length, take, drop, Option, Some, None, Result, Ok, Err, refl, sym, ◌∙◌, ap, subst, arith, length-drop}
-use Rattle.std.specs.Prelude.{if◌then◌else◌, option_map, ◌&&◌}
+use Rattle.std.specs.Prelude.{◌==◌, ◌^◌, if◌then◌else◌, option_and_then, ◌&&◌}
 use Rattle.std.specs.Option.{option_map_or}
 use Rattle.std.specs.Int.{w64, from_be_bytes}
 use Rattle.std.proofs.lemmas.Bool.{cond-true, cond-false, and_parts, eqb-true, leb-true}
 use Rattle.muck_laws.proofs.Lists.{firsts_same, no_first}
 use Rattle.muck_laws.proofs.Options.{and_then_some, cond_some, map_some}
+use Rattle.std.proofs.lemmas.Option.{same_Some}
+use Rattle.muck_log.specs.declared.body.Header.{Header}
 use Rattle.muck_log.specs.Body.{Body, body_of}
 use Rattle.muck_log.specs.World.{laid}
-use Rattle.muck_log.specs.File.{Held, ReadingEnd, Opened, join, follows, begin, file_of, header, is_gate_open}
+use Rattle.muck_log.specs.File.{Held, ReadingEnd, Opened, join, follows, begin, file_of, header, is_gate_open, header_of, header_written, head_held}
 use Rattle.muck_log.specs.Store.{Chosen, Damage, store_of, file_picked, file_loaded, newer, pick}
 use Rattle.muck_log.proofs.Files.{opened, file_facts, none_shut}
 use Rattle.muck_bodies.specs.declared.head.Head.{Head}
@@ -33,31 +35,31 @@ shut_head_none (Some h) file shut is = absurd (no_first _ _ (sym (shut_bodies fi
 -- what joins is of the same generation
 record Joined (held next : Held) (bytes : List ℕ) : Type 0 where
   one : generation_of bytes ≡ held.generation
-  stays : next.generation ≡ held.generation
+  stays : head_held next ≡ head_held held
 
 joined : (place : ℕ) (held next : Held) (bytes : List ℕ) → join place held bytes ≡ Some next → Joined held next bytes
 unfolding join follows
 joined place held next bytes is =
     let with_body = and_then_some _ (body_of bytes) next is in
-    let may = cond_some (follows held with_body.0.generation with_body.0.number) _ next with_body.2 in
-    let with_world = map_some _ (laid with_body.0.payload held.world) next may.1 in
-    let parts = and_parts (eqb with_body.0.generation held.generation) _ may.0 in record {
+    let may = cond_some (follows held with_body.0.version with_body.0.generation with_body.0.number) _ next with_body.2 in
+    let with_world = map_some _ (laid with_body.0.version with_body.0.payload held.world) next may.1 in
+    let parts = and_parts (eqb with_body.0.generation held.generation) _ (and_parts (eqb with_body.0.version held.version) _ may.0).1 in record {
       one = ap (λ (o : Option Body). option_map_or (λ (b : Body). b.generation) o 0) with_body.1 ∙ eqb-true _ _ parts.0;
-      stays = sym (ap (λ (h : Held). h.generation) with_world.2);
+      stays = sym (ap head_held with_world.2);
     }
 
-pub lead_generation : (held to : Held) (bs : List (List ℕ)) → Lead held bs to → to.generation ≡ held.generation
-lead_generation held to [] lead = ap (λ (h : Held). h.generation) lead
-lead_generation held to (b ∷ bs) lead = lead_generation lead.1 to bs lead.3 ∙ (joined lead.0 held lead.1 b lead.2).stays
+pub lead_head : (held to : Held) (bs : List (List ℕ)) → Lead held bs to → head_held to ≡ head_held held
+lead_head held to [] lead = ap head_held lead
+lead_head held to (b ∷ bs) lead = lead_head lead.1 to bs lead.3 ∙ (joined lead.0 held lead.1 b lead.2).stays
 
 -- the head of a file that isn't outside the format
-pub record Opens (g : ℕ) (h : Option Head) (file : List ℕ) : Type 0 where
+pub record Opens (g : Header) (h : Option Head) (file : List ℕ) : Type 0 where
   pub head : Head
   pub is : h ≡ Some head
-  pub generation : head.generation ≡ g
+  pub generation : head.generation ≡ g.generation
   pub first : head.number ≡ first_number (bodies_of file)
 
-pub opens : (g : ℕ) (e : ReadingEnd) (h : Option Head) (file : List ℕ) → file_of file ≡ opened g e → IsHead h file → Opens g h file
+pub opens : (g : Header) (e : ReadingEnd) (h : Option Head) (file : List ℕ) → file_of file ≡ opened g e → IsHead h file → Opens g h file
 unfolding bodies_of begin
 opens g e None file is head =
     let f = file_facts g e file is in
@@ -75,12 +77,12 @@ opens g e (Some x) file is w =
     }
 
 -- the head of a file that is open, whatever stands behind
-open_parts : (o : Opened) (file : List ℕ) → file_of file ≡ Some (Some o) → (is_gate_open file ≡ true) × (header file ≡ Some o.generation)
+open_parts : (o : Opened) (file : List ℕ) → file_of file ≡ Some (Some o) → (is_gate_open file ≡ true) × (header file ≡ Some o.head)
 unfolding file_of
 open_parts o file is =
     let open_one = cond_some (is_gate_open file) _ _ is in
     let with_head = map_some _ (header file) _ (inner open_one.1) in
-    (open_one.0, with_head.1 ∙ ap Some (ap (λ (p : Opened). p.generation) with_head.2))
+    (open_one.0, with_head.1 ∙ ap Some (ap (λ (p : Opened). p.head) with_head.2))
   where
     inner : {A : Type 0} {a b : A} → Some a ≡ Some b → a ≡ b
     inner h = cc
@@ -103,16 +105,23 @@ body_there (g ∷ y ∷ rest) x xs e = by_gate (eqb g 1) e
     by_gate true e = by_size (leb (8 + size) (length (y ∷ rest))) refl e
     by_gate false e = absurd (no_first x xs e)
 
-generation_is : (bytes : List ℕ) (g : ℕ) → option_map (λ (b : Body). b.generation) (body_of bytes) ≡ Some g → generation_of bytes ≡ g
-generation_is bytes g is =
-    let with_body = map_some (λ (b : Body). b.generation) (body_of bytes) g is in
-    ap (λ (o : Option Body). option_map_or (λ (b : Body). b.generation) o 0) with_body.1 ∙ with_body.2
+header_generation : (b : Body) (g : Header) → header_of b ≡ Some g → b.generation ≡ g.generation
+header_generation b g is = by_test (b.version == 1 && b.generation == 2 ^ 64 - 1) is
+  where
+    by_test : (t : Bool) → (if t then None else Some (record { version = b.version; generation = b.generation })) ≡ Some g → b.generation ≡ g.generation
+    by_test true e = absurd (cc e)
+    by_test false e = ap (λ (h : Header). h.generation) (same_Some (record { version = b.version; generation = b.generation }) g e)
 
-pub head_generation : (x : Head) (file : List ℕ) (g : ℕ) → header file ≡ Some g → IsWhole x file → x.generation ≡ g
+generation_is : (bytes : List ℕ) (g : Header) → option_and_then header_of (body_of bytes) ≡ Some g → generation_of bytes ≡ g.generation
+generation_is bytes g is =
+    let with_body = and_then_some header_of (body_of bytes) g is in
+    ap (λ (o : Option Body). option_map_or (λ (b : Body). b.generation) o 0) with_body.1 ∙ header_generation with_body.0 g with_body.2
+
+pub head_generation : (x : Head) (file : List ℕ) (g : Header) → header file ≡ Some g → IsWhole x file → x.generation ≡ g.generation
 unfolding header
 head_generation x file g is w =
     let size = from_be_bytes w64 (take 8 (drop 1 file)) in
-    let may = cond_some (leb 34 (length file) && leb 25 size) (option_map (λ (b : Body). b.generation) (body_of (take 25 (drop 9 file)))) g is in
+    let may = cond_some (leb 34 (length file) && leb 25 size) (option_and_then header_of (body_of (take 25 (drop 9 file)))) g is in
     let parts = and_parts (leb 34 (length file)) (leb 25 size) may.0 in
     let there = body_there file (take x.size (drop 9 file)) (bodies_up_to 0 (drop (9 + x.size) file)) (w.first 0) in
     w.generation ∙ ap (λ l. generation_of l) there.1 ∙ sym (same_generation size (drop 9 file) (leb-true 25 size parts.1) there.0) ∙ generation_is (take 25 (drop 9 file)) g may.1
@@ -130,25 +139,25 @@ not_ok d s h = cc
 pub ok_same : (a b : Chosen) → ◌≡◌ {A = Result Chosen Damage} (Ok a) (Ok b) → a ≡ b
 ok_same a b h = cc
 
-counts_so : (second : Bool) (g : ℕ) (ending : Result ReadingEnd ℕ) (h : Option Head) (s : Chosen) (file : List ℕ) → file_of file ≡ Some (Some (record { generation = g; ending = ending })) → IsHead h file → file_loaded second ending ≡ Ok s → Counts second h s file
+counts_so : (second : Bool) (g : Header) (ending : Result ReadingEnd ℕ) (h : Option Head) (s : Chosen) (file : List ℕ) → file_of file ≡ Some (Some (record { head = g; ending = ending })) → IsHead h file → file_loaded second ending ≡ Ok s → Counts second h s file
 unfolding begin
 counts_so second g (Err at) h s file is head loads = absurd (not_ok _ s loads)
 counts_so second g (Ok e) h s file is head loads =
     let same = ok_same (record { second = second; place = e.place; held = e.held }) s loads in
     let o = opens g e h file is head in
-    let gen : e.held.generation ≡ g = lead_generation (begin g) e.held (bodies_of file) (leads file g e is) in record {
+    let gen : head_held e.held ≡ g = lead_head (begin g) e.held (bodies_of file) (leads file g e is) in record {
       head = o.head;
       is = o.is;
       second_is = sym (ap (λ (k : Chosen). k.second) same);
       starts = record {
         second = ap (λ (k : Chosen). k.second) same;
-        generation = o.generation ∙ sym gen ∙ ap (λ (k : Chosen). k.held.generation) same;
+        generation = o.generation ∙ sym (ap (λ (h : Header). h.generation) gen) ∙ ap (λ (k : Chosen). k.held.generation) same;
         first = o.first;
       };
     }
 
 counts : (second : Bool) (o : Opened) (h : Option Head) (s : Chosen) (file : List ℕ) → file_of file ≡ Some (Some o) → IsHead h file → file_loaded second o.ending ≡ Ok s → Counts second h s file
-counts second o h s file is head loads = counts_so second o.generation o.ending h s file is head loads
+counts second o h s file is head loads = counts_so second o.head o.ending h s file is head loads
 
 abbrev Begun : Option Head → Option Head → Chosen → List ℕ → List ℕ → Type 0
 Begun ha hb s a b = IsStart (chosen_start ha hb) s (pick s.second a b)
@@ -161,7 +170,7 @@ second_counts : (ha hb : Option Head) (s : Chosen) (a b : List ℕ) → (x : Cou
 second_counts ha hb s a b x e =
     subst (λ k. IsStart (chosen_start ha k) s (pick s.second a b)) (sym x.is) (subst (λ k. IsStart (chosen_start ha (Some x.head)) s (pick k a b)) (sym x.second_is) (subst (λ (k : Start). IsStart k s b) (sym e) x.starts))
 
-neither : (s : Chosen) (a b : List ℕ) → is_gate_open a ≡ false → is_gate_open b ≡ false → record { second = false; place = 0; held = begin 1 } ≡ s → Begun None None s a b
+neither : (s : Chosen) (a b : List ℕ) → is_gate_open a ≡ false → is_gate_open b ≡ false → record { second = false; place = 0; held = begin (header_written 1) } ≡ s → Begun None None s a b
 unfolding bodies_of begin
 neither s a b shut_a shut_b same = subst (λ (k : Chosen). IsStart (record { second = false; generation = 1; first = 1 }) k (pick k.second a b)) same (record {
   second = refl;
@@ -170,8 +179,8 @@ neither s a b shut_a shut_b same = subst (λ (k : Chosen). IsStart (record { sec
 })
 
 -- both files are open: the head of the other one has its generation, where it has one
-older_head : (o : Opened) (h : Option Head) (file : List ℕ) → file_of file ≡ Some (Some o) → IsHead h file → (x : Head) → h ≡ Some x → x.generation ≡ o.generation
-older_head o h file is head x same = head_generation x file o.generation (open_parts o file is).1 (subst (λ k. IsHead k file) same head)
+older_head : (o : Opened) (h : Option Head) (file : List ℕ) → file_of file ≡ Some (Some o) → IsHead h file → (x : Head) → h ≡ Some x → x.generation ≡ o.head.generation
+older_head o h file is head x same = head_generation x file o.head (open_parts o file is).1 (subst (λ k. IsHead k file) same head)
 
 first_wins : (hb : Option Head) (x : Head) (f g : ℕ) → ((y : Head) → hb ≡ Some y → y.generation ≡ g) → x.generation ≡ f → ltb g f ≡ true → chosen_start (Some x) hb ≡ start_at false x
 first_wins None x f g of same less = refl
@@ -182,19 +191,19 @@ second_wins None y f g of same less = refl
 second_wins (Some x) y f g of same less = cond-false (ltb y.generation x.generation) _ _ (ap (λ k. ltb k x.generation) same ∙ ap (ltb g) (of x refl) ∙ less)
 
 both_open : (oa ob : Opened) (ha hb : Option Head) (s : Chosen) (a b : List ℕ) → file_of a ≡ Some (Some oa) → file_of b ≡ Some (Some ob) → IsHead ha a → IsHead hb b → newer oa ob ≡ Ok s → Begun ha hb s a b
-both_open oa ob ha hb s a b is_a is_b head_a head_b = by_same (eqb oa.generation ob.generation)
+both_open oa ob ha hb s a b is_a is_b head_a head_b = by_same (eqb oa.head.generation ob.head.generation)
   where
-    by_less : (t : Bool) → ltb ob.generation oa.generation ≡ t → (if t then file_loaded false oa.ending else file_loaded true ob.ending) ≡ Ok s → Begun ha hb s a b
+    by_less : (t : Bool) → ltb ob.head.generation oa.head.generation ≡ t → (if t then file_loaded false oa.ending else file_loaded true ob.ending) ≡ Ok s → Begun ha hb s a b
     by_less true less loads =
         let x = counts false oa ha s a is_a head_a loads in
-        first_counts ha hb s a b x (first_wins hb x.head oa.generation ob.generation (older_head ob hb b is_b head_b) (older_head oa ha a is_a head_a x.head x.is) less)
+        first_counts ha hb s a b x (first_wins hb x.head oa.head.generation ob.head.generation (older_head ob hb b is_b head_b) (older_head oa ha a is_a head_a x.head x.is) less)
     by_less false less loads =
         let y = counts true ob hb s b is_b head_b loads in
-        second_counts ha hb s a b y (second_wins ha y.head oa.generation ob.generation (older_head oa ha a is_a head_a) (older_head ob hb b is_b head_b y.head y.is) less)
+        second_counts ha hb s a b y (second_wins ha y.head oa.head.generation ob.head.generation (older_head oa ha a is_a head_a) (older_head ob hb b is_b head_b y.head y.is) less)
 
-    by_same : (t : Bool) → (if t then Err (record { second = true; at = 0 }) else (if ltb ob.generation oa.generation then file_loaded false oa.ending else file_loaded true ob.ending)) ≡ Ok s → Begun ha hb s a b
+    by_same : (t : Bool) → (if t then Err (record { second = true; at = 0 }) else (if ltb ob.head.generation oa.head.generation then file_loaded false oa.ending else file_loaded true ob.ending)) ≡ Ok s → Begun ha hb s a b
     by_same true loads = absurd (not_ok _ s loads)
-    by_same false loads = by_less (ltb ob.generation oa.generation) refl loads
+    by_same false loads = by_less (ltb ob.head.generation oa.head.generation) refl loads
 
 starts_by : (fa fb : Option (Option Opened)) (ha hb : Option Head) (s : Chosen) (a b : List ℕ) → file_of a ≡ fa → file_of b ≡ fb → IsHead ha a → IsHead hb b → file_picked fa fb ≡ Ok s → Begun ha hb s a b
 unfolding file_picked

@@ -3,7 +3,7 @@ use Rattle.std.specs.Prelude.{◌≡◌, ℕ, zero, suc, ◌+◌, ◌==◌, if�
 use Rattle.std.specs.Option.{option_map_or}
 use Rattle.std.specs.Int.{w64, from_be_bytes}
 use Rattle.muck_log.specs.Body.{Body, body_of}
-use Rattle.muck_log.specs.File.{Held, join, begin}
+use Rattle.muck_log.specs.File.{Held, join, begin, head_held}
 use Rattle.muck_log.specs.Store.{Chosen, store_of, pick}
 use Rattle.muck_bodies.specs.declared.beginning.Start.{Start}
 
@@ -51,4 +51,4 @@ Lead held (b ∷ bs) to = (place : ℕ) × (next : Held) × (join place held b �
 
 -- of a store that loads: the bodies of the file that counts lead to what the store holds
 abbrev pub LeadThere : Type 0
-LeadThere = (a b : List ℕ) (s : Chosen) → store_of a b ≡ Ok s → Lead (begin s.held.generation) (bodies_of (pick s.second a b)) s.held
+LeadThere = (a b : List ℕ) (s : Chosen) → store_of a b ≡ Ok s → Lead (begin (head_held s.held)) (bodies_of (pick s.second a b)) s.held

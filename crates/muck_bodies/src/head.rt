@@ -1,7 +1,8 @@
 // What stands at a gate.
-ghost use Rattle.std.specs.Prelude.{◌≡◌, ◌≤◌, ◌<◌, ◌+◌, ◌-◌, length, take, drop, true, min, IfOk, OnErr, IfSome, List, ℕ};
+ghost use Rattle.std.specs.Prelude.{◌≡◌, ◌≤◌, ◌<◌, ◌+◌, ◌-◌, ◌&&◌, length, take, drop, get_or, nat_le, bytes_eq, codes, true, min, IfOk, OnErr, IfSome, List, ℕ};
 ghost use Rattle.std.specs.Int.{w64, from_be_bytes};
 ghost use Rattle.muck_io.specs.Faults.{Rose};
+ghost use Rattle.muck_log.specs.Body.{is_version};
 ghost use Rattle.muck_log.specs.Store.{LeavesOnly};
 ghost use Rattle.muck_bodies.specs.Bodies.{generation_of, body_number};
 ghost use Rattle.muck_bodies.specs.inner.Heads.{IsHead};
@@ -16,7 +17,14 @@ pub struct Head {
     pub number: u64,
 }
 
-const MAGIC: [u8; 5] = *b"MUCK\x01";
+const MAGIC: [u8; 4] = *b"MUCK";
+
+// Whether the first bytes of a body are those of one.
+fn parses(body: &[u8]) -> bool
+    ensures { result ≡ nat_le 25 (length body.now) && (bytes_eq (take 4 body.now) (codes "MUCK") && is_version (get_or body.now 4 0)) }
+{
+    body.len() >= 25 && body.split_at(4).0 == MAGIC.as_slice() && (body[4] == 1 || body[4] == 2)
+}
 
 fn word_of(bytes: &[u8]) -> u64
     requires { 8 ≤ length bytes.now }
@@ -27,21 +35,21 @@ fn word_of(bytes: &[u8]) -> u64
     u64::from_be_bytes(word)
 }
 
-#[tactic(auto, unfolding(muck_log::specs::Body::body_of, muck_log::specs::Body::magic))]
+#[tactic(auto, unfolding(muck_log::specs::Body::body_of))]
 fn generation_of(body: &[u8]) -> u64
     ensures { result ≡ generation_of body.now }
 {
-    if body.len() < 25 || body.split_at(5).0 != MAGIC.as_slice() {
+    if !parses(body) {
         return 0;
     }
     word_of(body.split_at(5).1)
 }
 
-#[tactic(auto, unfolding(muck_log::specs::Body::body_of, muck_log::specs::Body::magic))]
+#[tactic(auto, unfolding(muck_log::specs::Body::body_of))]
 fn number_of(body: &[u8]) -> u64
     ensures { result ≡ body_number body.now }
 {
-    if body.len() < 25 || body.split_at(5).0 != MAGIC.as_slice() {
+    if !parses(body) {
         return 0;
     }
     word_of(body.split_at(13).1)

@@ -1,9 +1,9 @@
 -- The bodies of a store are the batches that a mirror takes.
-use Rattle.std.proofs.Common.{◌≡◌, inl, inr, ℕ, zero, suc, ◌+◌, ◌-◌, ◌<◌, ◌≤◌, ◌^◌, Bool, true, false, eqb, leb, ltb, List, [], ◌∷◌, ◌++◌, length, take, drop, Option, Some, None, Result, Ok, Err, refl, sym, ◌∙◌, ap, subst, arith, length-take, length-drop, take-append-drop, append_assoc}
+use Rattle.std.proofs.Common.{◌≡◌, inl, inr, ℕ, zero, suc, ◌+◌, ◌-◌, ◌<◌, ◌≤◌, ◌^◌, Bool, true, false, eqb, leb, ltb, List, [], ◌∷◌, ◌++◌, length, take, drop, get_or, Option, Some, None, Result, Ok, Err, refl, sym, ◌∙◌, ap, subst, arith, length-take, length-drop, take-append-drop, append_assoc}
 use Rattle.std.specs.Prelude.{if◌then◌else◌, codes, bytes_eq, ◌&&◌, ◌||◌, option_and_then}
 use Rattle.std.specs.Option.{option_map_or}
 use Rattle.std.specs.Int.{w64, to_be_bytes, from_be_bytes}
-use Rattle.std.proofs.lemmas.List.{get_or-drop, get_or-take, drop-drop}
+use Rattle.std.proofs.lemmas.List.{get_or-drop, get_or-take, drop-drop, drop_more}
 use Rattle.std.proofs.lemmas.Bool.{cond-true, cond-false, eq-eqb, and_parts, eqb-true, leb-true, le-ltb, ne_eqb, cases_lt}
 use Rattle.std.proofs.lemmas.Nat.{be_bytes_8}
 use Rattle.std.proofs.lemmas.Slice.Eq.{bytes_eq-Decides}
@@ -14,7 +14,8 @@ use Rattle.muck_laws.proofs.Truths.{either_true}
 use Rattle.muck_codec.specs.declared.stored.Batch.{Batch}
 use Rattle.muck_codec.specs.Batches.{whole_batch}
 use Rattle.muck_codec.specs.Reading.{number_at, ◌>>=◌}
-use Rattle.muck_log.specs.Body.{Body, body_of, magic}
+use Rattle.muck_log.specs.declared.body.Header.{Header}
+use Rattle.muck_log.specs.Body.{Body, body_of, is_version}
 use Rattle.muck_log.specs.World.{StoredWorld, start, laid, laid_over, batch_if}
 use Rattle.muck_log.specs.File.{Held, join, follows, after_number, begin}
 use Rattle.muck_mirror.specs.Bodies.{literal_at, version_at, body_head_at, FedBody as Read, fault_placed, fed_body_in}
@@ -49,19 +50,26 @@ literal_is (w ∷ wanted) rest = cond-true (eqb w w) _ _ (eq-eqb w w refl) ∙ l
 -- a body that parses, of this generation
 pub record Parses (g : ℕ) (bytes : List ℕ) (b : Body) : Type 0 where
   pub long : 25 ≤ length bytes
-  pub front : take 5 bytes ≡ codes "MUCK" ++ 1 ∷ []
+  pub front : take 4 bytes ≡ codes "MUCK"
+  pub version : b.version ≡ get_or bytes 4 0
+  pub known : is_version b.version ≡ true
   pub generation : from_be_bytes w64 (take 8 (drop 5 bytes)) ≡ g
   pub number : b.number ≡ from_be_bytes w64 (take 8 (drop 13 bytes))
   pub payload : b.payload ≡ drop 21 bytes
 
 pub parses : (g : ℕ) (bytes : List ℕ) (b : Body) → body_of bytes ≡ Some b → b.generation ≡ g → Parses g bytes b
-unfolding body_of magic
+unfolding body_of
 parses g bytes b is one =
-    let may = cond_some (leb 25 (length bytes) && bytes_eq (take 5 bytes) magic) _ b is in
-    let both = and_parts (leb 25 (length bytes)) (bytes_eq (take 5 bytes) magic) may.0 in
-    let same = same_Some _ b may.1 in record {
+    let may = cond_some (leb 25 (length bytes) && (bytes_eq (take 4 bytes) (codes "MUCK") && is_version (get_or bytes 4 0))) _ b is in
+    let both = and_parts (leb 25 (length bytes)) (bytes_eq (take 4 bytes) (codes "MUCK") && is_version (get_or bytes 4 0)) may.0 in
+    let marks = and_parts (bytes_eq (take 4 bytes) (codes "MUCK")) (is_version (get_or bytes 4 0)) both.1 in
+    let same = same_Some _ b may.1 in
+    let version : b.version ≡ get_or bytes 4 0 = sym (ap (λ (x : Body). x.version) same) in
+    record {
       long = leb-true 25 (length bytes) both.0;
-      front = decided (take 5 bytes) magic both.1;
+      front = decided (take 4 bytes) (codes "MUCK") marks.0;
+      version = version;
+      known = ap is_version version ∙ marks.1;
       generation = ap (λ (x : Body). x.generation) same ∙ one;
       number = sym (ap (λ (x : Body). x.number) same);
       payload = sym (ap (λ (x : Body). x.payload) same);
@@ -70,13 +78,15 @@ parses g bytes b is one =
     decided : (xs ys : List ℕ) → bytes_eq xs ys ≡ true → xs ≡ ys
     decided xs ys e = (bytes_eq-Decides xs ys).0 e
 
-head_is : (g : ℕ) (bytes : List ℕ) (b : Body) → AreBytes bytes → Parses g bytes b → body_head_at g bytes ≡ Ok (record { version = 1; number = b.number }, b.payload)
+head_is : (g : ℕ) (bytes : List ℕ) (b : Body) → AreBytes bytes → Parses g bytes b → body_head_at g bytes ≡ Ok (record { version = b.version; number = b.number }, b.payload)
 unfolding body_head_at version_at
 head_is g bytes b are p =
     let word : to_be_bytes w64 g ≡ take 8 (drop 5 bytes) =
     be_bytes_8 (take 8 (drop 5 bytes)) g (omega (arith, length-take 8 (drop 5 bytes), length-drop 5 bytes, p.long)) (take_bytes 8 (drop 5 bytes) (drop_bytes 5 bytes are)) (sym p.generation) in
-    let split : bytes ≡ codes "MUCK" ++ (1 ∷ drop 5 bytes) = sym (take-append-drop 5 bytes) ∙ ap (λ l. l ++ drop 5 bytes) p.front ∙ append_assoc (codes "MUCK") (1 ∷ []) (drop 5 bytes) in
-    let first : literal_at (codes "MUCK") bytes ≡ Ok (1 ∷ drop 5 bytes) = ap (literal_at (codes "MUCK")) split ∙ literal_is (codes "MUCK") (1 ∷ drop 5 bytes) in
+    let marked : drop 4 bytes ≡ b.version ∷ drop 5 bytes = drop_more bytes 4 0 (omega (arith, p.long)) ∙ ap (λ v. v ∷ drop 5 bytes) (sym p.version) in
+    let split : bytes ≡ codes "MUCK" ++ (b.version ∷ drop 5 bytes) = sym (take-append-drop 4 bytes) ∙ ap (λ l. l ++ drop 4 bytes) p.front ∙ ap (λ l. codes "MUCK" ++ l) marked in
+    let first : literal_at (codes "MUCK") bytes ≡ Ok (b.version ∷ drop 5 bytes) = ap (literal_at (codes "MUCK")) split ∙ literal_is (codes "MUCK") (b.version ∷ drop 5 bytes) in
+    let version : version_at (b.version ∷ drop 5 bytes) ≡ Ok (b.version, drop 5 bytes) = cond-true (is_version b.version) _ _ p.known in
     let second : literal_at (to_be_bytes w64 g) (drop 5 bytes) ≡ Ok (drop 8 (drop 5 bytes)) =
     ap (λ w. literal_at w (drop 5 bytes)) word ∙ ap (literal_at (take 8 (drop 5 bytes))) (sym (take-append-drop 8 (drop 5 bytes))) ∙ literal_is (take 8 (drop 5 bytes)) (drop 8 (drop 5 bytes)) in
     let there : drop 8 (drop 5 bytes) ≡ drop 13 bytes = drop-drop 8 5 bytes in
@@ -84,18 +94,19 @@ head_is g bytes b are p =
     cond-false (ltb (length (drop 13 bytes)) 8) _ _ (le-ltb (length (drop 13 bytes)) 8 (omega (arith, length-drop 13 bytes, p.long)))
     ∙ ap (λ n. Ok (n, drop 8 (drop 13 bytes))) (sym p.number) ∙ ap (λ l. Ok (b.number, l)) (drop-drop 8 13 bytes ∙ sym p.payload) in
     ap (λ r. r >>= λ rest. version_at rest >>= λ v. literal_at (to_be_bytes w64 g) v.1 >>= λ tail. number_at w64 tail >>= λ n. Ok (record { version = v.0; number = n.0 }, n.1)) first
-    ∙ ap (λ r. r >>= λ tail. number_at w64 tail >>= λ n. Ok (record { version = 1; number = n.0 }, n.1)) second
-    ∙ ap (λ l. number_at w64 l >>= λ n. Ok (record { version = 1; number = n.0 }, n.1)) there
-    ∙ ap (λ r. r >>= λ n. Ok (record { version = 1; number = n.0 }, n.1)) third
+    ∙ ap (λ r. r >>= λ v. literal_at (to_be_bytes w64 g) v.1 >>= λ tail. number_at w64 tail >>= λ n. Ok (record { version = v.0; number = n.0 }, n.1)) version
+    ∙ ap (λ r. r >>= λ tail. number_at w64 tail >>= λ n. Ok (record { version = b.version; number = n.0 }, n.1)) second
+    ∙ ap (λ l. number_at w64 l >>= λ n. Ok (record { version = b.version; number = n.0 }, n.1)) there
+    ∙ ap (λ r. r >>= λ n. Ok (record { version = b.version; number = n.0 }, n.1)) third
 
 read_of : Body → Read
-read_of b = record { version = 1; number = b.number; payload = b.payload }
+read_of b = record { version = b.version; number = b.number; payload = b.payload }
 
-body_is : (g : ℕ) (bytes : List ℕ) (b : Body) (batch : Batch) → AreBytes bytes → Parses g bytes b → whole_batch 1 b.payload ≡ Ok batch → fed_body_in g bytes ≡ Ok (read_of b)
+body_is : (g : ℕ) (bytes : List ℕ) (b : Body) (batch : Batch) → AreBytes bytes → Parses g bytes b → whole_batch b.version b.payload ≡ Ok batch → fed_body_in g bytes ≡ Ok (read_of b)
 unfolding fed_body_in read_of
 body_is g bytes b batch are p whole =
     ap (λ r. fault_placed 0 bytes r >>= λ h. fault_placed (length bytes - length h.1) h.1 (whole_batch h.0.version h.1) >>= λ k. Ok (record { version = h.0.version; number = h.0.number; payload = h.1 })) (head_is g bytes b are p)
-    ∙ ap (λ r. fault_placed (length bytes - length b.payload) b.payload r >>= λ k. Ok (record { version = 1; number = b.number; payload = b.payload })) whole
+    ∙ ap (λ r. fault_placed (length bytes - length b.payload) b.payload r >>= λ k. Ok (record { version = b.version; number = b.number; payload = b.payload })) whole
 
 -- What joins is a batch.
 
@@ -109,11 +120,11 @@ pub record Joined (g : ℕ) (held next : Held) (bytes : List ℕ) : Type 0 where
   pub numbered : next.number ≡ body.number
   pub count : 0 < next.count
 
-whole_of : (payload : List ℕ) (w v : StoredWorld) → laid payload w ≡ Some v → (batch : Batch) × (whole_batch 1 payload ≡ Ok batch)
+whole_of : (version : ℕ) (payload : List ℕ) (w v : StoredWorld) → laid version payload w ≡ Some v → (batch : Batch) × (whole_batch version payload ≡ Ok batch)
 unfolding laid
-whole_of payload w v is = by (whole_batch 1 payload) refl is
+whole_of version payload w v is = by (whole_batch version payload) refl is
   where
-    by : (r : Result Batch ℕ) → whole_batch 1 payload ≡ r → option_and_then (λ b. laid_over b w) (batch_if r) ≡ Some v → (batch : Batch) × (whole_batch 1 payload ≡ Ok batch)
+    by : (r : Result Batch ℕ) → whole_batch version payload ≡ r → option_and_then (λ b. laid_over b w) (batch_if r) ≡ Some v → (batch : Batch) × (whole_batch version payload ≡ Ok batch)
     by (Ok batch) reads is = (batch, reads)
     by (Err left) reads is = absurd (none-some v is)
 
@@ -122,11 +133,11 @@ unfolding join follows laid laid_in read_of
 joined place held next bytes are is =
     let with_body = and_then_some _ (body_of bytes) next is in
     let b = with_body.0 in
-    let may = cond_some (follows held b.generation b.number) _ next with_body.2 in
-    let with_world = map_some _ (laid b.payload held.world) next may.1 in
-    let parts = and_parts (eqb b.generation held.generation) (eqb held.count 0 || eqb b.number (after_number held.number)) may.0 in
+    let may = cond_some (follows held b.version b.generation b.number) _ next with_body.2 in
+    let with_world = map_some _ (laid b.version b.payload held.world) next may.1 in
+    let parts = and_parts (eqb b.generation held.generation) (eqb held.count 0 || eqb b.number (after_number held.number)) (and_parts (eqb b.version held.version) _ may.0).1 in
     let p = parses held.generation bytes b with_body.1 (eqb-true _ _ parts.0) in
-    let whole = whole_of b.payload held.world with_world.0 with_world.1 in record {
+    let whole = whole_of b.version b.payload held.world with_world.0 with_world.1 in record {
       body = read_of b;
       reads = body_is held.generation bytes b whole.0 are p whole.1;
       number = sym (ap (λ (o : Option Body). option_map_or (λ (k : Body). k.number) o 0) with_body.1);
@@ -161,13 +172,13 @@ ties g held to (b ∷ bs) (are, others) some gen lead =
     row_more g (after_number held.number) held.world lead.1.world to.world b bs j.body (ap (λ k. fed_body_in k b) (sym gen) ∙ j.reads) (j.follows some) j.lays
     (subst (λ n. Row g (after_number n) lead.1.world bs to.world) (j.numbered ∙ j.follows some) more)
 
-pub rows : (g : ℕ) (to : Held) (bs : List (List ℕ)) → AllBytes bs → Lead (begin g) bs to → Row g (first_number bs) start bs to.world
+pub rows : (g : Header) (to : Held) (bs : List (List ℕ)) → AllBytes bs → Lead (begin g) bs to → Row g.generation (first_number bs) start bs to.world
 unfolding begin
-rows g to [] are lead = row_nothing g 1 start to.world (ap (λ (h : Held). h.world) lead)
+rows g to [] are lead = row_nothing g.generation 1 start to.world (ap (λ (h : Held). h.world) lead)
 rows g to (b ∷ bs) (are, others) lead =
     let j = joined lead.0 (begin g) lead.1 b are lead.2 in
-    let more = ties g lead.1 to bs others j.count j.generation lead.3 in
-    row_more g (body_number b) start lead.1.world to.world b bs j.body j.reads j.number j.lays (subst (λ n. Row g (after_number n) lead.1.world bs to.world) (j.numbered ∙ j.number) more)
+    let more = ties g.generation lead.1 to bs others j.count j.generation lead.3 in
+    row_more g.generation (body_number b) start lead.1.world to.world b bs j.body j.reads j.number j.lays (subst (λ n. Row g.generation (after_number n) lead.1.world bs to.world) (j.numbered ∙ j.number) more)
 
 -- The bodies of bytes are bytes, and no more than these.
 
@@ -219,10 +230,10 @@ word_small bs are = omega (arith, are 0, are 1, are 2, are 3, are 4, are 5, are 
 
 number_small : (bytes : List ℕ) → AreBytes bytes → body_number bytes < 2 ^ 64
 unfolding body_of
-number_small bytes are = by (leb 25 (length bytes) && bytes_eq (take 5 bytes) magic)
+number_small bytes are = by (leb 25 (length bytes) && (bytes_eq (take 4 bytes) (codes "MUCK") && is_version (get_or bytes 4 0)))
   where
     parsed : Body
-    parsed = record { generation = from_be_bytes w64 (take 8 (drop 5 bytes)); number = from_be_bytes w64 (take 8 (drop 13 bytes)); payload = drop 21 bytes }
+    parsed = record { version = get_or bytes 4 0; generation = from_be_bytes w64 (take 8 (drop 5 bytes)); number = from_be_bytes w64 (take 8 (drop 13 bytes)); payload = drop 21 bytes }
 
     by : (t : Bool) → option_map_or (λ (b : Body). b.number) (if t then Some parsed else None) 0 < 2 ^ 64
     by true = word_small (take 8 (drop 13 bytes)) (take_bytes 8 (drop 13 bytes) (drop_bytes 13 bytes are))

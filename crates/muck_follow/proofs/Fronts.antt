@@ -3,6 +3,7 @@ use Rattle.std.proofs.Common.{◌≡◌, ℕ, suc, ◌<◌, ◌≤◌, ◌^◌, 
 use Rattle.std.specs.Prelude.{find, if◌then◌else◌}
 use Rattle.std.proofs.lemmas.List.Elements.{All-append, All-nil, All-cons}
 use Rattle.std.proofs.lemmas.Option.{none-some}
+use Rattle.muck_log.specs.File.{head_held}
 use Rattle.muck_log.specs.World.{start}
 use Rattle.muck_log.specs.Store.{Chosen, pick}
 use Rattle.muck_mirror.specs.Mirrors.{Mirror}
@@ -80,4 +81,4 @@ unfolding bodies_of
 follows a b s acts loads are small =
     let file = pick s.second a b in
     let all : AllBytes (bodies_of file) = all_bytes (length file) file are in
-    follows_file acts s file are small (rows s.held.generation s.held (bodies_of file) all (lead_there a b s loads)) (small_first (bodies_of file) all) (few (length file) file)
+    follows_file acts s file are small (rows (head_held s.held) s.held (bodies_of file) all (lead_there a b s loads)) (small_first (bodies_of file) all) (few (length file) file)

@@ -7,7 +7,7 @@ use Rattle.muck_laws.proofs.Options.{and_then_some, cond_some, map_some}
 use Rattle.muck_log.specs.declared.body.Header.{Header}
 use Rattle.muck_log.specs.Body.{Body, body_of}
 use Rattle.muck_log.specs.World.{laid}
-use Rattle.muck_log.specs.File.{Held, FileReading, ReadingEnd, gate_at, begin, byte_step, run, body_judged, forgotten, join, follows, reading_end, mode_end}
+use Rattle.muck_log.specs.File.{Held, FileReading, ReadingEnd, gate_at, begin, byte_step, run, body_judged, forgotten, join, follows, reading_end, mode_end, head_held}
 use Rattle.muck_log.specs.declared.reader.Mode.{Mode}
 use Rattle.muck_log.specs.declared.reader.Mode.TheVariants.{Gate, Size, Body as InBody, Shut, Broken}
 use Rattle.muck_log.specs.Store.{must_close}
@@ -17,10 +17,6 @@ use Rattle.muck_log.proofs.Runs.{run-append}
 pub body_long : (bytes : List ℕ) (b : Body) → body_of bytes ≡ Some b → 25 ≤ length bytes
 unfolding body_of
 body_long bytes b e = leb-true 25 (length bytes) (and_parts (leb 25 (length bytes)) _ (cond_some _ _ b e).0).0
-
--- version and generation of what is held
-abbrev pub head_held : Held → Header
-head_held held = record { version = held.version; generation = held.generation }
 
 pub record Joins (held later : Held) (place : ℕ) (bytes : List ℕ) : Type 0 where
   pub head : head_held later ≡ head_held held

@@ -16,6 +16,10 @@ pub record Held : Type 0 where
   pub last : ℕ  -- the gate of the last batch
   pub world : StoredWorld
 
+-- how a file begins of which this is held
+abbrev pub head_held : Held → Header
+head_held held = record { version = held.version; generation = held.generation }
+
 -- "one more" for numbers of batches
 unfoldable pub after_number : ℕ → ℕ
 after_number number = (number + 1) % 2 ^ 64
