@@ -3,20 +3,32 @@
 `Record` is an object as it is stored, `batch` the bytes of a batch without the gate behind it, and `read(first, second)` the `World` that two files hold,
 or `Damaged`."""
 import dataclasses
+import re
 import struct
+import sys
 
 ROOM, THING, EXIT, PLAYER, PROGRAM, GARBAGE = range(6)
 NOTHING, HOME = -1, -3
 FLAGS = "ABCDHJKLQSVWXZ"
 TUNED = (2000, 20000, 20000, 80000, 400, 32, 2048, 900)
 TUNED_MOST = (20000, 20000, 1000000, 1000000, 400, 400, 2048, 86400)
-MAGIC = b"MUCK\x01"
+MAGIC, VERSION = b"MUCK", 2
 HEAD = 25
 TURN = 64
 
 
 def flags_of(letters):
     return sum(1 << FLAGS.index(letter) for letter in letters)
+
+
+@dataclasses.dataclass(frozen=True)
+class Ref:
+    number: int
+
+
+@dataclasses.dataclass(frozen=True)
+class Key:
+    text: bytes
 
 
 @dataclasses.dataclass(frozen=True)
@@ -33,7 +45,7 @@ class Record:
     first_content: int = NOTHING
     first_exit: int = NOTHING
     next: int = NOTHING
-    # pairs of path and value, which is bytes or a number
+    # pairs of path and value, which is bytes, a number, a `Ref` or a `Key`
     properties: tuple = ()
     lines: tuple = ()
     digest: bytes = b""
@@ -49,6 +61,7 @@ class World:
     """What a store holds: which file counts, where its row of batches ends, and the objects by their numbers."""
     second: bool
     place: int
+    version: int
     generation: int
     number: int
     batches: int
@@ -70,6 +83,10 @@ def text(word):
 
 
 def value(it):
+    if isinstance(it, Ref):
+        return b"\x02" + struct.pack(">i", it.number)
+    if isinstance(it, Key):
+        return b"\x03" + text(it.text)
     return b"\x00" + text(it) if isinstance(it, bytes) else b"\x01" + struct.pack(">i", it)
 
 
@@ -87,13 +104,13 @@ def record(r):
     ))
 
 
-def body(generation, number, records=(), tuned=TUNED):
-    return MAGIC + struct.pack(">QQI", generation, number, len(records)) + b"".join(map(record, records)) + struct.pack(">8I", *tuned)
+def body(generation, number, records=(), tuned=TUNED, version=VERSION):
+    return MAGIC + bytes([version]) + struct.pack(">QQI", generation, number, len(records)) + b"".join(map(record, records)) + struct.pack(">8I", *tuned)
 
 
-def batch(generation, number, records=(), tuned=TUNED):
+def batch(generation, number, records=(), tuned=TUNED, version=VERSION):
     """A batch behind its open gate, without the gate that follows."""
-    it = body(generation, number, records, tuned)
+    it = body(generation, number, records, tuned, version)
     return b"\x01" + struct.pack(">Q", len(it)) + it
 
 
@@ -104,9 +121,51 @@ class Outside(Exception):
     """Bytes that aren't spelled so."""
 
 
+def lock_in(word, at=0, weak=0):
+    """The lock that is read from this place on, `|` binding least and `!` most, as what is written of it at each of the three places; and the place behind it."""
+    if weak < 2:
+        sign = b"|&"[weak:weak + 1]
+        first, at = lock_in(word, at, weak + 1)
+        if word[at:at + 1] != sign:
+            return first, at
+        more, at = lock_in(word, at + 1, weak)
+        whole = first[weak + 1] + sign + more[weak]
+        return tuple(whole if place <= weak else b"(" + whole + b")" for place in range(3)), at
+    if word[at:at + 1] == b"!":
+        inside, at = lock_in(word, at + 1, 2)
+        return (b"!" + inside[2],) * 3, at
+    if word[at:at + 1] == b"(":
+        inside, at = lock_in(word, at + 1)
+        if word[at:at + 1] != b")":
+            raise Outside
+        return inside, at + 1
+    key = re.match(rb"[^&|)]*", word[at:])[0]
+    if not is_key(key):
+        raise Outside
+    return (key,) * 3, at + len(key)
+
+
+def is_lock(word):
+    """Whether a text is what is written of the lock that it is read as."""
+    sys.setrecursionlimit(100000)
+    try:
+        lock, at = lock_in(word)
+        return at == len(word) and lock[0] == word
+    except Outside:
+        return False
+
+
+def is_key(word):
+    if re.fullmatch(rb"#(0|-?[1-9][0-9]{0,9})", word):
+        return -2**31 <= int(word[1:]) < 2**31
+    path, colon, _ = word.partition(b":")
+    parts = [it for it in path.split(b"/") if it]
+    return colon and path[:1] not in (b"#", b"*") and b"\r" not in path and 1 <= len(parts) <= 16 and len(b"/".join(parts)) <= 128
+
+
 class Bytes:
-    def __init__(self, data):
-        self.data, self.at = data, 0
+    def __init__(self, data, version=VERSION):
+        self.data, self.at, self.version = data, 0, version
 
     def take(self, count):
         if len(self.data) < self.at + count:
@@ -117,9 +176,9 @@ class Bytes:
     def number(self, form):
         return struct.unpack(">" + form, self.take(struct.calcsize(">" + form)))[0]
 
-    def text(self, least=0, most=4096):
+    def text(self, least=0, most=16384):
         length = self.number("H")
-        if not least <= length <= most:
+        if not least <= length <= min(most, 4096 if self.version == 1 else 16384):
             raise Outside
         word = self.take(length)
         if any(not (32 <= b <= 126 or b == 13) for b in word):
@@ -136,12 +195,19 @@ class Bytes:
 
     def value(self):
         tag = self.number("B")
+        if tag > 1 and self.version == 1:
+            raise Outside
         if tag == 0:
             return self.text(1)
+        if tag == 3:
+            it = Key(self.text(1))
+            if not is_lock(it.text):
+                raise Outside
+            return it
         it = self.number("i")
-        if tag != 1 or it == 0:
+        if tag > 3 or it == (0, NOTHING)[tag - 1]:
             raise Outside
-        return it
+        return it if tag == 1 else Ref(it)
 
     def properties(self):
         found, before = [], None
@@ -166,9 +232,12 @@ class Bytes:
 
 
 def body_of(data):
-    """Generation, number, records and what is tuned, of a body to its end."""
+    """Generation, number, records, what is tuned and version, of a body to its end."""
     it = Bytes(data)
-    if it.take(5) != MAGIC:
+    if it.take(4) != MAGIC:
+        raise Outside
+    it.version = it.number("B")
+    if it.version not in (1, 2):
         raise Outside
     generation, number, count = it.number("Q"), it.number("Q"), it.number("I")
     records = []
@@ -179,7 +248,7 @@ def body_of(data):
     tuned = tuple(it.number("I") for _ in range(8))
     if it.at != len(data):
         raise Outside
-    return generation, number, records, tuned
+    return generation, number, records, tuned, it.version
 
 
 # Whether objects make a world.
@@ -262,9 +331,9 @@ def is_open(data):
 
 
 def head(data):
-    """The generation of an open file."""
+    """The generation of an open file. One of version 1 has another behind it."""
     length = int.from_bytes(data[1:9], "big")
-    if len(data) < 9 + HEAD or length < HEAD or data[9:14] != MAGIC:
+    if len(data) < 9 + HEAD or length < HEAD or data[9:13] != MAGIC or data[13] not in (1, 2) or data[13] == 1 and data[14:22] == b"\xff" * 8:
         raise Bad(0)
     return int.from_bytes(data[14:22], "big")
 
@@ -279,8 +348,8 @@ def read_file(data, second):
         if len(data) < start + length:
             raise Bad(place)
         try:
-            its_generation, its_number, records, tuned = body_of(data[start:start + length])
-            if its_generation != generation or batches and its_number != (number + 1) % 2**64:
+            its_generation, its_number, records, tuned, version = body_of(data[start:start + length])
+            if version != data[13] or its_generation != generation or batches and its_number != (number + 1) % 2**64:
                 raise Outside
             objects = laid(records, objects)
             if not is_world(objects, tuned):
@@ -290,7 +359,7 @@ def read_file(data, second):
         number, batches, last, place = its_number, batches + 1, place, start + length
     if len(data) == place:
         raise Bad(last)
-    return World(second, place, generation, number, batches, objects, tuned)
+    return World(second, place, data[13], generation, number, batches, objects, tuned)
 
 
 def read(first, second):
@@ -302,7 +371,7 @@ def read(first, second):
         except Bad as bad:
             return Damaged(bool(which), bad.at)
     if heads == [None, None]:
-        return World(False, 0, 1, 0, 0, (ROOM_ZERO, ONE), TUNED)
+        return World(False, 0, 2, 1, 0, 0, (ROOM_ZERO, ONE), TUNED)
     if heads[0] == heads[1]:
         return Damaged(True, 0)
     which = heads[0] is None or heads[1] is not None and heads[1] > heads[0]

@@ -1,7 +1,8 @@
 """A world as lines of JSON: one for what is tuned, then one for each object, by rising number. One world has one text."""
 import json
 
-from .records import (EXIT, FLAGS, GARBAGE, HOME, KINDS, MOST_LINES, MOST_NAME, NOTHING, TUNED_NAMES, Outside, Record, check_text, letters_of, parts_of)
+from .locks import is_spelled
+from .records import (EXIT, FLAGS, GARBAGE, HOME, KINDS, MOST_LINES, MOST_NAME, MOST_TEXT, NOTHING, TUNED_NAMES, Key, Outside, Record, Ref, check_text, letters_of, parts_of)
 from .says import Refused
 from .worlds import Unsound, check
 
@@ -24,6 +25,17 @@ def listed(objects, first):
     return found
 
 
+def shown(value):
+    """The value of a property: a text, a number, `{"object":N}` or `{"lock":TEXT}`."""
+    if isinstance(value, bytes):
+        return value.decode()
+    if isinstance(value, Ref):
+        return {"object": value.number}
+    if isinstance(value, Key):
+        return {"lock": value.text.decode()}
+    return value
+
+
 def line_of(objects, r):
     """An object as what JSON writes; what is at its default stays out."""
     it = {"number": r.number, "kind": KINDS[r.kind]}
@@ -32,7 +44,7 @@ def line_of(objects, r):
     it["name"] = r.name.decode()
     parts = (("flags", letters_of(r.flags), ""), ("level", r.level, 0), ("owner", r.owner, None), ("place", r.place, NOTHING), ("link", "home" if r.link == HOME else r.link, NOTHING),
              ("home", r.home, NOTHING), ("contents", listed(objects, r.first_content), []), ("exits", listed(objects, r.first_exit), []),
-             ("properties", {path.decode(): value.decode() if isinstance(value, bytes) else value for path, value in r.properties}, {}),
+             ("properties", {path.decode(): shown(value) for path, value in r.properties}, {}),
              ("source", [line.decode() for line in r.lines], []), ("digest", r.digest.decode(), ""))
     it.update((name, value) for name, value, default in parts if value != default)
     return it
@@ -82,7 +94,7 @@ def number_in(it, name, default=None, least=-2 ** 31, most=2 ** 31 - 1):
     return value
 
 
-def text_in(value, what, least=0, most=4096):
+def text_in(value, what, least=0, most=MOST_TEXT):
     """A text as its bytes."""
     if not isinstance(value, str):
         raise Wrong(f"{what} isn't a text")
@@ -92,6 +104,24 @@ def text_in(value, what, least=0, most=4096):
         raise Wrong(f"{what} holds the letter {value[why.start]!r}, which isn't ASCII") from None
     except Outside as why:
         raise Wrong(f"{what}: {why}") from None
+
+
+def value_in(value, what):
+    """The value of a property, as `shown` has it."""
+    if isinstance(value, str):
+        return text_in(value, what, 1)
+    if type(value) is int and value != 0 and -2 ** 31 <= value < 2 ** 31:
+        return value
+    if isinstance(value, dict) and list(value) == ["object"]:
+        number = value["object"]
+        if type(number) is int and number != NOTHING and -2 ** 31 <= number < 2 ** 31:
+            return Ref(number)
+    if isinstance(value, dict) and list(value) == ["lock"]:
+        lock = text_in(value["lock"], what, 1)
+        if is_spelled(lock):
+            return Key(lock)
+        raise Wrong(f"{what} isn't written as locks are")
+    raise Wrong(f"{what} is neither a text of 1 to {MOST_TEXT} bytes nor a number of 32 bits that isn't 0, nor {{\"object\":N}} of an object that isn't #-1, nor {{\"lock\":TEXT}}")
 
 
 def properties_in(it):
@@ -106,12 +136,7 @@ def properties_in(it):
             parts = parts_of(name)
         except Outside as why:
             raise Wrong(str(why)) from None
-        if isinstance(value, str):
-            found.append((parts, name, text_in(value, f"the value of {path!r}", 1)))
-        elif type(value) is int and value != 0 and -2 ** 31 <= value < 2 ** 31:
-            found.append((parts, name, value))
-        else:
-            raise Wrong(f"the value of {path!r} is neither a text of 1 to 4096 bytes nor a number of 32 bits that isn't 0")
+        found.append((parts, name, value_in(value, f"the value of {path!r}")))
     return tuple((name, value) for _, name, value in sorted(found, key=lambda one: one[0]))
 
 

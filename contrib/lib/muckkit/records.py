@@ -4,6 +4,8 @@ import hashlib
 import os
 import struct
 
+from .locks import is_spelled
+
 ROOM, THING, EXIT, PLAYER, PROGRAM, GARBAGE = range(6)
 KINDS = ("room", "thing", "exit", "player", "program", "garbage")
 NOTHING, HOME = -1, -3
@@ -11,8 +13,11 @@ FLAGS = "ABCDHJKLQSVWXZ"
 TUNED_NAMES = ("instr_slice", "preempt_units", "m1_units", "m2_units", "process_limit", "player_processes", "mpi_commands", "dump_interval")
 TUNED = (2000, 20000, 20000, 80000, 400, 32, 2048, 900)
 TUNED_MOST = (20000, 20000, 1000000, 1000000, 400, 400, 2048, 86400)
-MOST_OBJECTS, MOST_NAME, MOST_TEXT, MOST_LINES, MOST_PATH, MOST_PARTS, MOST_PASSWORD = 100000, 80, 4096, 4096, 128, 16, 32
-MAGIC = b"MUCK\x01"
+MOST_OBJECTS, MOST_NAME, MOST_TEXT, MOST_LINES, MOST_PATH, MOST_PARTS, MOST_PASSWORD = 100000, 80, 16384, 4096, 128, 16, 32
+# what batches begin with, and behind it the version of their records: what is written is of version 2
+MAGIC, VERSION = b"MUCK", 2
+# the most bytes of a text in version 1, which has texts and numbers as values alone
+FIRST_TEXT, FIRST_TAGS = 4096, 2
 HEAD = 25
 # the bytes that a text may hold
 TEXT_BYTES = bytes([13, *range(32, 127)])
@@ -22,6 +27,18 @@ PATH_BYTES = bytes(b for b in range(32, 127) if not (65 <= b <= 90 or b == 58))
 
 class Outside(Exception):
     """What of some bytes, or of a value, isn't as it may be."""
+
+
+@dataclasses.dataclass(frozen=True)
+class Ref:
+    """The number of an object, as a value."""
+    number: int
+
+
+@dataclasses.dataclass(frozen=True)
+class Key:
+    """A lock, as a value: what is written of it."""
+    text: bytes
 
 
 @dataclasses.dataclass(frozen=True)
@@ -38,7 +55,7 @@ class Record:
     first_content: int = NOTHING
     first_exit: int = NOTHING
     next: int = NOTHING
-    # pairs of path and value, which is bytes or a number
+    # pairs of path and value, which is bytes, a number, a `Ref` or a `Key`
     properties: tuple = ()
     lines: tuple = ()
     digest: bytes = b""
@@ -92,7 +109,13 @@ def text(word):
 
 
 def value(it):
-    return b"\x00" + text(it) if isinstance(it, bytes) else b"\x01" + struct.pack(">i", it)
+    if isinstance(it, bytes):
+        return b"\x00" + text(it)
+    if isinstance(it, Ref):
+        return b"\x02" + struct.pack(">i", it.number)
+    if isinstance(it, Key):
+        return b"\x03" + text(it.text)
+    return b"\x01" + struct.pack(">i", it)
 
 
 def record(r):
@@ -109,17 +132,17 @@ def record(r):
 
 def body(generation, number, records, tuned):
     """A batch without its length and its gates."""
-    return MAGIC + struct.pack(">QQI", generation, number, len(records)) + b"".join(map(record, records)) + struct.pack(">8I", *tuned)
+    return MAGIC + bytes([VERSION]) + struct.pack(">QQI", generation, number, len(records)) + b"".join(map(record, records)) + struct.pack(">8I", *tuned)
 
 
 # Reading.
 
 
 class Bytes:
-    """What is left to read of a body."""
+    """What is left to read of a body, whose records are of a version."""
 
-    def __init__(self, data):
-        self.data, self.at = data, 0
+    def __init__(self, data, version=VERSION):
+        self.data, self.at, self.version = data, 0, version
 
     def take(self, count):
         if len(self.data) < self.at + count:
@@ -134,7 +157,7 @@ class Bytes:
         return self.numbers(form)[0]
 
     def text(self, least=0):
-        return check_text(self.take(self.number("H")), least)
+        return check_text(self.take(self.number("H")), least, FIRST_TEXT if self.version == 1 else MOST_TEXT)
 
     def properties(self):
         found, before = [], None
@@ -143,15 +166,23 @@ class Bytes:
             parts = parts_of(path)
             if before is not None and parts <= before:
                 raise Outside(f"the path {path.decode()!r} doesn't stand behind the one before it")
-            before, tag = parts, self.number("B")
-            if tag == 0:
-                found.append((path, self.text(1)))
-                continue
-            number = self.number("i")
-            if tag != 1 or number == 0:
-                raise Outside(f"the value of {path.decode()!r} is neither a text nor a number")
-            found.append((path, number))
+            before = parts
+            found.append((path, self.value(path)))
         return tuple(found)
+
+    def value(self, path):
+        tag = self.number("B")
+        if tag > 3 or self.version == 1 and tag >= FIRST_TAGS:
+            raise Outside(f"the value of {path.decode()!r} is of a kind {tag}, which isn't there in version {self.version}")
+        if tag in (0, 3):
+            word = self.text(1)
+            if tag == 3 and not is_spelled(word):
+                raise Outside(f"the lock of {path.decode()!r} isn't written as locks are")
+            return Key(word) if tag == 3 else word
+        number = self.number("i")
+        if number == (0 if tag == 1 else NOTHING):
+            raise Outside(f"the value of {path.decode()!r} is {number}, which no property holds")
+        return Ref(number) if tag == 2 else number
 
     def record(self):
         number, kind, flags, level, *links = self.numbers("iBHB7i")
@@ -165,10 +196,13 @@ class Bytes:
 
 
 def body_of(data):
-    """Generation, number, records and what is tuned, of a body to its end."""
+    """Version, generation, number, records and what is tuned, of a body to its end."""
     it = Bytes(data)
-    if it.take(5) != MAGIC:
+    if it.take(4) != MAGIC:
         raise Outside("it doesn't begin with the mark of a store")
+    it.version = it.number("B")
+    if it.version not in (1, VERSION):
+        raise Outside(f"it is of version {it.version}, which isn't there")
     generation, number, count = it.numbers("QQI")
     records = []
     for _ in range(count):
@@ -178,4 +212,4 @@ def body_of(data):
     tuned = it.numbers("8I")
     if it.at != len(data):
         raise Outside("more stands behind what is tuned")
-    return generation, number, records, tuned
+    return it.version, generation, number, records, tuned

@@ -8,7 +8,7 @@ import fcntl
 import os
 import time
 
-from .records import HEAD, MAGIC, STARTING, TUNED, TUNED_NAMES, Outside, body, body_of
+from .records import HEAD, MAGIC, STARTING, TUNED, TUNED_NAMES, VERSION, Outside, body, body_of
 from .says import Refused
 from .worlds import Unsound, check
 
@@ -23,6 +23,8 @@ class Held:
     """What a store holds: which file counts, where its row of batches ends, and the world."""
     second: bool
     place: int
+    # that of the records of its batches
+    version: int
     generation: int
     number: int
     batches: int
@@ -38,7 +40,7 @@ class Damaged(Refused):
         self.second, self.at, self.why = second, at, why
 
 
-EMPTY = Held(False, 0, 1, 0, 0, STARTING, TUNED)
+EMPTY = Held(False, 0, VERSION, 1, 0, 0, STARTING, TUNED)
 
 
 def paths(name):
@@ -50,11 +52,12 @@ def is_open(data):
 
 
 def head(data):
-    """The generation of a file whose first gate is open; None where no batch begins there."""
+    """The generation of a file whose first gate is open; None where no batch begins there. In version 1 the last generation is none: no next one has a number."""
     length = int.from_bytes(data[1:9], "big")
-    if len(data) < 9 + HEAD or length < HEAD or data[9:14] != MAGIC:
+    if len(data) < 9 + HEAD or length < HEAD or data[9:13] != MAGIC or data[13] not in (1, VERSION):
         return None
-    return int.from_bytes(data[14:22], "big")
+    generation = int.from_bytes(data[14:22], "big")
+    return None if data[13] == 1 and generation == LAST - 1 else generation
 
 
 def laid(records, objects):
@@ -73,7 +76,9 @@ def next_batch(held, data, place):
     length = int.from_bytes(data[place + 1:start], "big")
     if len(data) < start + length:
         raise Outside("the batch is cut")
-    generation, number, records, tuned = body_of(data[start:start + length])
+    version, generation, number, records, tuned = body_of(data[start:start + length])
+    if version != held.version:
+        raise Outside(f"it is of version {version}, in a file of version {held.version}")
     if generation != held.generation:
         raise Outside(f"it is of generation {generation}, in a file of generation {held.generation}")
     if held.batches and number != (held.number + 1) % LAST:
@@ -86,7 +91,7 @@ def next_batch(held, data, place):
 
 def read_file(data, second, path):
     """What an open file holds."""
-    held, place, last = Held(second, 0, head(data), 0, 0, STARTING, TUNED), 0, 0
+    held, place, last = Held(second, 0, data[13], head(data), 0, 0, STARTING, TUNED), 0, 0
     while len(data) > place + 1 and data[place] == 1:
         try:
             held = next_batch(held, data, place)
@@ -185,7 +190,7 @@ class Files:
 
     def append(self, held, objects, tuned, anew=False):
         """The world of these objects as one batch more; `anew` at the beginning of the other file, as the whole world. What is held then."""
-        other = anew and held.batches > 0 or held.batches >= TURN and held.generation < LAST - 1
+        other = anew and held.batches > 0 or held.version == 1 or held.batches >= TURN and held.generation < LAST - 1
         second, place = (not held.second, 0) if other else (held.second, held.place)
         generation, number = held.generation + other, (held.number + 1) % LAST
         if generation == LAST:
