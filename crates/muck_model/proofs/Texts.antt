@@ -49,8 +49,4 @@ number_is_text z fits = text_if (signed_decimal z) (omega (arith, inside_number 
 
 -- and so is the number of an object behind its sign
 pub object_is_text : (z : ℤ) → mag z < 2 ^ 32 → text_fault (35 ∷ signed_decimal z) ≡ None
-object_is_text z fits =
-    let rest = inside_number z (omega (arith, fits)) in
-    text_if (35 ∷ signed_decimal z)
-    (cond-true (not (is_outside 35)) (1 + position_or_len is_outside (signed_decimal z)) 0 (not_from_false (is_outside 35) refl) ∙ omega (arith, rest))
-    (omega (arith, length_signed_le 10 z (omega (arith, fits)) (omega (arith, fits))))
+object_is_text z fits = text_if (35 ∷ signed_decimal z) (omega (arith, inside_number z (omega (arith, fits)))) (omega (arith, length_signed_le 10 z (omega (arith, fits)) (omega (arith, fits))))
