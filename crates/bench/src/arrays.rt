@@ -1,6 +1,6 @@
 // Runs MUF programs over long lists and texts.
 use crate::units::{begin, compiled, empty_frame};
-use muf_run::run_local;
+use muf_run::{Meter, run_local};
 use std::alloc::Global;
 
 // A list that grows item by item.
@@ -48,7 +48,7 @@ pub fn run(alloc: Global, program: &str, size: u32, rounds: u32) -> Option<Strin
     let code = compiled(alloc, source.as_str())?;
     let mut frame = empty_frame(alloc)?;
     begin(alloc, &code, &mut frame)?;
-    let _local = run_local(alloc, &code, &mut frame, u32::MAX).ok()?;
+    let _local = run_local(alloc, &code, &mut frame, u32::MAX, &mut Meter::new()).ok()?;
     let units = frame.units();
     format!(in alloc; "{units} units").ok()
 }

@@ -10,7 +10,7 @@ use muck_perm::Guard;
 use muck_prop::PropValue;
 use muf_frame::{Frame, PrimFault};
 use muf_model::{Code, Family, MufFault, Prim};
-use muf_run::{Local, run_local};
+use muf_run::{Local, Meter, run_local};
 use spec_rights::Actor;
 use std::alloc::Global;
 
@@ -85,7 +85,7 @@ fn turn(
     frame: &mut Frame,
     left: u32,
 ) -> Option<u32> {
-    match run_local(alloc, code, frame, left).ok()? {
+    match run_local(alloc, code, frame, left, &mut Meter::new()).ok()? {
         Local::Spent => Some(0),
         Local::Shared(prim) => {
             pass(prim, guard, frame)?;

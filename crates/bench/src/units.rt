@@ -3,7 +3,7 @@ use muck_model::{Dbref, Line};
 use muf_compile::compile;
 use muf_frame::Frame;
 use muf_model::Code;
-use muf_run::run_local;
+use muf_run::{Meter, run_local};
 use muf_token::{MemIncludes, tokens};
 use std::alloc::Global;
 
@@ -51,7 +51,7 @@ pub(crate) fn begin(alloc: Global, code: &Code, frame: &mut Frame) -> Option<()>
 // A frame begins the last word of the code, and runs so many units of it.
 fn ran(alloc: Global, code: &Code, frame: &mut Frame, most: u32) -> Option<u32> {
     begin(alloc, code, frame)?;
-    let _local = run_local(alloc, code, frame, most).ok()?;
+    let _local = run_local(alloc, code, frame, most, &mut Meter::new()).ok()?;
     Some(frame.units())
 }
 

@@ -1,5 +1,5 @@
 // Many units of a program that runs, and faults.
-ghost use Rattle.std.specs.Prelude.{◌≡◌, IfOk, List, ◌∷◌, reverse, length, ◌<◌, drop};
+ghost use Rattle.std.specs.Prelude.{◌≡◌, IfOk, List, ◌∷◌, reverse, length, ◌<◌, ◌+◌, ◌^◌, drop};
 ghost use Rattle.muf_model.specs.Chains.{taken};
 ghost use Rattle.muf_model.specs.inner.Flat.{decode, Flat};
 ghost use Rattle.muf_model.specs.inner.Nested.{StaysNested};
@@ -15,7 +15,7 @@ use crate::running::{left, running_code};
 use muck_model::NoMemory;
 use muf_frame::Frame;
 use muf_model::{MufFault, Prim};
-use muf_run::{Local, run_local};
+use muf_run::{Local, Meter, run_local};
 use std::alloc::Global;
 
 /// How a run of a process ended.
@@ -38,19 +38,22 @@ pub struct Stint {
     pub units: u32,
 }
 
-// Units of the running program.
+// Units of the running program, each of which the meter counts.
 fn run_current(
     alloc: Global,
     programs: &[Entered],
     frame: &mut Frame,
     most: u32,
+    meter: &mut Meter,
 ) -> Result<Local, NoMemory>
-    requires { ProgramsFit (reverse programs.now) (flat frame.old) }
+    requires fits { ProgramsFit (reverse programs.now) (flat frame.old) }
+    requires room { meter.old < 2 ^ 63 }
     ensures answer { IfOk result (λ local. LocalFits (reverse programs.now) local (flat frame.new) (units most (decode (codes_of (reverse programs.now)) (flat frame.old)))) }
     ensures units { IfOk result (λ _. frame.new.units ≡ taken most (decode (codes_of (reverse programs.now)) (flat frame.old))) }
+    ensures meter { IfOk result (λ _. meter.new ≡ meter.old + frame.new.units) }
 {
     let code = running_code(programs);
-    run_local(alloc, code, frame, most)
+    run_local(alloc, code, frame, most, meter)
 }
 
 // The process as a run left it.
@@ -69,10 +72,13 @@ fn stopped(programs: Vec<Entered>, frame: FrameBox, local: Local) -> Ran
 
 impl Running {
     /// Runs at most so many units: up to a shared primitive, which then comes next, to the end of the process, or back
-    /// into a calling program. No unit is ever stuck. After `NoMemory` nothing is left of the process.
-    pub fn run(self, alloc: Global, most: u32) -> Result<Stint, NoMemory>
+    /// into a calling program. No unit is ever stuck, and the meter counts each. After `NoMemory` nothing is left of the process,
+    /// and nothing is said of the meter.
+    pub fn run(self, alloc: Global, most: u32, meter: &mut Meter) -> Result<Stint, NoMemory>
+        requires { meter.old < 2 ^ 63 }
         ensures ran { IfOk result (λ s. RanAlike s.ran (units most self)) }
         ensures units { IfOk result (λ s. s.units ≡ taken most self) }
+        ensures meter { IfOk result (λ s. meter.new ≡ meter.old + s.units) }
         ensures asked { IfOk result (λ s. AskedAt s.ran) }
         ensures nested { IfOk result (λ _. StaysNested (units most self)) }
     {
@@ -80,7 +86,7 @@ impl Running {
             programs,
             mut frame,
         } = self;
-        let local = run_current(alloc, &programs, frame.get_mut(), most)?;
+        let local = run_current(alloc, &programs, frame.get_mut(), most, meter)?;
         let units = frame.get().units();
         let ran = stopped(programs, frame, local);
         Ok(Stint { ran, units })

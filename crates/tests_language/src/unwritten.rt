@@ -4,7 +4,7 @@ use crate::first_wrong;
 use muck_model::{Dbref, Line, LineFault, NoMemory, Row};
 use muf_frame::Frame;
 use muf_model::{Closer, Code, Instr, Placed, Prim, Value, Word};
-use muf_run::{Local, run_local};
+use muf_run::{Local, Meter, run_local};
 use std::alloc::Global;
 
 // The code of a word and `;`.
@@ -40,10 +40,10 @@ fn words_that_are_refused(rt: HostRuntime) -> Result<(), NoMemory> {
     let alloc = rt.alloc();
     let call = code_of(alloc, Word::Call(9))?;
     let mut faulted = frame_of(alloc)?;
-    let end = run_local(alloc, &call, &mut faulted, 100)?;
+    let end = run_local(alloc, &call, &mut faulted, 100, &mut Meter::new())?;
     let primitive = code_of(alloc, Word::Primitive(Prim::ArrayCount))?;
     let mut stopped = frame_of(alloc)?;
-    let stop = run_local(alloc, &primitive, &mut stopped, 100)?;
+    let stop = run_local(alloc, &primitive, &mut stopped, 100, &mut Meter::new())?;
     let holds = [
         matches!(end, Local::Ended),
         faulted.units() == 2,

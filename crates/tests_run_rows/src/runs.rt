@@ -5,7 +5,7 @@ use muck_model::{Dbref, Line, NoMemory, decimal};
 use muf_compile::{CompileFault, compile};
 use muf_frame::Frame;
 use muf_model::{Code, Value};
-use muf_run::{Local, run_local};
+use muf_run::{Local, Meter, run_local};
 use std::alloc::Global;
 use tests_rows::{Rows, line, lines_of, part};
 
@@ -80,7 +80,7 @@ fn begun(
 
 // How a run of a program ended, after how many units, and the items that are there then.
 fn ran_text(alloc: Global, code: &Code, mut frame: Frame, most: u32) -> Result<Vec<u8>, NoMemory> {
-    let local = run_local(alloc, code, &mut frame, most)?;
+    let local = run_local(alloc, code, &mut frame, most, &mut Meter::new())?;
     let units = frame.units();
     let text = match local {
         Local::Spent => format!(in alloc; "spent {units}:")?,

@@ -14,6 +14,7 @@ use crate::state::deeds::Done;
 use crate::state::limits::{Allowance, next_allowance};
 use muck_model::{Dbref, NoMemory, Tune};
 use muf_model::{MufFault, Prim};
+use muf_run::Meter;
 use muf_running::{Ran, Running, Stint};
 use spec_events::{Agent, error_text};
 use spec_hooks::Turned;
@@ -97,7 +98,8 @@ impl State {
         ensures { IfOk result (λ next. Runs pid agent most running self.old self.new next) }
     {
         let program = running.program();
-        let Stint { ran, units } = running.run(self.alloc, most)?;
+        let mut meter = Meter::new();
+        let Stint { ran, units } = running.run(self.alloc, most, &mut meter)?;
         match ran {
             Ran::Going(next) => {
                 self.queue.count(pid, units);

@@ -10,7 +10,7 @@ use Rattle.muf_run.specs.inner.Machine.{next_of}
 use Rattle.muf_run.specs.inner.Ends.{UnitEnds, StepEnds}
 use Rattle.muf_run.specs.declared.ran.Step.TheVariants.{Went}
 use Rattle.muf_run.proofs.Running.{going_far, units_over, taken_over, spent}
-use Rattle.muf_run.proofs.run.run_local.Goals as goal
+use Rattle.muf_run.proofs.run.run_units.Goals as goal
 
 pub loop-taken-preserved : goal.loop-taken-preserved
 loop-taken-preserved c =

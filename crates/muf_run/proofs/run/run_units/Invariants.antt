@@ -6,7 +6,7 @@ use Rattle.muf_model.specs.inner.Nested.{Nested}
 use Rattle.muf_model.specs.inner.Fits.{FitsState}
 use Rattle.muf_frame.specs.inner.Shown.{flat}
 use Rattle.muf_run.specs.inner.Runs.{taken}
-use Rattle.muf_run.proofs.run.run_local.Given as goal
+use Rattle.muf_run.proofs.run.run_units.Given as goal
 
 abbrev pub invariant-loop-taken : goal.invariant-loop-taken
 invariant-loop-taken l =
