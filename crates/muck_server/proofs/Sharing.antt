@@ -104,6 +104,7 @@ porter_stop : (stage : Option Stage) → is_some (option_and_then (λ s. next_st
 porter_stop None h = not_so h
 porter_stop (Some Stage.unbound) h = refl
 porter_stop (Some Stage.timed) h = refl
+porter_stop (Some Stage.planned) h = refl
 porter_stop (Some (Stage.claimed pid)) h = not_so h
 porter_stop (Some (Stage.dumping k)) h = not_so h
 porter_stop (Some Stage.stopped) h = not_so h
@@ -114,6 +115,7 @@ dumper_stop : (stage : Option Stage) → is_some (option_and_then (λ s. next_st
 dumper_stop None h = not_so h
 dumper_stop (Some Stage.unbound) h = refl
 dumper_stop (Some Stage.timed) h = not_so h
+dumper_stop (Some Stage.planned) h = not_so h
 dumper_stop (Some (Stage.claimed pid)) h = not_so h
 dumper_stop (Some (Stage.dumping k)) h = not_so h
 dumper_stop (Some Stage.stopped) h = not_so h

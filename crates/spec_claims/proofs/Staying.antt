@@ -7,10 +7,10 @@ use Rattle.std.proofs.lemmas.Bool.{eq-eqb, and_parts, eqb-true}
 use Rattle.muck_laws.proofs.Numbers.{same_pid}
 use Rattle.muck_model.specs.declared.event.Entry.{Entry}
 use Rattle.muck_model.specs.declared.event.Event.{Event}
-use Rattle.muck_model.specs.declared.event.Event.TheVariants.{Opened, Input, Closed, Moment, Exec, Planned, Claim, Slice, Commit, Lost, Idle, Take, Cut, Stored, DumpFailed, Halt, StopSeen, Died}
+use Rattle.muck_model.specs.declared.event.Event.TheVariants.{Opened, Input, Closed, Moment, Exec, Planned, Claim, Slice, Commit, Lost, Starved, Idle, Take, Cut, Stored, DumpFailed, Halt, StopSeen, Died}
 use Rattle.muck_queue.specs.declared.claim.Claim.{Claim as Claimed}
 use Rattle.muck_queue.specs.declared.process.Process.{Process}
-use Rattle.muck_queue.specs.Queues.{is_process_due, is_claimed, is_on, has_pid, claimed, released, ended_tied, is_reading, is_awaiting}
+use Rattle.muck_queue.specs.Queues.{is_process_due, is_claimed, is_on, has_pid, claimed, released, ended_tied, without_process, is_reading, is_awaiting}
 use Rattle.spec_events.specs.World.{World, connection}
 use Rattle.spec_events.specs.Steps.{has_claim, is_lawful, is_allowed, is_died, happened, effect}
 use Rattle.spec_events.specs.Slices.{sliced}
@@ -149,7 +149,7 @@ module _ (party : ℕ) (pid : ℤ) (w : World) (sole : IsSole party pid w) (othe
           at false is_n = refl
 
   stays_event : (event : Event) → is_lawful w (record { party = other; event = event }) ≡ true → IsSole party pid (happened w other event)
-  unfolding released ended_tied
+  unfolding released ended_tied without_process
   stays_event (Opened d) lawful = sole
   stays_event (Input d line) lawful = sole
   stays_event (Closed d) lawful = sole
@@ -158,8 +158,9 @@ module _ (party : ℕ) (pid : ℤ) (w : World) (sole : IsSole party pid w) (othe
   stays_event (Planned d) lawful = sole
   stays_event (Claim n) lawful = stays_claim n lawful
   stays_event (Slice n) lawful = stays_released n (sliced n w).queue.claims (and_parts _ _ (allowed w other (Slice n) lawful refl)).0 (same_sliced n w)
-  stays_event (Commit n) lawful = sole
+  stays_event (Commit n) lawful = stays_released n (sliced n w).queue.claims (and_parts _ _ (allowed w other (Commit n) lawful refl)).0 (same_sliced n w)
   stays_event (Lost n) lawful = stays_released n w.queue.claims (and_parts _ _ (allowed w other (Lost n) lawful refl)).0 refl
+  stays_event (Starved n) lawful = stays_released n w.queue.claims (and_parts _ _ (allowed w other (Starved n) lawful refl)).0 refl
   stays_event Idle lawful = sole
   stays_event (Take d n) lawful = sole
   stays_event (Cut k) lawful = sole

@@ -1,5 +1,5 @@
 -- What a line does in the editor of programs.
-use Rattle.std.specs.Prelude.{◌≡◌, ℕ, ◌+◌, ◌-◌, ◌≤◌, ◌==◌, Bool, true, ◌&&◌, nat_lt, nat_le, bytes_eq, if◌then◌else◌, List, length, insert, slice_range, codes, Option, Some, None, IfSome}
+use Rattle.std.specs.Prelude.{◌≡◌, ℕ, ◌+◌, ◌-◌, ◌≤◌, ◌==◌, Bool, true, false, ◌&&◌, nat_lt, nat_le, bytes_eq, if◌then◌else◌, List, length, insert, slice_range, codes, Option, Some, None, IfSome, is_none}
 use Rattle.std.specs.Option.{option_map_or, option_and_then}
 use Rattle.std.specs.List.{remove_range}
 use Rattle.std.specs.Cmp.Lexicographic.{pointwise}
@@ -84,6 +84,15 @@ edit_command count line =
     if is_empty others then plain_command count text
     else if is_empty last then one_line count (first_word text) others
     else two_lines count (first_word text) (first_word others) last
+
+-- it asks for the building of the program
+abbrev pub is_compile : EditCommand → Bool
+is_compile Compile = true
+is_compile command = false
+
+-- so does a line while none is inserted
+abbrev pub is_building : EditState → List ℕ → Bool
+is_building s line = is_none s.inserting && option_map_or is_compile (edit_command (length s.lines) line) false
 
 -- Lines.
 

@@ -2,7 +2,7 @@
 use Rattle.std.specs.Prelude.{◌≡◌, ◌⊎◌, ℕ, ℤ, if◌then◌else◌, Bool, true, false, List, [], ◌∷◌, Option, Some, None}
 use Rattle.muck_model.specs.declared.event.Entry.{Entry}
 use Rattle.muck_model.specs.declared.event.Event.{Event}
-use Rattle.muck_model.specs.declared.event.Event.TheVariants.{Exec, Slice}
+use Rattle.muck_model.specs.declared.event.Event.TheVariants.{Exec, Slice, Commit}
 use Rattle.muck_model.specs.declared.tune.Tune.{Tune}
 use Rattle.spec_live.specs.Objects.{Entry as Kept}
 use Rattle.spec_live.specs.Lives.{Live}
@@ -71,6 +71,7 @@ pub record UnitNames (tune : Tune) (pid : ℤ) (t : Taken) : Type 0 where
 -- What an event asks for, from one world to the next: each unit of a slice what it asks for; and a line the program that it starts, the lock on which it hangs, and what its command asks for.
 abbrev pub EventNamed : Event → World → World → Type 0
 EventNamed (Slice pid) w v = Each (UnitNames w.live.board.tune pid) (units_of pid w)
+EventNamed (Commit pid) w v = Each (UnitNames w.live.board.tune pid) (units_of pid w)
 EventNamed (Exec d) w v = LineStarts w v × LineLocked d w v × LineRefused d w v
 EventNamed event w v = Unit {0}
 

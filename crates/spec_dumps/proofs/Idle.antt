@@ -6,7 +6,7 @@ use Rattle.std.specs.Option.{option_map, option_map_or}
 use Rattle.muck_laws.proofs.Truths.{none_first, none_later}
 use Rattle.muck_model.specs.declared.event.Entry.{Entry}
 use Rattle.muck_model.specs.declared.event.Event.{Event}
-use Rattle.muck_model.specs.declared.event.Event.TheVariants.{Opened, Input, Closed, Moment, Exec, Planned, Claim, Slice, Commit, Lost, Idle, Take, Cut, Stored, DumpFailed, Halt, StopSeen, Died}
+use Rattle.muck_model.specs.declared.event.Event.TheVariants.{Opened, Input, Closed, Moment, Exec, Planned, Claim, Slice, Commit, Lost, Starved, Idle, Take, Cut, Stored, DumpFailed, Halt, StopSeen, Died}
 use Rattle.spec_events.specs.World.{World, Dumps, connection, others_than, runs_dump}
 use Rattle.spec_events.specs.Steps.{effect, happened}
 use Rattle.spec_events.specs.Histories.{History, after, now}
@@ -34,8 +34,9 @@ number_happened (Exec d) w party e = ap number_of (done_going d w (connection d 
 number_happened (Planned d) w party e = refl
 number_happened (Claim pid) w party e = refl
 number_happened (Slice pid) w party e = ap number_of (sliced_going pid w).running
-number_happened (Commit pid) w party e = refl
+number_happened (Commit pid) w party e = ap number_of (sliced_going pid w).running
 number_happened (Lost pid) w party e = refl
+number_happened (Starved pid) w party e = refl
 number_happened Idle w party e = refl
 number_happened (Take d n) w party e = refl
 number_happened (Cut k) w party e = cc

@@ -6,7 +6,7 @@ use Rattle.std.specs.List.{flat_map}
 use Rattle.muck_model.specs.declared.dbref.Dbref.{Dbref}
 use Rattle.muck_model.specs.declared.event.Entry.{Entry}
 use Rattle.muck_model.specs.declared.event.Event.{Event}
-use Rattle.muck_model.specs.declared.event.Event.TheVariants.{Exec, Slice, Closed}
+use Rattle.muck_model.specs.declared.event.Event.TheVariants.{Exec, Slice, Commit, Closed}
 use Rattle.spec_live.specs.Objects.{Entry as Object, object_at}
 use Rattle.spec_live.specs.Lives.{Live}
 use Rattle.muck_library.specs.Library.{Library}
@@ -26,6 +26,7 @@ use Rattle.spec_events.proofs.Hooking.{IsCall, calls_there, all_keep, each_flat,
 abbrev pub is_hooked : Event → Bool
 is_hooked (Exec d) = true
 is_hooked (Slice pid) = true
+is_hooked (Commit pid) = true
 is_hooked (Closed d) = true
 is_hooked event = false
 
@@ -37,6 +38,7 @@ effect-is w e no = none e.event no
     none : (event : Event) → is_hooked event ≡ false → hooked_by w event (happened w e.party event) ≡ happened w e.party event
     none (Exec d) no = absurd cc
     none (Slice pid) no = absurd cc
+    none (Commit pid) no = absurd cc
     none (Closed d) no = absurd cc
     none event no = refl
 
@@ -62,6 +64,7 @@ effect-keeps P lasts rests w e h = by_event e.event (happened w e.party e.event)
     by_event : (event : Event) (v : World) → P v → P (hooked_by w event v)
     by_event (Exec d) v k = hooked-keeps P lasts w (rested v) _ (rests v k)
     by_event (Slice pid) v k = hooked-keeps P lasts w (rested v) _ (rests v k)
+    by_event (Commit pid) v k = hooked-keeps P lasts w (rested v) _ (rests v k)
     by_event (Closed d) v k = hooked-keeps P lasts w (rested v) _ (rests v k)
     by_event event v k = k
 
@@ -86,6 +89,7 @@ effect-live w e = by_event e.event (happened w e.party e.event)
     by_event : (event : Event) (v : World) → (hooked_by w event v).live ≡ (resting event v).live
     by_event (Exec d) v = hooked-live w (rested v) _
     by_event (Slice pid) v = hooked-live w (rested v) _
+    by_event (Commit pid) v = hooked-live w (rested v) _
     by_event (Closed d) v = hooked-live w (rested v) _
     by_event event v = refl
 
@@ -97,6 +101,7 @@ effect-starts w e = by_event e.event (happened w e.party e.event)
     by_event : (event : Event) (v : World) → OnlyStarts (resting event v) (hooked_by w event v)
     by_event (Exec d) v = only_starts w (rested v) _
     by_event (Slice pid) v = only_starts w (rested v) _
+    by_event (Commit pid) v = only_starts w (rested v) _
     by_event (Closed d) v = only_starts w (rested v) _
     by_event event v = none_starts v
 
@@ -107,6 +112,7 @@ effect-seen P rests w e h = subst (λ (l : Live). P l.objects) (sym (effect-live
     by_event : (event : Event) (v : World) → P v.live.objects → P (resting event v).live.objects
     by_event (Exec d) v k = rests v k
     by_event (Slice pid) v k = rests v k
+    by_event (Commit pid) v k = rests v k
     by_event (Closed d) v k = rests v k
     by_event event v k = k
 

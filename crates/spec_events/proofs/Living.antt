@@ -2,7 +2,7 @@
 use Rattle.std.proofs.Common.{◌≡◌, ◌∙◌, ℕ, false, refl}
 use Rattle.muck_model.specs.declared.event.Entry.{Entry}
 use Rattle.muck_model.specs.declared.event.Event.{Event}
-use Rattle.muck_model.specs.declared.event.Event.TheVariants.{Opened, Input, Closed, Moment, Exec, Planned, Claim, Slice, Commit, Lost, Idle, Take, Cut, Stored, DumpFailed, Halt, StopSeen, Died}
+use Rattle.muck_model.specs.declared.event.Event.TheVariants.{Opened, Input, Closed, Moment, Exec, Planned, Claim, Slice, Commit, Lost, Starved, Idle, Take, Cut, Stored, DumpFailed, Halt, StopSeen, Died}
 use Rattle.spec_events.specs.World.{World, connection}
 use Rattle.spec_events.specs.Steps.{effect, happened, is_died}
 use Rattle.spec_events.proofs.Done.{done_going}
@@ -18,8 +18,9 @@ dead-happened (Exec d) w party e = (done_going d w (connection d w) refl).dead
 dead-happened (Planned d) w party e = refl
 dead-happened (Claim pid) w party e = refl
 dead-happened (Slice pid) w party e = (sliced_going pid w).dead
-dead-happened (Commit pid) w party e = refl
+dead-happened (Commit pid) w party e = (sliced_going pid w).dead
 dead-happened (Lost pid) w party e = refl
+dead-happened (Starved pid) w party e = refl
 dead-happened Idle w party e = refl
 dead-happened (Take d n) w party e = refl
 dead-happened (Cut k) w party e = refl

@@ -8,7 +8,7 @@ use Rattle.muck_model.specs.declared.tune.Tune.{Tune}
 use Rattle.muck_model.specs.declared.edit.EditState.{EditState}
 use Rattle.muck_model.specs.declared.event.Entry.{Entry as Happened}
 use Rattle.muck_model.specs.declared.event.Event.{Event}
-use Rattle.muck_model.specs.declared.event.Event.TheVariants.{Closed, Exec, Claim, Slice, Lost}
+use Rattle.muck_model.specs.declared.event.Event.TheVariants.{Closed, Exec, Claim, Slice, Commit, Lost, Starved}
 use Rattle.spec_live.specs.Connections.{Connection}
 use Rattle.spec_live.specs.Objects.{Entry}
 use Rattle.spec_rights.specs.declared.act.Actor.{Actor}
@@ -18,7 +18,7 @@ use Rattle.muf_model.specs.declared.fault.MufFault.{MufFault}
 use Rattle.muf_model.specs.Tree.{Tree}
 use Rattle.muck_library.specs.declared.flaw.Flaw.{Flaw}
 use Rattle.muck_library.specs.Programs.{built_tree}
-use Rattle.muck_queue.specs.Queues.{Queue, empty_queue, is_tied_to, claimed, released, ended_tied, told_line, woken, reader}
+use Rattle.muck_queue.specs.Queues.{Queue, empty_queue, is_tied_to, claimed, released, ended_tied, without_process, told_line, woken, reader}
 use Rattle.muck_queue.specs.inner.Numbered.{IsNumbered}
 use Rattle.muck_queue.proofs.Numbered.{rises_kept}
 use Rattle.muck_queue.proofs.Woken.{woken_number}
@@ -145,7 +145,9 @@ rising_happened (Closed d) w party h = tied_numbered d w.queue h
 rising_happened (Exec d) w party h = done_rising d _ w h
 rising_happened (Claim pid) w party h = claimed_numbered pid party w.queue h
 rising_happened (Slice pid) w party h = released_numbered pid (sliced pid w).queue (sliced_rising pid w h)
+rising_happened (Commit pid) w party h = released_numbered pid (sliced pid w).queue (sliced_rising pid w h)
 rising_happened (Lost pid) w party h = released_numbered pid w.queue h
+rising_happened (Starved pid) w party h = released_numbered pid (without_process pid w.queue) (numbered_without pid w.queue h)
 rising_happened event w party h = h
 
 pub numbered_effect : (w : World) (e : Happened) → Rising w → Rising (effect w e)

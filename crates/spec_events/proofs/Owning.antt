@@ -45,6 +45,7 @@ stop_last party stage = pick (party == 0) (nat_lt party 9) (party == 9)
     porter : (s : Stage) → ends_with (porter_next s StopSeen)
     porter Stage.unbound h = refl
     porter Stage.timed h = refl
+    porter Stage.planned h = refl
     porter (Stage.claimed pid) h = h
     porter (Stage.dumping k) h = h
     porter Stage.stopped h = h
@@ -54,6 +55,7 @@ stop_last party stage = pick (party == 0) (nat_lt party 9) (party == 9)
     worker : (s : Stage) → ends_with (worker_next s StopSeen)
     worker Stage.unbound h = refl
     worker Stage.timed h = h
+    worker Stage.planned h = refl
     worker (Stage.claimed pid) h = h
     worker (Stage.dumping k) h = h
     worker Stage.stopped h = h
@@ -63,6 +65,7 @@ stop_last party stage = pick (party == 0) (nat_lt party 9) (party == 9)
     dumper : (s : Stage) → ends_with (dumper_next s StopSeen)
     dumper Stage.unbound h = refl
     dumper Stage.timed h = h
+    dumper Stage.planned h = h
     dumper (Stage.claimed pid) h = h
     dumper (Stage.dumping k) h = h
     dumper Stage.stopped h = h
@@ -78,6 +81,7 @@ stop_last party stage = pick (party == 0) (nat_lt party 9) (party == 9)
 died_last : (party : ℕ) (stage : Stage) → ends_with (next_stage party stage Died)
 died_last party Stage.unbound h = refl
 died_last party Stage.timed h = refl
+died_last party Stage.planned h = refl
 died_last party (Stage.claimed pid) h = refl
 died_last party (Stage.dumping k) h = refl
 died_last party Stage.stopped h = refl

@@ -11,7 +11,7 @@ use Rattle.muck_model.specs.declared.tune.Tune.{Tune}
 use Rattle.muck_model.specs.declared.edit.EditState.{EditState}
 use Rattle.muck_model.specs.declared.event.Entry.{Entry}
 use Rattle.muck_model.specs.declared.event.Event.{Event}
-use Rattle.muck_model.specs.declared.event.Event.TheVariants.{Opened, Input, Closed, Exec, Slice, Take, Stored, DumpFailed, Died}
+use Rattle.muck_model.specs.declared.event.Event.TheVariants.{Opened, Input, Closed, Exec, Slice, Commit, Take, Stored, DumpFailed, Died}
 use Rattle.spec_live.specs.Objects.{Entry as Kept, mark_in, nothing}
 use Rattle.spec_live.specs.Connections.{Connection, is_connection, changed_in, connection_placed, without_connection, left, player_seated, newcomer}
 use Rattle.spec_live.specs.Saving as saving
@@ -282,6 +282,7 @@ gained : (event : Event) (party : ℕ) (w : World) → IsRising w.live.board.con
 unfolding connection_opened line_added bytes_taken
 gained (Exec d) party w r l = gained_exec d w (happened w party (Exec d)) (gains_done d (connection d w) w refl l)
 gained (Slice pid) party w r l = λ e p h. inl (sym (slice_kept pid e (units_of pid w) w (happened w party (Slice pid)) l) ∙ h, λ x. cc)
+gained (Commit pid) party w r l = λ e p h. inl (sym (slice_kept pid e (units_of pid w) w (happened w party (Commit pid)) l) ∙ h, λ x. cc)
 gained (Closed d) party w r l = λ e p h. let k = closed_found e d p w.live r h in inl (k.0, λ x. k.1 cc)
 gained (Opened d) party w r l = λ e p h. inl (placed_found e d welcome p w.live.board.connections h, λ x. cc)
 gained (Input d line) party w r l = λ e p h. inl (sym (kept_loose e (on_board (line_added d line)) (loose_one d _ (λ c. refl)) w.live) ∙ h, λ x. cc)

@@ -8,7 +8,7 @@ use Rattle.muck_laws.proofs.Numbers.{apart, differs, test_of_less}
 use Rattle.muck_laws.proofs.Options.{none_of, some_none}
 use Rattle.muck_model.specs.declared.event.Entry.{Entry}
 use Rattle.muck_model.specs.declared.event.Event.{Event}
-use Rattle.muck_model.specs.declared.event.Event.TheVariants.{Opened, Input, Closed, Moment, Exec, Slice, Idle, Take, Stored, DumpFailed, Halt, Died}
+use Rattle.muck_model.specs.declared.event.Event.TheVariants.{Opened, Input, Closed, Moment, Exec, Slice, Commit, Idle, Take, Stored, DumpFailed, Halt, Died}
 use Rattle.muck_model.specs.declared.tune.Tune.{Tune}
 use Rattle.spec_live.specs.Objects.{Entry as Kept}
 use Rattle.spec_live.specs.declared.saving.Saving.{Saving}
@@ -119,6 +119,7 @@ rising-happened (Input d line) party w l h = going-rises w _ (going_quietly w _ 
 rising-happened (Closed d) party w l h = rising-gone_away d w.live h
 rising-happened (Exec d) party w l h = going-rises w _ (done_going d w (connection d w) refl) h
 rising-happened (Slice pid) party w l h = going-rises w _ (sliced_going pid w) h
+rising-happened (Commit pid) party w l h = going-rises w _ (sliced_going pid w) h
 rising-happened (Take d n) party w l h = going-rises w _ (going_quietly w _ (quietly_loose (on_board (bytes_taken d n)) (loose_one d _ (λ c. refl)) w)) h
 rising-happened (Stored k) party w l h = going-rises w _ (stored-going k w) h
 rising-happened (DumpFailed k) party w l h = going-rises w _ (failed-going w) h
@@ -130,6 +131,7 @@ unfolding connection_opened line_added bytes_taken
 tuned-happened (Closed d) party w h = in_range_as w.live (gone_away d w.live) (gone_away_untouched d w.live).tune h
 tuned-happened (Exec d) party w h = (done_going d w (connection d w) refl).tuned h
 tuned-happened (Slice pid) party w h = (sliced_going pid w).tuned h
+tuned-happened (Commit pid) party w h = (sliced_going pid w).tuned h
 tuned-happened (Stored k) party w h = (stored-going k w).tuned h
 tuned-happened (DumpFailed k) party w h = (failed-going w).tuned h
 tuned-happened event party w h = h

@@ -8,7 +8,7 @@ use Rattle.muck_model.specs.declared.dbref.Denial.{Denial}
 use Rattle.muck_model.specs.declared.edit.EditState.{EditState}
 use Rattle.muck_model.specs.declared.event.Entry.{Entry}
 use Rattle.muck_model.specs.declared.event.Event.{Event}
-use Rattle.muck_model.specs.declared.event.Event.TheVariants.{Closed, Exec, Claim, Slice, Lost, Cut, Stored, DumpFailed}
+use Rattle.muck_model.specs.declared.event.Event.TheVariants.{Closed, Exec, Claim, Slice, Commit, Lost, Starved, Cut, Stored, DumpFailed}
 use Rattle.muck_model.specs.declared.tune.Tune.{Tune}
 use Rattle.spec_live.specs.declared.saving.Saving.{Saving}
 use Rattle.spec_live.specs.Saving.{pending, saving_done, due_again}
@@ -245,8 +245,12 @@ module _ (B : Dbref → List (List ℕ) → Tree → Type 0) where
   happened_sourced (Slice pid) party w now units_now h =
       let k = (units.slice_sourced B pid w (each_moment (units_of pid w) units_now) h).1 in
       record { forms = k.forms; processes = k.processes }
+  happened_sourced (Commit pid) party w now units_now h =
+      let k = (units.slice_sourced B pid w (each_moment (units_of pid w) units_now) h).1 in
+      record { forms = k.forms; processes = k.processes }
   happened_sourced (Claim pid) party w now units_now h = record { forms = h.forms; processes = h.processes }
   happened_sourced (Lost pid) party w now units_now h = record { forms = h.forms; processes = h.processes }
+  happened_sourced (Starved pid) party w now units_now h = let k = units.ended_sourced B pid w h in record { forms = k.forms; processes = k.processes }
   happened_sourced (Cut k) party w now units_now h =
       let u : World = on_live (resaved pending) w in
       as_sources w u (saved_sources pending w.live.objects) refl refl h
@@ -265,6 +269,7 @@ module _ (B : Dbref → List (List ℕ) → Tree → Type 0) where
   follows_sourced : (event : Event) (w v : World) → units.Moment B (hooked_by w event v).live.objects → Sourced B v → Sourced B (hooked_by w event v)
   follows_sourced (Exec d) w v now h = hooked_sourced w v _ now h
   follows_sourced (Slice pid) w v now h = hooked_sourced w v _ now h
+  follows_sourced (Commit pid) w v now h = hooked_sourced w v _ now h
   follows_sourced (Closed d) w v now h = hooked_sourced w v _ now h
   follows_sourced event w v now h = h
 
@@ -276,6 +281,7 @@ module _ (B : Dbref → List (List ℕ) → Tree → Type 0) where
   -- and so is what each unit of a slice runs
   pub units_sourced : (event : Event) (w : World) → ((es : List Kept) → BeforeUnit event w es → units.Moment B es) → Sourced B w → UnitsSourced B event w
   units_sourced (Slice pid) w m h = (units.slice_sourced B pid w (each_moment (units_of pid w) m) h).0
+  units_sourced (Commit pid) w m h = (units.slice_sourced B pid w (each_moment (units_of pid w) m) h).0
   units_sourced event w m h = tt
 
 -- More moments.

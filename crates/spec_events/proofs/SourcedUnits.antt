@@ -261,7 +261,7 @@ module _ (B : Dbref → List (List ℕ) → Tree → Type 0) where
   unfolding without_process
   stand_without es pid q k = each_without (λ (p : Process). Unit {0}) pid (λ p. Standing (OfSource B es) p.running) q.processes k
 
-  ended_sourced : (pid : ℤ) (w : World) → Sourced B w → Sourced B (ended_one pid w)
+  pub ended_sourced : (pid : ℤ) (w : World) → Sourced B w → Sourced B (ended_one pid w)
   ended_sourced pid w h = record { forms = h.forms; processes = stand_without w.live.objects pid w.queue h.processes }
 
   broken_sourced : (pid : ℤ) (player : Dbref) (program : ℤ) (f : MufFault) (w : World) → Sourced B w → Sourced B (broken pid player program f w)

@@ -3,7 +3,7 @@ use Rattle.std.proofs.Common.{◌≡◌, ◌∙◌, ℕ, List, Option, sym, ap, 
 use Rattle.std.specs.Option.{option_and_then}
 use Rattle.muck_model.specs.declared.event.Entry.{Entry}
 use Rattle.muck_model.specs.declared.event.Event.{Event}
-use Rattle.muck_model.specs.declared.event.Event.TheVariants.{Exec, Slice, Closed, Cut, Stored, DumpFailed}
+use Rattle.muck_model.specs.declared.event.Event.TheVariants.{Exec, Slice, Commit, Closed, Cut, Stored, DumpFailed}
 use Rattle.spec_live.specs.declared.object.Object.{Object}
 use Rattle.spec_live.specs.declared.saving.Saving.{Saving}
 use Rattle.spec_live.specs.Objects.{Entry as Kept, object_in}
@@ -33,6 +33,7 @@ still_dump f ds text w still = subst IsStill (sym ((quiet_told_each ds text).law
 still_event : (event : Event) (w : World) (party : ℕ) → IsStill w.live.objects → IsStill (resting event (happened w party event)).live.objects
 still_event (Exec d) w party still = is_stilled (happened w party (Exec d)).live.objects
 still_event (Slice pid) w party still = is_stilled (happened w party (Slice pid)).live.objects
+still_event (Commit pid) w party still = is_stilled (happened w party (Commit pid)).live.objects
 still_event (Closed d) w party still = is_stilled (happened w party (Closed d)).live.objects
 still_event (Cut k) w party still = still_resaved pending w.live.objects still
 still_event (Stored k) w party still = still_dump saving_done (askers_of w.dumps) (dump_stored k) w.live still

@@ -3,7 +3,7 @@ use Rattle.std.proofs.Common.{◌≡◌, ℕ, true, false, zero, suc, List, [], 
 use Rattle.muck_model.specs.declared.event.Entry.{Entry}
 use Rattle.muck_model.specs.declared.event.Event.{Event}
 use Rattle.muck_model.specs.declared.tune.Tune.{Tune}
-use Rattle.muck_model.specs.declared.event.Event.TheVariants.{Opened, Input, Closed, Exec, Slice, Take, Cut, Stored, DumpFailed}
+use Rattle.muck_model.specs.declared.event.Event.TheVariants.{Opened, Input, Closed, Exec, Slice, Commit, Starved, Take, Cut, Stored, DumpFailed}
 use Rattle.spec_live.specs.declared.saving.Saving.{Saving}
 use Rattle.spec_live.specs.Objects.{Entry as Kept, mark_in}
 use Rattle.spec_live.specs.Saving.{pending, saving_done, due_again}
@@ -16,15 +16,16 @@ use Rattle.spec_live.proofs.Lives.{readies}
 use Rattle.spec_rights.proofs.Shown.{loose_one}
 use Rattle.spec_commands.proofs.Numbered.{leavers_ties}
 use Rattle.spec_commands.proofs.Lines.{quiet_parted}
-use Rattle.muck_queue.specs.Queues.{is_tied_to, claimed, released}
+use Rattle.muck_queue.specs.Queues.{is_tied_to, claimed, released, without_process}
 use Rattle.muck_queue.specs.inner.Numbered.{IsNumbered}
 use Rattle.spec_events.specs.World.{World, world_booted, starting_world, connection, askers_of, on_live}
 use Rattle.spec_events.specs.Dumping.{resaved, dump_stored, dump_failed, told_each}
 use Rattle.spec_events.specs.Steps.{effect, happened}
+use Rattle.spec_events.specs.Endings.{EndsReading}
 use Rattle.spec_events.specs.Licences.{Untouched, DumpLicensed, EventLicensed}
 use Rattle.spec_events.specs.Histories.{AllLicensed}
 use Rattle.spec_events.proofs.Quietly.{quiet_told_each}
-use Rattle.spec_events.proofs.Endings.{IsTold, processes_remain, tied_remain}
+use Rattle.spec_events.proofs.Endings.{IsTold, lasting_same, lasting_both, lasting_without, process_number, processes_remain, tied_remain}
 use Rattle.spec_events.proofs.Done.{none_ends, undisturbed_quietly, turn_licensed, told_by, told_done}
 use Rattle.spec_events.proofs.Taken.{told_sliced}
 use Rattle.spec_events.proofs.Chained.{slice_licensed}
@@ -58,6 +59,13 @@ event_licensed : (event : Event) (w : World) (party : ℕ) → IsTold w.live →
 unfolding connection_opened line_added bytes_taken claimed released
 event_licensed (Exec d) w party told rising = exec_licensed d w party told
 event_licensed (Slice pid) w party told rising = let s = slice_licensed pid w told rising in record { units = s.units; chained = s.chained; leads = s.leads; processes = s.processes; whole = s.whole }
+event_licensed (Commit pid) w party told rising = let s = slice_licensed pid w told rising in record { units = s.units; chained = s.chained; leads = s.leads; processes = s.processes; whole = s.whole }
+event_licensed (Starved pid) w party told rising = (
+  record { objects = refl; tune = refl },
+  processes_remain (EndsReading pid) (EndsReading pid) w (happened w party (Starved pid)) (λ p m. m)
+      (lasting_both (EndsReading pid) w.queue (without_process pid w.queue) (released pid (without_process pid w.queue)) (lasting_without (EndsReading pid) pid w.queue (process_number pid w.queue)) (lasting_same (EndsReading pid) (without_process pid w.queue))),
+  leavers_ties (λ c. false) w.live.board.connections w.live.board.connections refl,
+)
 event_licensed (Closed d) w party told rising =
     (gone_away_untouched d w.live, processes_remain (λ p. is_tied_to d p ≡ true) (λ p. is_tied_to d p ≡ true) w (happened w party (Closed d)) (λ p m. m) (tied_remain d w.queue))
 event_licensed (Opened d) w party told rising = (record { objects = refl; tune = refl }, none_ends w (happened w party (Opened d)) refl)
@@ -79,6 +87,7 @@ told_dump f ds text w h = told_by (resaved f w) (told_each ds text (resaved f w)
 told_happened : (event : Event) (w : World) (party : ℕ) → IsTold w.live → IsTold (happened w party event).live
 told_happened (Exec d) w party h = told_done d w (connection d w) h
 told_happened (Slice pid) w party h = told_sliced pid w h
+told_happened (Commit pid) w party h = told_sliced pid w h
 told_happened (Closed d) w party h = told_by w.live (gone_away d w.live) (gone_away_untouched d w.live).objects h
 told_happened (Cut k) w party h = told_resaved pending w.live h
 told_happened (Stored k) w party h = told_dump saving_done (askers_of w.dumps) (dump_stored k) w.live h

@@ -5,7 +5,7 @@ use Rattle.std.specs.List.{list_any}
 use Rattle.std.proofs.lemmas.Bool.{false≢true, or_left, or_right}
 use Rattle.muck_model.specs.declared.event.Entry.{Entry}
 use Rattle.muck_model.specs.declared.event.Event.{Event}
-use Rattle.muck_model.specs.declared.event.Event.TheVariants.{Opened, Input, Closed, Exec, Slice, Take, Cut, Stored, DumpFailed}
+use Rattle.muck_model.specs.declared.event.Event.TheVariants.{Opened, Input, Closed, Exec, Slice, Commit, Take, Cut, Stored, DumpFailed}
 use Rattle.spec_live.specs.Saving.{Marked}
 use Rattle.spec_live.specs.Stood.{stilled, SameStood}
 use Rattle.spec_live.specs.Output.{output_taken}
@@ -55,6 +55,7 @@ goes_happened b s (Input d line) w party may = one (hears w.live _ refl ((loose_
 goes_happened b s (Closed d) w party may = gone_goes b s d w.live
 goes_happened b s (Exec d) w party may = every_lively b s w.live _ (done_going d w (connection d w) refl).goes
 goes_happened b s (Slice pid) w party may = every_lively b s w.live _ (sliced_going pid w).goes
+goes_happened b s (Commit pid) w party may = every_lively b s w.live _ (sliced_going pid w).goes
 goes_happened b s (Take d n) w party may = one (shows w.live _ refl ((quiet_one d (λ c. record c { output = output_taken n c.output }) (λ c. refl)).law w.live))
 goes_happened b s (Cut k) w party may = goes_objects (every b s) w.live _ (walk_begun (every b s) w.live.objects (may refl))
 goes_happened b s (Stored k) w party may = every_lively b s w.live _ (stored-going k w).goes
@@ -65,6 +66,7 @@ goes_happened b s event w party may = stays
 goes_resting : (b : Bool) (event : Event) (w : World) → Goes (every b true) w.live (resting event w).live
 goes_resting b (Exec d) w = goes_objects (every b true) w.live (stilled w.live.objects) (walk_stilled (every b true) w.live.objects refl)
 goes_resting b (Slice pid) w = goes_objects (every b true) w.live (stilled w.live.objects) (walk_stilled (every b true) w.live.objects refl)
+goes_resting b (Commit pid) w = goes_objects (every b true) w.live (stilled w.live.objects) (walk_stilled (every b true) w.live.objects refl)
 goes_resting b (Closed d) w = goes_objects (every b true) w.live (stilled w.live.objects) (walk_stilled (every b true) w.live.objects refl)
 goes_resting b event w = stays
 

@@ -3,7 +3,7 @@ use Rattle.std.specs.Prelude.{◌≡◌, ◌⊎◌, ℕ, ℤ, All, Bool, true, f
 use Rattle.muck_model.specs.declared.dbref.Dbref.{Dbref}
 use Rattle.muck_model.specs.declared.edit.EditState.{EditState}
 use Rattle.muck_model.specs.declared.event.Event.{Event}
-use Rattle.muck_model.specs.declared.event.Event.TheVariants.{Opened, Exec, Slice, Closed, Cut, Stored, DumpFailed}
+use Rattle.muck_model.specs.declared.event.Event.TheVariants.{Opened, Exec, Slice, Commit, Starved, Closed, Cut, Stored, DumpFailed}
 use Rattle.spec_live.specs.declared.saving.Saving.{Saving}
 use Rattle.spec_live.specs.Objects.{Entry}
 use Rattle.spec_live.specs.Saving.{pending, saving_done, due_again, all_saving}
@@ -17,7 +17,7 @@ use Rattle.spec_mpi.specs.Touching.{TouchesNotes}
 use Rattle.spec_commands.specs.Finding.{actor_of}
 use Rattle.spec_commands.specs.Free.{free_line}
 use Rattle.spec_commands.specs.Talk.{waits}
-use Rattle.muck_queue.specs.Queues.{is_tied_to}
+use Rattle.muck_queue.specs.Queues.{has_pid, is_tied_to}
 use Rattle.spec_events.specs.declared.starting.Agent.{Agent}
 use Rattle.spec_events.specs.World.{World, connection}
 use Rattle.muck_queue.specs.Queues.{reader}
@@ -114,10 +114,12 @@ abbrev pub DumpLicensed : (Saving → Saving) → World → World → Type 0
 DumpLicensed f w v = Remarked f w.live v.live × ProcessesLicensed NoProcess w v × LeaversLicensed (λ c. false) w.live.board.connections v.live.board.connections
 
 -- Nothing but a line that is done and a unit that is taken changes an object, beside how it stands to the dumps, which changes with each of them.
--- Processes end by such a line, when they run, and with the connection that they are tied to.
+-- Processes end by such a line, when they run, where they wanted memory, and with the connection that they are tied to.
 abbrev pub EventLicensed : Event → World → World → Type 0
 EventLicensed (Exec d) w v = TurnLicensed d (connection d w) w v
 EventLicensed (Slice pid) w v = SliceLicensed pid (units_of pid w) w v
+EventLicensed (Commit pid) w v = SliceLicensed pid (units_of pid w) w v
+EventLicensed (Starved pid) w v = Untouched w.live v.live × ProcessesLicensed (λ p. has_pid pid p ≡ true) w v × LeaversLicensed (λ c. false) w.live.board.connections v.live.board.connections
 EventLicensed (Closed d) w v = Untouched w.live v.live × ProcessesLicensed (λ p. is_tied_to d p ≡ true) w v
 EventLicensed (Opened d) w v = Untouched w.live v.live × ProcessesLicensed NoProcess w v
 EventLicensed (Cut k) w v = DumpLicensed pending w v

@@ -1,5 +1,5 @@
 -- A line that is done.
-use Rattle.std.specs.Prelude.{ℕ, ℤ, Bool, true, if◌then◌else◌, List, [], ◌∷◌, ◌++◌, map, codes, decimal, Option, Some, None, Result, Ok, Err}
+use Rattle.std.specs.Prelude.{ℕ, ℤ, Bool, true, false, if◌then◌else◌, List, [], ◌∷◌, ◌++◌, map, codes, decimal, Option, Some, None, Result, Ok, Err}
 use Rattle.std.specs.Option.{option_map_or}
 use Rattle.std.specs.Str.{bytes_eq}
 use Rattle.std.specs.Char.{to_ascii_lowercase}
@@ -24,7 +24,7 @@ use Rattle.spec_commands.specs.Finding.{actor_of}
 use Rattle.spec_commands.specs.Replies.{huh}
 use Rattle.spec_commands.specs.Going.{Play, ended}
 use Rattle.spec_commands.specs.Commands.{play_or_else, played}
-use Rattle.spec_commands.specs.Editing.{editor_exited, is_editor_open, edited_by_line}
+use Rattle.spec_commands.specs.Editing.{editor_exited, is_editor_open, edited_by_line, is_building}
 use Rattle.spec_commands.specs.Talk.{at_login, waits}
 use Rattle.spec_commands.specs.Talking.{heard_as}
 use Rattle.spec_admin.specs.Lines.{admin_line, after_line}
@@ -66,6 +66,11 @@ unfoldable pub edited_line : ℕ → Dbref → EditState → List ℕ → World 
 edited_line d player s line w =
     let r = edited_by_line d (actor_of w.live.objects player) s line w.live in
     after_edit d s.program r.2 (settled (record w { live = with_editor d (next_editor r.2 r.1) r.0 }))
+
+-- the first line that waits is one by which the editor builds
+abbrev pub builds_next : Option EditState → List (List ℕ) → Bool
+builds_next (Some s) (line ∷ lines) = is_building s line
+builds_next editor lines = false
 
 -- an editor that isn't open any more is left
 unfoldable pub in_editor : ℕ → Dbref → EditState → List ℕ → World → World

@@ -3,20 +3,21 @@ use Rattle.std.specs.Prelude.{◌≡◌, ℕ, ℤ, Bool, true, false, ◌==◌, 
 use Rattle.std.specs.Option.{option_and_then, option_map_or}
 use Rattle.std.specs.Ordering.{int_eq}
 use Rattle.muck_model.specs.declared.event.Event.{Event}
-use Rattle.muck_model.specs.declared.event.Event.TheVariants.{Opened, Input, Closed, Moment, Exec, Claim, Slice, Lost, Idle, Take, Cut, Stored, DumpFailed, Halt, StopSeen, Died}
+use Rattle.muck_model.specs.declared.event.Event.TheVariants.{Opened, Input, Closed, Moment, Exec, Planned, Claim, Slice, Commit, Lost, Starved, Idle, Take, Cut, Stored, DumpFailed, Halt, StopSeen, Died}
 
--- What a party did last, as far as it matters for what may follow: nothing that binds it; it entered a moment; it has claimed this
--- process; its dump of this number runs; it has seen the stop; it has made the last dump; memory was wanted.
+-- What a party did last, as far as it matters for what may follow: nothing that binds it; it entered a moment; it has planned a building; it has
+-- claimed this process; its dump of this number runs; it has seen the stop; it has made the last dump; memory was wanted.
 pub data Stage : Type 0 where
   unbound : Stage
   timed : Stage
+  planned : Stage
   claimed : ℤ → Stage
   dumping : ℕ → Stage
   stopped : Stage
   finished : Stage
   ended : Stage
 
--- The porter. It idles at once behind a moment alone, and behind the stop it makes the last dump and nothing else.
+-- The porter. It idles at once behind a moment or a plan alone, and behind the stop it makes the last dump and nothing else.
 abbrev pub porter_may : Event → Option Stage
 porter_may (Opened d) = Some Stage.unbound
 porter_may (Input d line) = Some Stage.unbound
@@ -24,6 +25,7 @@ porter_may (Closed d) = Some Stage.unbound
 porter_may (Moment t) = Some Stage.timed
 porter_may (Take d n) = Some Stage.unbound
 porter_may (Exec d) = Some Stage.unbound
+porter_may (Planned d) = Some Stage.planned
 porter_may (Claim pid) = Some (Stage.claimed pid)
 porter_may Halt = Some Stage.unbound
 porter_may StopSeen = Some Stage.stopped
@@ -33,9 +35,15 @@ abbrev pub timed_may : Event → Option Stage
 timed_may Idle = Some Stage.unbound
 timed_may event = porter_may event
 
+-- behind a plan comes what else may come, and no second plan
+abbrev pub planned_may : (Event → Option Stage) → Event → Option Stage
+planned_may may (Planned d) = None
+planned_may may event = may event
+
 -- a worker
 abbrev pub worker_may : Event → Option Stage
 worker_may (Exec d) = Some Stage.unbound
+worker_may (Planned d) = Some Stage.planned
 worker_may (Claim pid) = Some (Stage.claimed pid)
 worker_may Idle = Some Stage.unbound
 worker_may StopSeen = Some Stage.stopped
@@ -48,10 +56,12 @@ dumper_may Idle = Some Stage.unbound
 dumper_may StopSeen = Some Stage.stopped
 dumper_may event = None
 
--- what was claimed is sliced at once, or it is learned that it ended
+-- what was claimed is sliced at once, or taken over from where it ran outside, or it starved there, or it is learned that it ended
 abbrev pub claim_may : ℤ → Event → Option Stage
 claim_may pid (Slice n) = if int_eq n pid then Some Stage.unbound else None
+claim_may pid (Commit n) = if int_eq n pid then Some Stage.unbound else None
 claim_may pid (Lost n) = if int_eq n pid then Some Stage.unbound else None
+claim_may pid (Starved n) = if int_eq n pid then Some Stage.unbound else None
 claim_may pid event = None
 
 -- a dump that began is stored at once, or has failed
@@ -68,6 +78,7 @@ last_may event = None
 abbrev pub porter_next : Stage → Event → Option Stage
 porter_next Stage.unbound event = porter_may event
 porter_next Stage.timed event = timed_may event
+porter_next Stage.planned event = planned_may timed_may event
 porter_next (Stage.claimed pid) event = claim_may pid event
 porter_next (Stage.dumping k) event = dump_may k Stage.finished event
 porter_next Stage.stopped event = last_may event
@@ -76,6 +87,7 @@ porter_next Stage.ended event = None
 
 abbrev pub worker_next : Stage → Event → Option Stage
 worker_next Stage.unbound event = worker_may event
+worker_next Stage.planned event = planned_may worker_may event
 worker_next (Stage.claimed pid) event = claim_may pid event
 worker_next stage event = None
 
@@ -117,6 +129,7 @@ is_last Stage.finished = true
 is_last Stage.ended = true
 is_last Stage.unbound = false
 is_last Stage.timed = false
+is_last Stage.planned = false
 is_last (Stage.claimed pid) = false
 is_last (Stage.dumping k) = false
 

@@ -3,7 +3,7 @@ use Rattle.std.specs.Prelude.{◌≡◌, ◌⊎◌, ℕ, List, [], ◌∷◌, Op
 use Rattle.muck_model.specs.declared.dbref.Dbref.{Dbref}
 use Rattle.muck_model.specs.declared.event.Entry.{Entry}
 use Rattle.muck_model.specs.declared.event.Event.{Event}
-use Rattle.muck_model.specs.declared.event.Event.TheVariants.{Slice}
+use Rattle.muck_model.specs.declared.event.Event.TheVariants.{Slice, Commit}
 use Rattle.spec_live.specs.Objects.{Entry as Kept}
 use Rattle.muf_model.specs.Tree.{Tree}
 use Rattle.muf_model.specs.Source.{Program, Source}
@@ -48,6 +48,7 @@ BeforeOne (t ∷ ts) es = (es ≡ t.before.live.objects) ⊎ BeforeOne ts es
 
 abbrev pub BeforeUnit : Event → World → List Kept → Type 0
 BeforeUnit (Slice pid) w es = BeforeOne (units_of pid w) es
+BeforeUnit (Commit pid) w es = BeforeOne (units_of pid w) es
 BeforeUnit event w es = ⊥
 
 abbrev pub StoodAt : World → Entry → List Kept → Type 0
@@ -61,6 +62,7 @@ RunsSourced B t = Each (OfSource B t.before.live.objects) (programs_of t.state)
 
 abbrev pub UnitsSourced : (Dbref → List (List ℕ) → Tree → Type 0) → Event → World → Type 0
 UnitsSourced B (Slice pid) w = Each (RunsSourced B) (units_of pid w)
+UnitsSourced B (Commit pid) w = Each (RunsSourced B) (units_of pid w)
 UnitsSourced B event w = Unit {0}
 
 -- these moments, and those of the entry

@@ -4,7 +4,7 @@ use Rattle.std.specs.Option.{option_map, option_map_or}
 use Rattle.std.specs.List.{list_any}
 use Rattle.muck_model.specs.declared.event.Entry.{Entry}
 use Rattle.muck_model.specs.declared.event.Event.{Event}
-use Rattle.muck_model.specs.declared.event.Event.TheVariants.{Opened, Input, Closed, Moment, Exec, Claim, Slice, Lost, Idle, Take, Cut, Stored, DumpFailed, Halt, StopSeen, Died}
+use Rattle.muck_model.specs.declared.event.Event.TheVariants.{Opened, Input, Closed, Moment, Exec, Planned, Claim, Slice, Commit, Lost, Starved, Idle, Take, Cut, Stored, DumpFailed, Halt, StopSeen, Died}
 use Rattle.spec_live.specs.Saving as saving
 use Rattle.spec_live.specs.Connections.{Connection, is_ready, connections_most, takes_line, holds}
 use Rattle.spec_live.specs.Boards.{connection_opened, line_added, bytes_taken}
@@ -15,9 +15,9 @@ use Rattle.muck_queue.specs.Queues.{has_pid, process, is_process_due, is_on, nex
 use Rattle.spec_commands.specs.Talk.{welcome, gone_away}
 use Rattle.spec_events.specs.World.{World, connection, unasked, dump_begun, dump_over, askers_of, runs_dump, on_live, on_queue, on_dumps}
 use Rattle.spec_events.specs.Dumping.{resaved, dump_stored, dump_failed, told_each}
-use Rattle.spec_events.specs.Lines.{first_line_done, spoken}
+use Rattle.spec_events.specs.Lines.{first_line_done, spoken, builds_next}
 use Rattle.spec_events.specs.Hooked.{hooked}
-use Rattle.spec_events.specs.Slices.{sliced}
+use Rattle.spec_events.specs.Slices.{sliced, ended_one}
 
 -- the connection d is there and passes
 abbrev pub passes : (Connection → Bool) → ℕ → World → Bool
@@ -26,6 +26,10 @@ passes test d w = option_map_or test (connection d w) false
 -- a line waits that may be done, and no process keeps the connection from it: one that is tied to it waits for the line
 abbrev pub has_line_to_do : World → Connection → Bool
 has_line_to_do w c = is_ready c && not (is_busy c.number w.queue)
+
+-- and the line is one by which its editor builds a program
+abbrev pub has_building : World → Connection → Bool
+has_building w c = has_line_to_do w c && builds_next c.editor c.waiting
 
 -- some process of that number passes
 abbrev pub has_process : (Process → Bool) → ℤ → World → Bool
@@ -66,17 +70,20 @@ abbrev pub may_cut : World → ℕ → Bool
 may_cut w party = makes_dumps party && is_none w.dumps.running && (party == 0 || is_dump_due w)
 
 -- Lawful in a world that isn't dead. Connections and what runs over them are the first party's alone, and so is the end of
--- the run; lines and processes are any party's, and any may see that the world is stopping. Events that nothing uses yet are
--- lawful nowhere.
+-- the run; lines and processes are any party's, and any may see that the world is stopping. A building is planned where
+-- its line may be done next on that connection, and a process starves that its party has claimed.
 abbrev pub is_allowed : World → ℕ → Event → Bool
 is_allowed w party (Opened d) = party == 0 && is_none (connection d w) && nat_lt (length w.live.board.connections) connections_most && not w.stopping
 is_allowed w party (Input d line) = party == 0 && passes takes_line d w && not w.stopping
 is_allowed w party (Closed d) = party == 0 && is_some (connection d w)
 is_allowed w party (Moment t) = party == 0 && nat_le w.moment t
 is_allowed w party (Exec d) = passes (has_line_to_do w) d w && not w.stopping
+is_allowed w party (Planned d) = passes (has_building w) d w && not w.stopping
 is_allowed w party (Claim pid) = has_process (is_process_due w.moment w.queue.claims) pid w && not w.stopping
 is_allowed w party (Slice pid) = has_claim party pid w && is_process_there pid w
+is_allowed w party (Commit pid) = has_claim party pid w && is_process_there pid w
 is_allowed w party (Lost pid) = has_claim party pid w && not (is_process_there pid w)
+is_allowed w party (Starved pid) = has_claim party pid w && is_process_there pid w
 is_allowed w party Idle = may_idle w party
 is_allowed w party (Take d n) = party == 0 && nat_lt 0 n && passes (holds n) d w
 is_allowed w party (Cut k) = may_cut w party
@@ -85,7 +92,6 @@ is_allowed w party (DumpFailed k) = makes_dumps party && runs_dump k w.dumps
 is_allowed w party Halt = party == 0
 is_allowed w party StopSeen = w.stopping
 is_allowed w party Died = true
-is_allowed w party event = false
 
 abbrev pub is_died : Event → Bool
 is_died Died = true
@@ -96,7 +102,8 @@ unfoldable pub is_lawful : World → Entry → Bool
 is_lawful w entry = if w.dead then is_died entry.event else is_allowed w entry.party entry.event
 
 -- The world after an event of a party. As a dump begins, what is due is pending; once it is stored, that is done; and where it failed, what was pending is
--- due again. Who asked for a dump is told what came of it. A claim lasts until its party has taken the slice, or has learned that the process ended.
+-- due again. Who asked for a dump is told what came of it. A claim lasts until its party has taken the slice, whether within
+-- its hold or from what ran outside, or has learned that the process ended, or ends it since it wanted memory outside. What is planned changes nothing.
 abbrev pub happened : World → ℕ → Event → World
 happened w party (Opened d) = on_live (on_board (connection_opened d welcome)) w
 happened w party (Input d line) = on_live (on_board (line_added d line)) w
@@ -105,7 +112,9 @@ happened w party (Moment t) = record w { moment = t }
 happened w party (Exec d) = first_line_done d (connection d w) w
 happened w party (Claim pid) = on_queue (claimed pid party) w
 happened w party (Slice pid) = on_queue (released pid) (sliced pid w)
+happened w party (Commit pid) = on_queue (released pid) (sliced pid w)
 happened w party (Lost pid) = on_queue (released pid) w
+happened w party (Starved pid) = on_queue (released pid) (ended_one pid w)
 happened w party (Take d n) = on_live (on_board (bytes_taken d n)) w
 happened w party (Cut k) = on_dumps (dump_begun k w.moment) (on_live (resaved saving.pending) w)
 happened w party (Stored k) = on_dumps dump_over (on_live (told_each (askers_of w.dumps) (dump_stored k)) (on_live (resaved saving.saving_done) w))
@@ -122,6 +131,7 @@ rested w = on_live (on_objects stilled) w
 abbrev pub resting : Event → World → World
 resting (Exec d) v = rested v
 resting (Slice pid) v = rested v
+resting (Commit pid) v = rested v
 resting (Closed d) v = rested v
 resting event v = v
 
@@ -129,6 +139,7 @@ resting event v = v
 abbrev pub hooked_by : World → Event → World → World
 hooked_by w (Exec d) v = hooked w (rested v) (spoken d (connection d w) w)
 hooked_by w (Slice pid) v = hooked w (rested v) None
+hooked_by w (Commit pid) v = hooked w (rested v) None
 hooked_by w (Closed d) v = hooked w (rested v) None
 hooked_by w event v = v
 

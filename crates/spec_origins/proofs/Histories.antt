@@ -2,16 +2,17 @@
 use Rattle.std.proofs.Common.{◌≡◌, ℕ, ℤ, false, List, [], ◌∷◌, not, None}
 use Rattle.muck_model.specs.declared.event.Entry.{Entry}
 use Rattle.muck_model.specs.declared.event.Event.{Event}
-use Rattle.muck_model.specs.declared.event.Event.TheVariants.{Closed, Exec, Claim, Slice, Lost}
+use Rattle.muck_model.specs.declared.event.Event.TheVariants.{Closed, Exec, Claim, Slice, Commit, Lost, Starved}
 use Rattle.muck_model.specs.declared.tune.Tune.{Tune}
 use Rattle.spec_live.specs.Objects.{Entry as Kept, mark_in}
 use Rattle.muck_queue.specs.inner.Numbered.{IsNumbered}
-use Rattle.muck_queue.specs.Queues.{Queue, empty_queue, is_tied_to, claimed, released, ended_tied}
+use Rattle.muck_queue.specs.declared.process.Process.{Process}
+use Rattle.muck_queue.specs.Queues.{Queue, empty_queue, is_tied_to, claimed, released, ended_tied, without_process}
 use Rattle.spec_events.specs.World.{World, world_booted, connection}
 use Rattle.spec_events.specs.Steps.{effect, happened}
 use Rattle.spec_events.proofs.Endings.{IsTold}
 use Rattle.spec_events.proofs.Numbers.{numbered_effect, rising_booted}
-use Rattle.spec_events.proofs.Sourcing.{each_filter}
+use Rattle.spec_events.proofs.Sourcing.{each_filter, each_without}
 use Rattle.spec_events.proofs.Turns.{told_effect}
 use Rattle.spec_origins.specs.Origins.{Comes, From, no_own_process, EventOrigins, AreTied, AreOwn, AllOrigins}
 use Rattle.spec_origins.proofs.Builds.{event_builds}
@@ -43,6 +44,12 @@ still_released : (pid : ℤ) (q : Queue) → Still q (released pid q)
 unfolding released
 still_released pid q = let h = still_itself q in record { processes = h.processes; last = h.last }
 
+still_starved : (pid : ℤ) (q : Queue) → Still q (released pid (without_process pid q))
+unfolding released without_process
+still_starved pid q =
+    let h = still_itself q in
+    record { processes = each_without (λ (p : Process). Unit {0}) pid (From no_own_process false (λ x. ⊥) (λ p. ⊥) q.processes) q.processes h.processes; last = h.last }
+
 slice_released : (pid : ℤ) (w : World) (party : ℕ) → IsTold w.live → EventOrigins (Slice pid) w (happened w party (Slice pid))
 unfolding released
 slice_released pid w party told = let h = slice_comes pid w told in record { processes = h.processes; last = h.last }
@@ -50,9 +57,11 @@ slice_released pid w party told = let h = slice_comes pid w told in record { pro
 event_comes : (event : Event) (w : World) (party : ℕ) → IsTold w.live → EventOrigins event w (happened w party event)
 event_comes (Exec d) w party told = line_comes d (connection d w) w told
 event_comes (Slice pid) w party told = slice_released pid w party told
+event_comes (Commit pid) w party told = slice_released pid w party told
 event_comes (Closed d) w party told = still_tied d w.queue
 event_comes (Claim pid) w party told = still_claimed pid party w.queue
 event_comes (Lost pid) w party told = still_released pid w.queue
+event_comes (Starved pid) w party told = still_starved pid w.queue
 event_comes event w party told = still_itself w.queue
 
 -- whole histories

@@ -10,7 +10,7 @@ use Rattle.muck_model.specs.declared.dbref.Denial.{Denial}
 use Rattle.muck_model.specs.declared.edit.EditState.{EditState}
 use Rattle.muck_model.specs.declared.event.Entry.{Entry}
 use Rattle.muck_model.specs.declared.event.Event.{Event}
-use Rattle.muck_model.specs.declared.event.Event.TheVariants.{Closed, Exec, Claim, Slice, Lost}
+use Rattle.muck_model.specs.declared.event.Event.TheVariants.{Closed, Exec, Claim, Slice, Commit, Lost, Starved}
 use Rattle.muck_model.specs.declared.tune.Tune.{Tune}
 use Rattle.spec_live.specs.Connections.{Connection}
 use Rattle.spec_live.specs.Lives.{tell}
@@ -508,12 +508,14 @@ done_own d (Some c) w h = lines_own d c.player c.editor c.waiting w h
 -- Any entry.
 
 happened_own : (event : Event) (w : World) (party : ℕ) → IsNumbered w.queue → AreOwn w → AreOwn (happened w party event)
-unfolding ended_tied claimed released
+unfolding ended_tied claimed released without_process
 happened_own (Exec d) w party n h = done_own d _ w h
 happened_own (Slice pid) w party n h = sliced_own pid w n h
+happened_own (Commit pid) w party n h = sliced_own pid w n h
 happened_own (Closed d) w party n h = each_filter RunsOwn (λ p. not (is_tied_to d p)) w.queue.processes h
 happened_own (Claim pid) w party n h = h
 happened_own (Lost pid) w party n h = h
+happened_own (Starved pid) w party n h = each_without (λ (p : Process). Unit {0}) pid RunsOwn w.queue.processes h
 happened_own event w party n h = h
 
 pub effect_own : (w : World) (e : Entry) → IsNumbered w.queue → AreOwn w → AreOwn (effect w e)

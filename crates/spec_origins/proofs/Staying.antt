@@ -11,7 +11,7 @@ use Rattle.muck_model.specs.declared.dbref.Denial.{Denial}
 use Rattle.muck_model.specs.declared.edit.EditState.{EditState}
 use Rattle.muck_model.specs.declared.event.Entry.{Entry}
 use Rattle.muck_model.specs.declared.event.Event.{Event}
-use Rattle.muck_model.specs.declared.event.Event.TheVariants.{Opened, Closed, Exec, Slice, Cut, Stored, DumpFailed}
+use Rattle.muck_model.specs.declared.event.Event.TheVariants.{Opened, Closed, Exec, Slice, Commit, Starved, Cut, Stored, DumpFailed}
 use Rattle.muck_model.specs.declared.tune.Tune.{Tune}
 use Rattle.spec_live.specs.declared.object.Object.{Object}
 use Rattle.spec_live.specs.declared.saving.Saving.{Saving}
@@ -414,6 +414,8 @@ happened_held : (event : Event) (w : World) (party : ℕ) → IsTold w.live → 
 unfolding connection_opened line_added bytes_taken claimed released ended_tied
 happened_held (Exec d) w party told s h = done_held d (connection d w) w h
 happened_held (Slice pid) w party told s h = let k = sliced_held pid w told h in record { triggers = k.triggers; editors = k.editors }
+happened_held (Commit pid) w party told s h = let k = sliced_held pid w told h in record { triggers = k.triggers; editors = k.editors }
+happened_held (Starved pid) w party told s h = let k = less_held pid w h in record { triggers = k.triggers; editors = k.editors }
 happened_held (Opened n) w party told s h = record { triggers = h.triggers; editors = λ d. closes w.live.objects (n == d) _ _ (s.editors d) (h.editors d) }
 happened_held (Closed n) w party told s h =
     now_by w (happened w party (Closed n)) (none_same w.live.objects (gone_away n w.live).objects (gone_away_untouched n w.live).objects)

@@ -43,7 +43,7 @@ use Rattle.spec_events.specs.declared.starting.Call.{Call as Started}
 use Rattle.spec_events.specs.declared.starting.Manner.{Manner}
 use Rattle.muck_model.specs.declared.event.Entry.{Entry as Happened}
 use Rattle.muck_model.specs.declared.event.Event.{Event}
-use Rattle.muck_model.specs.declared.event.Event.TheVariants.{Exec, Slice, Halt}
+use Rattle.muck_model.specs.declared.event.Event.TheVariants.{Exec, Slice, Commit, Halt}
 use Rattle.spec_events.specs.World.{World, connection, on_live, on_queue, with_library}
 use Rattle.spec_events.specs.Steps.{effect, happened}
 use Rattle.spec_origins.specs.Stops.{IsMasters, StopsBy, AllStops}
@@ -318,6 +318,7 @@ same_sliced pid w = same_run w.live.board.tune pid (slice_most w.live.board.tune
 event_stops : (event : Event) (w : World) (party : ℕ) → StopsBy event w (happened w party event)
 event_stops (Exec d) w party = exec_stops d (connection d w) w refl
 event_stops (Slice pid) w party = same_sliced pid w
+event_stops (Commit pid) w party = same_sliced pid w
 event_stops Halt w party = refl
 event_stops event w party = refl
 

@@ -7,7 +7,7 @@ use Rattle.std.proofs.lemmas.Bool.Decides.{nat_tests}
 use Rattle.muck_model.specs.declared.dbref.Dbref.{Dbref}
 use Rattle.muck_model.specs.declared.event.Entry.{Entry}
 use Rattle.muck_model.specs.declared.event.Event.{Event}
-use Rattle.muck_model.specs.declared.event.Event.TheVariants.{Opened, Input, Closed, Exec, Slice, Take, Cut, Stored, DumpFailed}
+use Rattle.muck_model.specs.declared.event.Event.TheVariants.{Opened, Input, Closed, Exec, Slice, Commit, Take, Cut, Stored, DumpFailed}
 use Rattle.spec_live.specs.Connections.{Connection, is_connection, connection_placed, without_connection, newcomer, lined}
 use Rattle.spec_live.specs.Saving.{saving_done, due_again}
 use Rattle.spec_live.specs.Boards.{player_in, connection_opened, connection_closed, line_added, bytes_taken}
@@ -166,6 +166,10 @@ unfolding connection_opened line_added bytes_taken
 tied_happened (Exec d) party w c h = tied_turn d (connection d w) w (happened w party (Exec d)) refl (by_numbers w (happened w party (Exec d)) (done_going d w (connection d w) refl).numbers) h c
 tied_happened (Slice pid) party w c h =
     let v : World = happened w party (Slice pid) in
+    let ts = units_of pid w in
+    tied_comes (is_connection_there w) (is_connection_there v) (by_numbers w v (sliced_going pid w).numbers) _ true (LostIn ts) (StartedIn pid ts w.queue) (λ q n. subst (IsTied (is_connection_there v)) (sym n.tied) refl) w.queue v.queue h c
+tied_happened (Commit pid) party w c h =
+    let v : World = happened w party (Commit pid) in
     let ts = units_of pid w in
     tied_comes (is_connection_there w) (is_connection_there v) (by_numbers w v (sliced_going pid w).numbers) _ true (LostIn ts) (StartedIn pid ts w.queue) (λ q n. subst (IsTied (is_connection_there v)) (sym n.tied) refl) w.queue v.queue h c
 tied_happened (Closed d) party w c h = tied_closed d w party h

@@ -8,7 +8,7 @@ use Rattle.muck_laws.proofs.Truths.{second_of}
 use Rattle.muck_model.specs.declared.edit.EditState.{EditState}
 use Rattle.muck_model.specs.declared.event.Entry.{Entry}
 use Rattle.muck_model.specs.declared.event.Event.{Event}
-use Rattle.muck_model.specs.declared.event.Event.TheVariants.{Opened, Input, Closed, Exec, Slice, Take, Stored, DumpFailed, Died}
+use Rattle.muck_model.specs.declared.event.Event.TheVariants.{Opened, Input, Closed, Exec, Slice, Commit, Take, Stored, DumpFailed, Died}
 use Rattle.muck_model.specs.declared.tune.Tune.{Tune}
 use Rattle.spec_live.specs.Objects.{Entry as Objects, mark_in}
 use Rattle.spec_live.specs.Connections.{Connection, connections_most, connection_placed, without_connection, newcomer, lined}
@@ -209,6 +209,10 @@ event_seated (Closed n) w party l told rising = closed_seated n w party rising
 event_seated (Input n line) w party l told rising = input_seated n line w party
 event_seated (Exec n) w party l told rising = exec_seated n w (connection n w) refl told
 event_seated (Slice pid) w party l told rising = let k = slice_seats pid w told in record { lines = k.lines; editors = λ d. elim (k.editors d) [ inl o ↦ absurd (never o) | inr h ↦ h ] }
+  where
+    never : false ≡ true → ⊥
+    never e = cc
+event_seated (Commit pid) w party l told rising = let k = slice_seats pid w told in record { lines = k.lines; editors = λ d. elim (k.editors d) [ inl o ↦ absurd (never o) | inr h ↦ h ] }
   where
     never : false ≡ true → ⊥
     never e = cc

@@ -5,7 +5,7 @@ use Rattle.std.specs.Ordering.{int_eq}
 use Rattle.muck_model.specs.declared.dbref.Dbref.{Dbref}
 use Rattle.muck_model.specs.declared.event.Entry.{Entry}
 use Rattle.muck_model.specs.declared.event.Event.{Event}
-use Rattle.muck_model.specs.declared.event.Event.TheVariants.{Exec, Slice}
+use Rattle.muck_model.specs.declared.event.Event.TheVariants.{Exec, Slice, Commit}
 use Rattle.spec_live.specs.Objects.{nothing}
 use Rattle.spec_live.specs.Connections.{Connection}
 use Rattle.spec_rights.specs.declared.act.Act.TheVariants.{Start, Call}
@@ -120,6 +120,7 @@ SliceOrigins pid ts w v = Comes (λ n. int_eq n pid) true (LostIn ts) (StartedIn
 abbrev pub EventOrigins : Event → World → World → Type 0
 EventOrigins (Exec d) w v = TurnOrigins d (connection d w) w v
 EventOrigins (Slice pid) w v = SliceOrigins pid (units_of pid w) w v
+EventOrigins (Commit pid) w v = SliceOrigins pid (units_of pid w) w v
 EventOrigins event w v = Comes no_own_process false (λ x. ⊥) (λ q. ⊥) w.queue v.queue
 
 -- Connections.

@@ -5,7 +5,7 @@ use Rattle.muck_model.specs.declared.dbref.Dbref.{Dbref}
 use Rattle.muck_model.specs.declared.edit.EditState.{EditState}
 use Rattle.muck_model.specs.declared.event.Entry.{Entry}
 use Rattle.muck_model.specs.declared.event.Event.{Event}
-use Rattle.muck_model.specs.declared.event.Event.TheVariants.{Opened, Input, Closed, Exec, Slice}
+use Rattle.muck_model.specs.declared.event.Event.TheVariants.{Opened, Input, Closed, Exec, Slice, Commit}
 use Rattle.spec_events.specs.World.{World, connection}
 use Rattle.spec_events.specs.Endings.{Lapsed}
 use Rattle.spec_events.specs.Slices.{units_of}
@@ -35,6 +35,7 @@ SameEditor Lost old new = (new ≡ old) ⊎ ((new ≡ None) × ((s : EditState) 
 abbrev pub EditorKept : Event → World → World → ℕ → Type 0
 EditorKept (Exec n) w v d = ((n == d) ≡ true) ⊎ SameEditor (λ x. Lapsed x w.live v.live) (editor_at d w) (editor_at d v)
 EditorKept (Slice pid) w v d = SameEditor (LostIn (units_of pid w)) (editor_at d w) (editor_at d v)
+EditorKept (Commit pid) w v d = SameEditor (LostIn (units_of pid w)) (editor_at d w) (editor_at d v)
 EditorKept (Opened n) w v d = editor_at d v ≡ (if n == d then None else editor_at d w)
 EditorKept (Closed n) w v d = editor_at d v ≡ (if n == d then None else editor_at d w)
 EditorKept event w v d = editor_at d v ≡ editor_at d w

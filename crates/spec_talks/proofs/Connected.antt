@@ -7,7 +7,7 @@ use Rattle.muck_laws.proofs.Numbers.{apart_from}
 use Rattle.muck_links.specs.Keyed.{altered, latest}
 use Rattle.muck_model.specs.declared.event.Entry.{Entry}
 use Rattle.muck_model.specs.declared.event.Event.{Event}
-use Rattle.muck_model.specs.declared.event.Event.TheVariants.{Opened, Input, Closed, Exec, Slice, Take, Stored, DumpFailed}
+use Rattle.muck_model.specs.declared.event.Event.TheVariants.{Opened, Input, Closed, Exec, Slice, Commit, Take, Stored, DumpFailed}
 use Rattle.spec_live.specs.Connections.{Connection, is_connection, connection_placed, without_connection, newcomer, lined}
 use Rattle.spec_live.specs.Saving.{saving_done, due_again}
 use Rattle.spec_live.specs.Boards.{Board, player_in, connection_opened, connection_closed, line_added, bytes_taken}
@@ -191,6 +191,7 @@ match_happened (Input d line) party w ts h m =
 match_happened (Closed d) party w ts h m = match_closed d w w.live ts h m
 match_happened (Exec d) party w ts h m = match_same _ _ ts (done_going d w (connection d w) refl).numbers m
 match_happened (Slice pid) party w ts h m = match_same _ _ ts (sliced_going pid w).numbers m
+match_happened (Commit pid) party w ts h m = match_same _ _ ts (sliced_going pid w).numbers m
 match_happened (Take d n) party w ts h m =
     match_changed _ _ ts d (given_out _ n) (λ t. refl) (λ t. refl) (going_quietly w _ (quietly_loose (on_board (bytes_taken d n)) (loose_one d _ (λ c. refl)) w)).numbers m
 match_happened (Stored k) party w ts h m = match_same _ _ ts (told_numbers (askers_of w.dumps) (dump_stored k) (on_live (resaved saving_done) w)) m

@@ -6,7 +6,7 @@ use Rattle.muck_laws.proofs.Truths.{allowed_one, opposed}
 use Rattle.turn_lock.specs.Histories.{entry_kept, own_of, StartsWith}
 use Rattle.muck_model.specs.declared.event.Entry.{Entry}
 use Rattle.muck_model.specs.declared.event.Event.{Event}
-use Rattle.muck_model.specs.declared.event.Event.TheVariants.{Moment, Exec, Slice}
+use Rattle.muck_model.specs.declared.event.Event.TheVariants.{Moment, Exec, Slice, Commit}
 use Rattle.spec_events.specs.World.{World, connection}
 use Rattle.spec_events.specs.Steps.{is_lawful, happened, effect}
 use Rattle.spec_events.specs.Histories.{after, AllLawful}
@@ -23,6 +23,7 @@ second_happened : (event : Event) (w : World) (party : ℕ) → (happened w part
 second_happened (Moment t) w party = refl
 second_happened (Exec d) w party = (done_going d w (connection d w) refl).moment
 second_happened (Slice pid) w party = (sliced_going pid w).moment
+second_happened (Commit pid) w party = (sliced_going pid w).moment
 second_happened event w party = refl
 
 second_effect : (w : World) (e : Entry) → (effect w e).moment ≡ second_behind w.moment e.event

@@ -1,6 +1,6 @@
 -- Worked own entries, which the checker computes.
 use Rattle.std.specs.Prelude.{◌≡◌, true, false, pos, [], ◌∷◌, codes, refl, is_some}
-use Rattle.muck_model.specs.declared.event.Event.TheVariants.{Opened, Input, Closed, Moment, Exec, Claim, Slice, Lost, Idle, Take, Cut, Stored, DumpFailed, Halt, StopSeen, Died}
+use Rattle.muck_model.specs.declared.event.Event.TheVariants.{Opened, Input, Closed, Moment, Exec, Planned, Claim, Slice, Commit, Lost, Starved, Idle, Take, Cut, Stored, DumpFailed, Halt, StopSeen, Died}
 use Rattle.spec_events.specs.World.{world_booted, starting_world}
 use Rattle.spec_events.specs.Steps.{is_lawful, effect}
 use Rattle.spec_events.specs.Histories.{by_porter}
@@ -19,6 +19,14 @@ OwnRows =
     × IsWellFormed 3 (Exec 1 ∷ Claim (pos 1) ∷ Slice (pos 1) ∷ Idle ∷ Claim (pos 2) ∷ Lost (pos 2) ∷ StopSeen ∷ [])
     × (is_some (stage_of 3 (Claim (pos 1) ∷ Idle ∷ [])) ≡ false)
     × (is_some (stage_of 3 (Claim (pos 1) ∷ Slice (pos 2) ∷ [])) ≡ false)
+    -- or what was claimed ran outside of the hold and is taken over, or wanted memory there
+    × IsWellFormed 3 (Claim (pos 1) ∷ Commit (pos 1) ∷ Claim (pos 2) ∷ Starved (pos 2) ∷ [])
+    × (is_some (stage_of 3 (Claim (pos 1) ∷ Commit (pos 2) ∷ [])) ≡ false)
+    × (is_some (stage_of 3 (Claim (pos 1) ∷ Starved (pos 2) ∷ [])) ≡ false)
+    -- a building is planned once, before its line is done
+    × IsWellFormed 3 (Planned 1 ∷ Exec 1 ∷ Planned 2 ∷ Claim (pos 1) ∷ Commit (pos 1) ∷ [])
+    × IsWellFormed 0 (Planned 1 ∷ Idle ∷ [])
+    × (is_some (stage_of 3 (Planned 1 ∷ Planned 1 ∷ [])) ≡ false)
     × (is_some (stage_of 3 (StopSeen ∷ Idle ∷ [])) ≡ false)
     × (is_some (stage_of 3 (Moment 1 ∷ [])) ≡ false)
     -- the dumper ends each dump at once
@@ -51,4 +59,4 @@ OwnRows =
 
 pub own_rows : OwnRows
 unfolding OwnRows stage_of world_booted starting_world is_lawful effect
-own_rows = (refl, refl, refl, refl, refl, refl, refl, refl, refl, refl, refl, refl, refl, refl, refl, refl, refl, refl, refl, refl, refl, refl, refl, refl, refl, refl, refl, refl, refl, refl, refl, refl, refl, refl)
+own_rows = (refl, refl, refl, refl, refl, refl, refl, refl, refl, refl, refl, refl, refl, refl, refl, refl, refl, refl, refl, refl, refl, refl, refl, refl, refl, refl, refl, refl, refl, refl, refl, refl, refl, refl, refl, refl, refl, refl, refl, refl)
