@@ -4,7 +4,7 @@ ghost use Rattle.std.specs.List.{list_any};
 ghost use Rattle.std.specs.Option.{option_copied_mut};
 ghost use Rattle.std.specs.Borrow.{sem};
 ghost use Rattle.spec_live.specs.Connections.{Connection as Link, is_connection_of, told_where};
-ghost use Rattle.spec_live.specs.Boards.{early_board, connection_in, queue_in, editor_in, on_connections, connection_opened, connection_closed, line_added, bytes_taken, told_one, told_player, told_others, told_all, leaving_one, left_player, seated_one, edited_one, editors_closed, tuned, random_drawn};
+ghost use Rattle.spec_live.specs.Boards.{early_board, connection_in, queue_in, editor_in, on_connections, connection_opened, connection_closed, line_added, bytes_taken, told_one, told_player, told_others, told_all, leaving_one, left_player, seated_one, edited_one, editors_closed, turned, tuned, random_drawn};
 ghost use Rattle.muck_board.specs.inner.Lines.{BoardTakesLine};
 ghost use Rattle.muck_board.specs.inner.Silent.{silent};
 ghost use Rattle.muck_board.specs.inner.Lent.{LendsConnection};
@@ -20,7 +20,7 @@ use rand_pcg::Pcg32;
 use std::alloc::Global;
 use std::marker::Model;
 
-/// The connections by rising number, the random numbers, and what a wizard tuned. A change names the connection by its
+/// The connections by rising number, the random numbers, what a wizard tuned, and the epoch. A change names the connection by its
 /// number, and changes nothing where none has that number.
 ///
 /// After `NoMemory` of a call that sends a text the board is as before but for what waits to be sent: a part of the text
@@ -31,6 +31,7 @@ pub struct Board {
     connections: Vec<Connection>,
     random: Pcg32,
     tune: Tune,
+    turns: u64,
 }
 
 impl Model for Board {
@@ -38,7 +39,7 @@ impl Model for Board {
 
     ghost Value = { Table };
 
-    ghost view = { λ b. record { connections = b.connections.items; random = b.random; tune = b.tune } };
+    ghost view = { λ b. record { connections = b.connections.items; random = b.random; tune = b.tune; turns = b.turns } };
 }
 
 impl Board {
@@ -52,6 +53,7 @@ impl Board {
             connections: Vec::new(alloc),
             random: Pcg32::seed_from_u64(start),
             tune,
+            turns: 0,
         }
     }
 
@@ -270,7 +272,26 @@ impl Board {
     pub fn set_tune(&mut self, tune: Tune)
         ensures { self.new ≡ tuned tune self.old }
     {
+        let differs = !tune.same(&self.tune);
+        self.turn(differs);
         self.tune = tune;
+    }
+
+    /// The epoch: how often something changed on which levels and limits rest.
+    pub fn turns(&self) -> u64
+        ensures { result ≡ self.now.turns }
+    {
+        self.turns
+    }
+
+    /// It goes on where something differs, as far as such counts go.
+    #[tactic(auto, unfolding(spec_live::specs::Boards::next_turn))]
+    pub fn turn(&mut self, differs: bool)
+        ensures { self.new ≡ turned differs self.old }
+    {
+        if differs && self.turns < u64::MAX {
+            self.turns += 1;
+        }
     }
 
     /// The next random word.

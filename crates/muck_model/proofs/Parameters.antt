@@ -1,13 +1,13 @@
 -- What is tuned is in its range.
-use Rattle.std.proofs.Common.{◌≡◌, ◌≤◌, ◌<◌, ◌^◌, ℕ, Bool, true, List, [], ◌∷◌, length, get_or, refl, arith}
+use Rattle.std.proofs.Common.{◌≡◌, ◌==◌, ◌≤◌, ◌<◌, ◌^◌, ℕ, Bool, true, List, [], ◌∷◌, length, get_or, refl, arith}
 use Rattle.std.specs.Prelude.{nat_le}
 use Rattle.std.specs.List.{list_all}
-use Rattle.std.proofs.lemmas.Bool.{and_parts, and_from, leb-true, le-leb}
+use Rattle.std.proofs.lemmas.Bool.{and_parts, and_from, leb-true, le-leb, eqb-true}
 use Rattle.std.proofs.lemmas.List.Sums.{AllPass-from_list_all, list_all-from_AllPass}
 use Rattle.muck_model.specs.declared.tune.Tune.{Tune}
 use Rattle.muck_model.specs.declared.tune.Parameter.{Parameter}
 use Rattle.muck_model.specs.declared.tune.Parameter.TheVariants.{InstrSlice, PreemptUnits, M1Units, M2Units, ProcessLimit, PlayerProcesses, MpiCommands, DumpInterval}
-use Rattle.muck_model.specs.Parameters.{row_of, parameters, parameter_of, with_parameter, values_of, first_tune, is_in_range, tune_fits, IsInRange}
+use Rattle.muck_model.specs.Parameters.{row_of, parameters, parameter_of, with_parameter, values_of, tune_by, same_tune, first_tune, is_in_range, tune_fits, IsInRange}
 
 -- what is so of all parameters of the table is so of each
 pub so_of_each : (test : Parameter → Bool) → list_all test parameters ≡ true → (p : Parameter) → test p ≡ true
@@ -39,6 +39,13 @@ in_range t fits p =
 pub fits_in_range : (t : Tune) → IsInRange t → tune_fits t ≡ true
 unfolding tune_fits
 fits_in_range t in_range = so_of_all (is_in_range t) (λ p. and_from _ _ (le-leb 1 (parameter_of p t) (in_range p).0) (le-leb (parameter_of p t) (row_of p).most (in_range p).1))
+
+-- what is tuned alike is the same
+pub same_tuned : (a b : Tune) → same_tune a b ≡ true → a ≡ b
+unfolding same_tune
+same_tuned a b same =
+    let each : (p : Parameter) → parameter_of p a ≡ parameter_of p b = λ p. eqb-true (parameter_of p a) (parameter_of p b) (so_of_each (λ p. parameter_of p a == parameter_of p b) same p) in
+    λ i. tune_by (λ p. each p i)
 
 -- what is tuned at first is
 pub first_fits : tune_fits first_tune ≡ true

@@ -1,5 +1,5 @@
 -- What a wizard tunes: one table of the parameters.
-use Rattle.std.specs.Prelude.{◌≤◌, ℕ, Bool, ◌&&◌, nat_le, List, [], ◌∷◌, map, find, codes, Option}
+use Rattle.std.specs.Prelude.{◌≤◌, ◌==◌, ℕ, Bool, ◌&&◌, nat_le, List, [], ◌∷◌, map, find, codes, Option}
 use Rattle.std.specs.List.{list_all}
 use Rattle.std.specs.Str.{bytes_eq}
 use Rattle.muck_model.specs.declared.tune.Tune.{Tune}
@@ -65,7 +65,7 @@ abbrev pub values_of : Tune → List ℕ
 values_of tune = map (λ p. parameter_of p tune) parameters
 
 -- the parameters that have these values
-abbrev tune_by : (Parameter → ℕ) → Tune
+abbrev pub tune_by : (Parameter → ℕ) → Tune
 tune_by value = record {
   instr_slice = value InstrSlice;
   preempt_units = value PreemptUnits;
@@ -76,6 +76,10 @@ tune_by value = record {
   mpi_commands = value MpiCommands;
   dump_interval = value DumpInterval;
 }
+
+-- both are tuned alike
+unfoldable pub same_tune : Tune → Tune → Bool
+same_tune a b = list_all (λ p. parameter_of p a == parameter_of p b) parameters
 
 -- what is tuned at first
 unfoldable pub first_tune : Tune

@@ -1,13 +1,13 @@
 // The world under an actor.
-ghost use Rattle.std.specs.Prelude.{◌≡◌, ◌≤◌, IfOk, None, length, true, min};
-ghost use Rattle.std.specs.Option.{option_copied, option_and_then, option_map};
+ghost use Rattle.std.specs.Prelude.{◌≡◌, ◌≤◌, ◌==◌, IfOk, None, length, true, false, not, min};
+ghost use Rattle.std.specs.Option.{option_copied, option_and_then, option_map, option_map_or};
 ghost use Rattle.std.specs.FinMap.{get};
 ghost use Rattle.muck_model.specs.Bytes.{lines_most};
 ghost use Rattle.muck_model.specs.declared.dbref.Kind.{Kind};
 ghost use Rattle.muck_prop.specs.Paths.{class_of};
-ghost use Rattle.spec_live.specs.Objects.{dbref_of, nothing, home, object_at};
+ghost use Rattle.spec_live.specs.Objects.{dbref_of, nothing, home, same, object_at};
 ghost use Rattle.spec_live.specs.Lives.{tell, tell_player, tell_but, tell_others, tell_all, leave, random_word, draw};
-ghost use Rattle.spec_live.specs.Flags.{with_flag, without_flag};
+ghost use Rattle.spec_live.specs.Flags.{has_flag, with_flag, without_flag};
 ghost use Rattle.spec_live.specs.Moving.{move_check};
 ghost use Rattle.spec_live.specs.Making.{create_check};
 ghost use Rattle.spec_live.specs.Setting.{every_number, checked, owner_check, link_check, home_check, flags_check, level_check, lines_check, password_check, with_link, with_home, with_level};
@@ -250,7 +250,10 @@ impl<'a> Guard<'a> {
         ensures { Makes (object_owned_by object owner) (owner_check object owner (objects_of self.old)) self.old self.new result }
     {
         let _ = pass;
-        self.db.set_owner(object, owner)
+        let differs = self.has_other_owner(object, owner);
+        self.db.set_owner(object, owner)?;
+        self.board.turn(differs);
+        Ok(())
     }
 
     /// Links an exit or a room. `NoSuchObject` and `WrongKind` come where the world doesn't allow it; nothing has changed
@@ -294,8 +297,11 @@ impl<'a> Guard<'a> {
         ensures { Makes (flag_set object flag) (flags_check object (with_flag flag.0 (flags_at object (objects_of self.old))) (objects_of self.old)) self.old self.new result }
     {
         let _ = pass;
+        let differs = self.lacks_flag(object, flag);
         let flags = with_flag(flag, flags_at(self.db, object));
-        self.db.set_flags(object, flags)
+        self.db.set_flags(object, flags)?;
+        self.board.turn(differs);
+        Ok(())
     }
 
     /// Clears a flag. `NoSuchObject` comes where the object isn't there, `WrongKind` where a thing would lose V while a
@@ -307,8 +313,11 @@ impl<'a> Guard<'a> {
         ensures { Makes (flag_cleared object flag) (flags_check object (without_flag flag.0 (flags_at object (objects_of self.old))) (objects_of self.old)) self.old self.new result }
     {
         let _ = pass;
+        let differs = self.has_flag(object, flag);
         let flags = without_flag(flag, flags_at(self.db, object));
-        self.db.set_flags(object, flags)
+        self.db.set_flags(object, flags)?;
+        self.board.turn(differs);
+        Ok(())
     }
 
     /// Gives a program or a player a level. `NoSuchObject` comes where it isn't there, `WrongKind` for another kind and
@@ -319,7 +328,10 @@ impl<'a> Guard<'a> {
         ensures { Makes (leveled object level) (level_check object level (objects_of self.old)) self.old self.new result }
     {
         let _ = pass;
-        self.db.set_level(object, level)
+        let differs = self.has_other_level(object, level);
+        self.db.set_level(object, level)?;
+        self.board.turn(differs);
+        Ok(())
     }
 
     /// Sets the source of a program. `NoSuchObject` comes where it isn't there, `WrongKind` for another kind; nothing has
@@ -342,7 +354,51 @@ impl<'a> Guard<'a> {
         ensures { Makes (recycled_now object) (recycle_check object (objects_of self.old)) self.old self.new result }
     {
         let _ = pass;
-        self.db.recycle(object)
+        self.db.recycle(object)?;
+        self.board.turn(true);
+        Ok(())
+    }
+
+    // Whether the object is there, and has another owner.
+    fn has_other_owner(&self, object: Dbref, owner: Dbref) -> bool
+        ensures { result ≡ option_map_or (λ o. not (same o.owner owner)) (object_at object (objects_of self.now)) false }
+    {
+        match self.db.get(object) {
+            Some(object) => object.owner() != owner,
+            None => false,
+        }
+    }
+
+    // Whether it is there, and has another level.
+    fn has_other_level(&self, object: Dbref, level: u8) -> bool
+        ensures { result ≡ option_map_or (λ o. not (o.level == level)) (object_at object (objects_of self.now)) false }
+    {
+        match self.db.get(object) {
+            Some(object) => object.level() != level,
+            None => false,
+        }
+    }
+
+    // Whether it is there, and has the flag.
+    fn has_flag(&self, object: Dbref, flag: Flags) -> bool
+        requires { is_flag flag ≡ true }
+        ensures { result ≡ option_map_or (λ o. has_flag flag.0 o.flags) (object_at object (objects_of self.now)) false }
+    {
+        match self.db.get(object) {
+            Some(object) => object.flags().has(flag),
+            None => false,
+        }
+    }
+
+    // Whether it is there, and hasn't the flag.
+    fn lacks_flag(&self, object: Dbref, flag: Flags) -> bool
+        requires { is_flag flag ≡ true }
+        ensures { result ≡ option_map_or (λ o. not (has_flag flag.0 o.flags)) (object_at object (objects_of self.now)) false }
+    {
+        match self.db.get(object) {
+            Some(object) => !object.flags().has(flag),
+            None => false,
+        }
     }
 }
 
@@ -464,8 +520,11 @@ impl<'a> Guard<'a> {
         ensures { Founds (create_check Kind.Room self.old.actor.user place (objects_of self.old)) (λ n to. created_so n Kind.Room name self.old.actor.user to (λ o. o)) self.old self.new result }
     {
         let _ = pass;
-        self.db
-            .create(self.alloc, Kind::Room, name, self.actor.user, place)
+        let d = self
+            .db
+            .create(self.alloc, Kind::Room, name, self.actor.user, place)?;
+        self.board.turn(true);
+        Ok(d)
     }
 
     /// Makes a player, which owns itself and whose home is `#0`. It has no password yet. It is refused as a room is.
@@ -477,8 +536,11 @@ impl<'a> Guard<'a> {
         ensures { Founds (create_check Kind.Player self.old.actor.user place (objects_of self.old)) (λ n to. created_so n Kind.Player name self.old.actor.user to (λ o. o)) self.old self.new result }
     {
         let _ = pass;
-        self.db
-            .create(self.alloc, Kind::Player, name, self.actor.user, place)
+        let d = self
+            .db
+            .create(self.alloc, Kind::Player, name, self.actor.user, place)?;
+        self.board.turn(true);
+        Ok(d)
     }
 
     /// Makes a thing that the user owns, with a home that a thing may have. It is refused as a room is.
@@ -501,6 +563,7 @@ impl<'a> Guard<'a> {
             .db
             .create(self.alloc, Kind::Thing, name, self.actor.user, place)?;
         self.db.set_home(d, home)?;
+        self.board.turn(true);
         Ok(d)
     }
 
@@ -524,6 +587,7 @@ impl<'a> Guard<'a> {
             .db
             .create(self.alloc, Kind::Exit, name, self.actor.user, place)?;
         self.db.set_link(d, to)?;
+        self.board.turn(true);
         Ok(d)
     }
 
@@ -541,6 +605,7 @@ impl<'a> Guard<'a> {
             .db
             .create(self.alloc, Kind::Program, name, self.actor.user, place)?;
         self.db.set_level(d, level)?;
+        self.board.turn(true);
         Ok(d)
     }
 }

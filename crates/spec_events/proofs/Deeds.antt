@@ -106,11 +106,11 @@ module _ (may : Process → Type 0) (w : World) where
   leads_effect : IsSteady may → (pid : ℤ) (x : Agent) (s : Source) → ((q : Process) → EndedBy (acting x s w.live.objects) w.live.objects q → may q) →
       (e : Effect) → Leaves (acting x s w.live.objects) w.live w.queue e → Leads (Left may w) (effected pid x s w e)
   leads_effect steady pid x s ends (gives stack live queue) h = record {
-    quietly = record { objects = h.shows.objects; ties = (readies w.live live h.shows).ties; tune = h.shows.tune; dead = refl; still = refl };
+    quietly = record { objects = h.shows.objects; ties = (readies w.live live h.shows).ties; tune = h.shows.tune; turns = h.shows.turns; dead = refl; still = refl };
     lasting = lasting_stays may (EndedBy (acting x s w.live.objects) w.live.objects) steady ends w.queue queue h.stays;
   }
   leads_effect steady pid x s ends (waits n stack queue) h = record {
-    quietly = record { objects = refl; ties = refl; tune = refl; dead = refl; still = refl };
+    quietly = record { objects = refl; ties = refl; tune = refl; turns = refl; dead = refl; still = refl };
     lasting = lasting_stays may (EndedBy (acting x s w.live.objects) w.live.objects) steady ends w.queue queue h.stays;
   }
   leads_effect steady pid x s ends (forks stack) h = leads_forked pid stack s

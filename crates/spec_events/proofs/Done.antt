@@ -3,6 +3,7 @@ use Rattle.std.proofs.Common.{◌≡◌, ℕ, ℤ, Bool, true, false, cond, List
 use Rattle.spec_live.proofs.Keeping.{stays, one, join, keeps_followed}
 use Rattle.spec_live.proofs.Steps.{Walk}
 use Rattle.spec_live.proofs.Walks.{walk_told}
+use Rattle.spec_live.proofs.Footings.{steady}
 use Rattle.spec_live.proofs.Lives.{Loose, loose_order, Goes, board, hears, leaves_one, tunes, goes_objects}
 use Rattle.std.specs.Prelude.{find, ◌==◌}
 use Rattle.std.specs.Option.{option_and_then}
@@ -89,7 +90,7 @@ unfolding settled
 open_settled a free start state u p =
     let q = open_quietly a free start state u _ p (quietly_swept 0 u.live.objects u) in
     let v : Live = (swept 0 u.live.objects u).live in
-    record { licensed = licensed_told a free start v q.licensed; goes = join q.goes (goes_objects lively v _ (walk_told lively v.objects refl)); tuned = q.tuned; alive = q.alive; still = q.still }
+    record { licensed = licensed_told a free start v q.licensed; goes = join q.goes (goes_objects lively v _ (walk_told (steady lively) v.objects refl)); tuned = q.tuned; alive = q.alive; still = q.still }
 
 -- Leaving.
 
@@ -172,7 +173,7 @@ open_in_editor d player s line lines w = at (is_editor_open s (taken_out d lines
 
 -- who may tune the world may follow
 tuned_licensed : (a : Actor) (free : Freedom) (w v : Live) (tune : Tune) → Licensed a free w v → is_master a ≡ true → Licensed a free w (tuned tune v)
-unfolding tuned
+unfolding tuned boards.tuned
 tuned_licensed a free w v tune l h =
     record { gone = l.gone; recycled = l.recycled; vanished = l.vanished; objects = l.objects; no_fewer = l.no_fewer; traced = l.traced; lists = l.lists; connections = l.connections; tune = inr h }
 
@@ -181,7 +182,7 @@ unfolding tuned boards.tuned
 tuned_goes tune w = one (board _ w (tunes tune w.board refl))
 
 tuned_in_range : (w : Live) (tune : Tune) → IsInRange tune → IsInRange (tuned tune w).board.tune
-unfolding tuned
+unfolding tuned boards.tuned
 tuned_in_range w tune h = h
 
 open_followed : (d : ℕ) (player : Dbref) (a : Actor) (free : Freedom) (start : Live) (state : Bool × Still) (outcome : Outcome) (u : World) → player_in d start.board ≡ Some a.player →
@@ -221,7 +222,7 @@ open_in_world d player line lines w own =
 -- Processes.
 
 objects_up : (d : ℕ) (player : Dbref) (outcome : Outcome) (w : World) → (followed_up d player outcome w).live.objects ≡ w.live.objects
-unfolding leave tuned
+unfolding leave tuned boards.tuned
 objects_up d player Leave w = refl
 objects_up d player (Edit program) w = refl
 objects_up d player (Start program trigger line arg) w = (quietly_launched d (actor_of w.live.objects player) (record { player = player; program = program; trigger = trigger; command = line; argument = arg }) w).objects
@@ -474,7 +475,7 @@ going_live d f p w = record {
 }
 
 -- where objects stand otherwise to the dumps
-pub going_resaved : (f : Saving → Saving) (w : World) → Walk lively w.live.objects (all_saving f w.live.objects) → Going w (on_live (resaved f) w)
+pub going_resaved : (f : Saving → Saving) (w : World) → Walk (steady lively) w.live.objects (all_saving f w.live.objects) → Going w (on_live (resaved f) w)
 going_resaved f w walk = record {
   goes = goes_objects lively w.live (all_saving f w.live.objects) walk;
   numbers = refl;

@@ -50,14 +50,15 @@ pub record Quietly (w v : World) : Type 0 where
   pub objects : v.live.objects ≡ w.live.objects
   pub ties : ties v.live.board.connections ≡ ties w.live.board.connections
   pub tune : v.live.board.tune ≡ w.live.board.tune
+  pub turns : v.live.board.turns ≡ w.live.board.turns
   pub dead : v.dead ≡ w.dead
   pub still : still_of v ≡ still_of w
 
 pub quietly_same : (w : World) → Quietly w w
-quietly_same w = record { objects = refl; ties = refl; tune = refl; dead = refl; still = refl }
+quietly_same w = record { objects = refl; ties = refl; tune = refl; turns = refl; dead = refl; still = refl }
 
 pub quietly_both : (u v w : World) → Quietly u v → Quietly v w → Quietly u w
-quietly_both u v w p q = record { objects = q.objects ∙ p.objects; ties = q.ties ∙ p.ties; tune = q.tune ∙ p.tune; dead = q.dead ∙ p.dead; still = q.still ∙ p.still }
+quietly_both u v w p q = record { objects = q.objects ∙ p.objects; ties = q.ties ∙ p.ties; tune = q.tune ∙ p.tune; turns = q.turns ∙ p.turns; dead = q.dead ∙ p.dead; still = q.still ∙ p.still }
 
 -- What events may touch by which no dump begins.
 abbrev pub lively : May
@@ -74,19 +75,19 @@ lively_acts w v p = wider acts lively up w v p
     up _ h = refl
 
 pub quietly_readies : (w v : World) → Quietly w v → Readies w.live v.live
-quietly_readies w v q = record { objects = q.objects; ties = q.ties; tune = q.tune }
+quietly_readies w v q = record { objects = q.objects; ties = q.ties; tune = q.tune; turns = q.turns }
 
 pub quietly_loose : (f : Change) → Loose f → (w : World) → Quietly w (on_live f w)
-quietly_loose f q w = let s = q.law w.live in record { objects = s.objects; ties = s.ties; tune = s.tune; dead = refl; still = refl }
+quietly_loose f q w = let s = q.law w.live in record { objects = s.objects; ties = s.ties; tune = s.tune; turns = s.turns; dead = refl; still = refl }
 
 pub quietly_live : (f : Change) → Quiet f → (w : World) → Quietly w (on_live f w)
 quietly_live f q w = quietly_loose f (loose_quiet f q) w
 
 pub quietly_queue : (f : Queue → Queue) (w : World) → Quietly w (on_queue f w)
-quietly_queue f w = record { objects = refl; ties = refl; tune = refl; dead = refl; still = refl }
+quietly_queue f w = record { objects = refl; ties = refl; tune = refl; turns = refl; dead = refl; still = refl }
 
 pub quietly_library : (library : Library) (w : World) → Quietly w (with_library library w)
-quietly_library library w = record { objects = refl; ties = refl; tune = refl; dead = refl; still = refl }
+quietly_library library w = record { objects = refl; ties = refl; tune = refl; turns = refl; dead = refl; still = refl }
 
 -- What follows from a change of objects.
 
@@ -94,9 +95,13 @@ closed_tune : (d : Dbref) (b : Board) → (editors_closed d b).tune ≡ b.tune
 unfolding editors_closed
 closed_tune d b = refl
 
+closed_turns : (d : Dbref) (b : Board) → (editors_closed d b).turns ≡ b.turns
+unfolding editors_closed
+closed_turns d b = refl
+
 quietly_followed : (m : Mark) (d : Dbref) (w : World) → Quietly w (mark_followed m d w)
-quietly_followed Lines d w = record { objects = refl; ties = refl; tune = refl; dead = refl; still = refl }
-quietly_followed Gone d w = record { objects = refl; ties = editors_closed_kept tie (λ c. refl) d w.live.board; tune = closed_tune d w.live.board; dead = refl; still = refl }
+quietly_followed Lines d w = record { objects = refl; ties = refl; tune = refl; turns = refl; dead = refl; still = refl }
+quietly_followed Gone d w = record { objects = refl; ties = editors_closed_kept tie (λ c. refl) d w.live.board; tune = closed_tune d w.live.board; turns = closed_turns d w.live.board; dead = refl; still = refl }
 
 quietly_marked : (o : Option Mark) (d : Dbref) (w : World) → Quietly w (option_map_or (λ m. mark_followed m d w) o w)
 quietly_marked None d w = quietly_same w

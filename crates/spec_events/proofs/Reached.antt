@@ -19,6 +19,7 @@ use Rattle.spec_live.specs.Connections.{Connection, is_connection, connection_pl
 use Rattle.spec_live.specs.Boards.{Board, player_in, connection_opened, connection_closed, line_added, bytes_taken, first_tune, early_board}
 use Rattle.spec_live.specs.Lives.{Live, Change, change_followed, reading, on_board}
 use Rattle.spec_live.proofs.Steps.{Walk}
+use Rattle.spec_live.proofs.Footings.{steady}
 use Rattle.spec_live.proofs.Walks.{walk_stored, walk_failed}
 use Rattle.muck_model.specs.Parameters.{IsInRange}
 use Rattle.muck_model.proofs.Parameters.{in_range, first_fits}
@@ -89,16 +90,16 @@ no_connection d w first stop few e = none_of (connection d w) (and_parts first _
 
 -- What the end of a dump makes of objects, and what is told of it, keeps the world as it was before.
 
-ended-going : (f : Saving → Saving) (ds : List ℕ) (text : List ℕ) (w : World) → Walk lively w.live.objects (all_saving f w.live.objects) → Going w (on_live (told_each ds text) (on_live (resaved f) w))
+ended-going : (f : Saving → Saving) (ds : List ℕ) (text : List ℕ) (w : World) → Walk (steady lively) w.live.objects (all_saving f w.live.objects) → Going w (on_live (told_each ds text) (on_live (resaved f) w))
 ended-going f ds text w walk =
     let u : World = on_live (resaved f) w in
     going_both w u (on_live (told_each ds text) u) (going_resaved f w walk) (going_quietly u _ (quietly_live (told_each ds text) (quiet_told_each ds text) u))
 
 pub stored-going : (k : ℕ) (w : World) → Going w (on_live (told_each (askers_of w.dumps) (dump_stored k)) (on_live (resaved saving_done) w))
-stored-going k w = ended-going saving_done (askers_of w.dumps) (dump_stored k) w (walk_stored lively w.live.objects refl)
+stored-going k w = ended-going saving_done (askers_of w.dumps) (dump_stored k) w (walk_stored (steady lively) w.live.objects refl)
 
 pub failed-going : (w : World) → Going w (on_live (told_each (askers_of w.dumps) dump_failed) (on_live (resaved due_again) w))
-failed-going w = ended-going due_again (askers_of w.dumps) dump_failed w (walk_failed lively w.live.objects refl)
+failed-going w = ended-going due_again (askers_of w.dumps) dump_failed w (walk_failed (steady lively) w.live.objects refl)
 
 going-rises : (w v : World) → Going w v → IsRising w.live.board.connections → IsRising v.live.board.connections
 going-rises w v g h = rising_by w.live.board.connections v.live.board.connections g.numbers h

@@ -16,6 +16,7 @@ use Rattle.spec_live.specs.Objects.{Entry as Kept, index_of}
 use Rattle.spec_live.specs.Connections.{Connection}
 use Rattle.spec_live.specs.Start.{first_objects}
 use Rattle.spec_live.specs.Boards.{first_tune, connection_opened, line_added, bytes_taken}
+use Rattle.spec_live.specs.Boards as boards
 use Rattle.spec_live.specs.Lives.{Live, tell, leave}
 use Rattle.spec_rights.specs.declared.act.Actor.{Actor}
 use Rattle.spec_rights.specs.declared.act.Act.TheVariants.{Start}
@@ -144,7 +145,7 @@ module _ (B : Dbref → List (List ℕ) → Tree → Type 0) where
   launched_sourced d a c w now h = launched_by d a c w (subst (units.Moment B) (quietly_launched d a c w).objects now) h
 
   up_sourced : (d : ℕ) (player : Dbref) (outcome : Outcome) (w : World) → units.Moment B (followed_up d player outcome w).live.objects → Sourced B w → Sourced B (followed_up d player outcome w)
-  unfolding leave tuned
+  unfolding leave tuned boards.tuned
   up_sourced d player (StartOutcome program trigger line arg) w now h =
       launched_sourced d (actor_of w.live.objects player) (record { player = player; program = program; trigger = trigger; command = line; argument = arg }) w now h
   up_sourced d player Leave w now h = h

@@ -15,6 +15,7 @@ use Rattle.spec_live.specs.Lives.{Live, change_followed, reading, on_board}
 use Rattle.spec_live.proofs.Keeping.{stays, goes, one, join}
 use Rattle.spec_live.proofs.Steps.{Name, Begun, Stilled, May}
 use Rattle.spec_live.proofs.Walks.{walk_begun, walk_stilled}
+use Rattle.spec_live.proofs.Footings.{steady}
 use Rattle.spec_live.proofs.Lives.{Goes, board, shows, hears, opens, closes, goes_objects, fewer_along, marked_along, wider}
 use Rattle.spec_live.proofs.Tracing.{stood_along}
 use Rattle.spec_rights.proofs.Shown.{quiet_one, loose_one}
@@ -57,17 +58,17 @@ goes_happened b s (Exec d) w party may = every_lively b s w.live _ (done_going d
 goes_happened b s (Slice pid) w party may = every_lively b s w.live _ (sliced_going pid w).goes
 goes_happened b s (Commit pid) w party may = every_lively b s w.live _ (sliced_going pid w).goes
 goes_happened b s (Take d n) w party may = one (shows w.live _ refl ((quiet_one d (λ c. record c { output = output_taken n c.output }) (λ c. refl)).law w.live))
-goes_happened b s (Cut k) w party may = goes_objects (every b s) w.live _ (walk_begun (every b s) w.live.objects (may refl))
+goes_happened b s (Cut k) w party may = goes_objects (every b s) w.live _ (walk_begun (steady (every b s)) w.live.objects (may refl))
 goes_happened b s (Stored k) w party may = every_lively b s w.live _ (stored-going k w).goes
 goes_happened b s (DumpFailed k) w party may = every_lively b s w.live _ (failed-going w).goes
 goes_happened b s event w party may = stays
 
 -- and where another event begins behind it
 goes_resting : (b : Bool) (event : Event) (w : World) → Goes (every b true) w.live (resting event w).live
-goes_resting b (Exec d) w = goes_objects (every b true) w.live (stilled w.live.objects) (walk_stilled (every b true) w.live.objects refl)
-goes_resting b (Slice pid) w = goes_objects (every b true) w.live (stilled w.live.objects) (walk_stilled (every b true) w.live.objects refl)
-goes_resting b (Commit pid) w = goes_objects (every b true) w.live (stilled w.live.objects) (walk_stilled (every b true) w.live.objects refl)
-goes_resting b (Closed d) w = goes_objects (every b true) w.live (stilled w.live.objects) (walk_stilled (every b true) w.live.objects refl)
+goes_resting b (Exec d) w = goes_objects (every b true) w.live (stilled w.live.objects) (walk_stilled (steady (every b true)) w.live.objects refl)
+goes_resting b (Slice pid) w = goes_objects (every b true) w.live (stilled w.live.objects) (walk_stilled (steady (every b true)) w.live.objects refl)
+goes_resting b (Commit pid) w = goes_objects (every b true) w.live (stilled w.live.objects) (walk_stilled (steady (every b true)) w.live.objects refl)
+goes_resting b (Closed d) w = goes_objects (every b true) w.live (stilled w.live.objects) (walk_stilled (steady (every b true)) w.live.objects refl)
 goes_resting b event w = stays
 
 pub goes_effect : (b : Bool) (w : World) (e : Entry) → (is_cut e.event ≡ true → b ≡ true) → Goes (every b true) w.live (effect w e).live

@@ -28,14 +28,14 @@ each_order o = record { itself = λ es k. o.itself _; both = λ es fs gs p q k. 
 abbrev pub Holds : May → (Entry → Entry → Type 0) → Type 0
 Holds may R = (listing : Bool) (e g : Entry) → Touch may listing e g → R e g
 
-seen_by : {R : Entry → Entry → Type 0} → Order R → (f : Entry → Entry) (o q : Option Entry) → ((e : Entry) → o ≡ Some e → R e (f e)) → q ≡ option_map f o → R (seen o) (seen q)
+pub seen_by : {R : Entry → Entry → Type 0} → Order R → (f : Entry → Entry) (o q : Option Entry) → ((e : Entry) → o ≡ Some e → R e (f e)) → q ≡ option_map f o → R (seen o) (seen q)
 seen_by {R} r f o q h e = subst (λ z. R (seen o) (seen z)) (sym e) (by_cases o h)
   where
     by_cases : (o : Option Entry) → ((e : Entry) → o ≡ Some e → R e (f e)) → R (seen o) (seen (option_map f o))
     by_cases None h = r.itself _
     by_cases (Some x) h = h x refl
 
-seen_as : {R : Entry → Entry → Type 0} → Order R → (o q : Option Entry) → seen q ≡ seen o → R (seen o) (seen q)
+pub seen_as : {R : Entry → Entry → Type 0} → Order R → (o q : Option Entry) → seen q ≡ seen o → R (seen o) (seen q)
 seen_as {R} r o q e = subst (λ z. R (seen o) z) (sym e) (r.itself _)
 
 -- a fact of entries, along a path that writes lists or not

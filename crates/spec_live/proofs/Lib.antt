@@ -18,7 +18,9 @@ pub mod Steps
 pub mod Walks
 pub mod Entries
 pub mod Marking
+pub mod Footings
 pub mod Lives
+pub mod Epochs
 pub mod Tracing
 pub mod Resaved
 pub mod Standing

@@ -7,11 +7,12 @@ use Rattle.spec_live.specs.Objects.{Entry}
 use Rattle.spec_live.specs.Saving.{Marked}
 use Rattle.spec_live.specs.Output.{no_output}
 use Rattle.spec_live.specs.Connections.{Connection, is_connection, changed_in, left_where}
-use Rattle.spec_live.specs.Boards.{Board, on_connections, connection_opened, connection_closed, leaving_one, seated_one, tuned}
+use Rattle.spec_live.specs.Boards.{Board, turned, on_connections, connection_opened, connection_closed, leaving_one, seated_one, tuned}
 use Rattle.spec_live.specs.Lives.{Live, Change, unchanged}
 use Rattle.spec_live.proofs.Keeping.{Keeps, Order, Path, one, goes, stays, along, path_order, keeps_more, keeps_unchanged}
 use Rattle.spec_live.proofs.Steps.{Name, Begun, Shown, Heard, Came, Leaving, Seated, Tuned, May, Touch, sets, lines, makes, unties, vanishes, lists, dues, tells, resaves, begins, stills, Touches, Part, each, at, grows, Step, parts, settles, Walk}
 use Rattle.spec_live.proofs.Entries.{NoFewer, fewer_order, fewer_walk}
+use Rattle.spec_live.proofs.Footings.{Alike, steady, steady_may, steady_more}
 use Rattle.spec_live.proofs.Marking.{marked_order, marked_walk}
 
 -- What is the same of each connection is the same of all, where one of them is changed, or each.
@@ -56,6 +57,7 @@ pub record Shows (w v : Live) : Type 0 where
   pub objects : v.objects ≡ w.objects
   pub connections : map mute v.board.connections ≡ map mute w.board.connections
   pub tune : v.board.tune ≡ w.board.tune
+  pub turns : v.board.turns ≡ w.board.turns
 
 -- shows only
 abbrev pub Quiet : Change → Type 0
@@ -63,8 +65,8 @@ Quiet f = Keeps Shows f
 
 pub quiet_order : Order Shows
 quiet_order = record {
-  itself = λ w. record { objects = refl; connections = refl; tune = refl };
-  both = λ u v w r s. record { objects = s.objects ∙ r.objects; connections = s.connections ∙ r.connections; tune = s.tune ∙ r.tune };
+  itself = λ w. record { objects = refl; connections = refl; tune = refl; turns = refl };
+  both = λ u v w r s. record { objects = s.objects ∙ r.objects; connections = s.connections ∙ r.connections; tune = s.tune ∙ r.tune; turns = s.turns ∙ r.turns };
 }
 
 pub quiet_unchanged : Quiet unchanged
@@ -75,18 +77,19 @@ pub record Readies (w v : Live) : Type 0 where
   pub objects : v.objects ≡ w.objects
   pub ties : ties v.board.connections ≡ ties w.board.connections
   pub tune : v.board.tune ≡ w.board.tune
+  pub turns : v.board.turns ≡ w.board.turns
 
 abbrev pub Loose : Change → Type 0
 Loose f = Keeps Readies f
 
 pub loose_order : Order Readies
 loose_order = record {
-  itself = λ w. record { objects = refl; ties = refl; tune = refl };
-  both = λ u v w r s. record { objects = s.objects ∙ r.objects; ties = s.ties ∙ r.ties; tune = s.tune ∙ r.tune };
+  itself = λ w. record { objects = refl; ties = refl; tune = refl; turns = refl };
+  both = λ u v w r s. record { objects = s.objects ∙ r.objects; ties = s.ties ∙ r.ties; tune = s.tune ∙ r.tune; turns = s.turns ∙ r.turns };
 }
 
 pub readies : (w v : Live) → Shows w v → Readies w v
-readies w v s = record { objects = s.objects; ties = viewed_again mute tie w.board.connections v.board.connections s.connections; tune = s.tune }
+readies w v s = record { objects = s.objects; ties = viewed_again mute tie w.board.connections v.board.connections s.connections; tune = s.tune; turns = s.turns }
 
 pub loose_quiet : (f : Change) → Quiet f → Loose f
 loose_quiet f q = keeps_more f readies q
@@ -99,8 +102,10 @@ pub data BoardStep (may : May) : Board → Board → Type 0 where
   seats : (d : ℕ) (player : Dbref) (b : Board) → may Seated ≡ true → BoardStep may b (seated_one d player b)
   tunes : (tune : Tune) (b : Board) → may Tuned ≡ true → BoardStep may b (tuned tune b)
 
+-- Objects that go on steadily leave what levels rest on; where that may differ, the epoch goes on with them.
 pub data LiveStep (may : May) : Live → Live → Type 0 where
-  objects : (es : List Entry) (w : Live) → Step may w.objects es → LiveStep may w (record w { objects = es })
+  objects : (es : List Entry) (w : Live) → Step (steady may) w.objects es → LiveStep may w (record w { objects = es })
+  turns : (differs : Bool) (es : List Entry) (w : Live) → Walk may w.objects es → (differs ≡ false → Alike w.objects es) → LiveStep may w (record { objects = es; board = turned differs w.board })
   board : (b : Board) (w : Live) → BoardStep may w.board b → LiveStep may w (record w { board = b })
   shows : (w v : Live) → may Shown ≡ true → Shows w v → LiveStep may w v
   hears : (w v : Live) → may Heard ≡ true → Readies w v → LiveStep may w v
@@ -110,35 +115,6 @@ Goes may = Path (LiveStep may)
 
 pub goes_order : (may : May) → Order (Goes may)
 goes_order may = path_order (LiveStep may)
-
-pub goes_objects : (may : May) (w : Live) (es : List Entry) → Walk may w.objects es → Goes may w (record w { objects = es })
-goes_objects may w es p = lifted w.objects es p
-  where
-    lifted : (fs gs : List Entry) → Walk may fs gs → Goes may (record w { objects = fs }) (record w { objects = gs })
-    lifted _ _ stays = stays
-    lifted _ _ (goes {u} {v} {w = x} s p) = goes (objects v (record w { objects = u }) s) (lifted v x p)
-
--- a fact of the objects, along a path
-abbrev OfObjects : (List Entry → List Entry → Type 0) → Live → Live → Type 0
-OfObjects R u v = R u.objects v.objects
-
-pub objects_along : {R : List Entry → List Entry → Type 0} (may : May) → Order R → ((es fs : List Entry) → Walk may es fs → R es fs) → (w v : Live) → Goes may w v → R w.objects v.objects
-objects_along {R} may o law w v p = along order step w v p
-  where
-    order : Order (OfObjects R)
-    order = record { itself = λ u. o.itself u.objects; both = λ t u v p q. o.both t.objects u.objects v.objects p q }
-
-    step : (u v : Live) → LiveStep may u v → OfObjects R u v
-    step _ _ (objects es w s) = law w.objects es (one s)
-    step _ _ (board b w s) = o.itself w.objects
-    step _ _ (shows w v m s) = subst (R w.objects) (sym s.objects) (o.itself w.objects)
-    step _ _ (hears w v m s) = subst (R w.objects) (sym s.objects) (o.itself w.objects)
-
-pub fewer_along : (may : May) (w v : Live) → Goes may w v → NoFewer w.objects v.objects
-fewer_along may w v p = objects_along may fewer_order (fewer_walk may) w v p
-
-pub marked_along : (may : May) → may Begun ≡ false → (w v : Live) → Goes may w v → Marked w.objects v.objects
-marked_along may n w v p = objects_along may marked_order (marked_walk may n) w v p
 
 -- What may touch more may go the same way.
 
@@ -161,10 +137,50 @@ module _ (m n : May) (up : (name : Name) → m name ≡ true → n name ≡ true
   wider_part b _ _ (at i f es t) = one (at i f es (λ e h. along (path_order (Touch n b)) (wider_touch b) e (f e) (t e h)))
   wider_part b _ _ (grows es h) = one (grows es (up _ h))
 
-  wider_step : (es fs : List Entry) → Step m es fs → Step n es fs
+  pub wider_step : (es fs : List Entry) → Step m es fs → Step n es fs
   wider_step _ _ (parts es fs p) = parts es fs (along (path_order (Part n false)) (wider_part false) es fs p)
   wider_step _ _ (settles es fs l p) = settles es fs (up _ l) (along (path_order (Part n true)) (wider_part true) es fs p)
 
+  pub wider_walk : (es fs : List Entry) → Walk m es fs → Walk n es fs
+  wider_walk es fs p = along (path_order (Step n)) (λ u v s. one (wider_step u v s)) es fs p
+
+pub goes_objects : (may : May) (w : Live) (es : List Entry) → Walk (steady may) w.objects es → Goes may w (record w { objects = es })
+goes_objects may w es p = lifted w.objects es p
+  where
+    lifted : (fs gs : List Entry) → Walk (steady may) fs gs → Goes may (record w { objects = fs }) (record w { objects = gs })
+    lifted _ _ stays = stays
+    lifted _ _ (goes {u} {v} {w = x} s p) = goes (objects v (record w { objects = u }) s) (lifted v x p)
+
+-- those that go on steadily, among others
+steadily : (may : May) (es fs : List Entry) → Step (steady may) es fs → Step may es fs
+steadily may es fs s = wider_step (steady may) may (steady_may may) es fs s
+
+-- a fact of the objects, along a path
+abbrev OfObjects : (List Entry → List Entry → Type 0) → Live → Live → Type 0
+OfObjects R u v = R u.objects v.objects
+
+pub objects_along : {R : List Entry → List Entry → Type 0} (may : May) → Order R → ((es fs : List Entry) → Walk may es fs → R es fs) → (w v : Live) → Goes may w v → R w.objects v.objects
+objects_along {R} may o law w v p = along order step w v p
+  where
+    order : Order (OfObjects R)
+    order = record { itself = λ u. o.itself u.objects; both = λ t u v p q. o.both t.objects u.objects v.objects p q }
+
+    step : (u v : Live) → LiveStep may u v → OfObjects R u v
+    step _ _ (objects es w s) = law w.objects es (one (steadily may w.objects es s))
+    step _ _ (turns differs es w p a) = law w.objects es p
+    step _ _ (board b w s) = o.itself w.objects
+    step _ _ (shows w v m s) = subst (R w.objects) (sym s.objects) (o.itself w.objects)
+    step _ _ (hears w v m s) = subst (R w.objects) (sym s.objects) (o.itself w.objects)
+
+pub fewer_along : (may : May) (w v : Live) → Goes may w v → NoFewer w.objects v.objects
+fewer_along may w v p = objects_along may fewer_order (fewer_walk may) w v p
+
+pub marked_along : (may : May) → may Begun ≡ false → (w v : Live) → Goes may w v → Marked w.objects v.objects
+marked_along may n w v p = objects_along may marked_order (marked_walk may n) w v p
+
+-- so may a world
+
+module _ (m n : May) (up : (name : Name) → m name ≡ true → n name ≡ true) where
   wider_board : (b c : Board) → BoardStep m b c → BoardStep n b c
   wider_board _ _ (opens d greeting b h) = opens d greeting b (up _ h)
   wider_board _ _ (closes d b h) = closes d b (up _ h)
@@ -174,7 +190,8 @@ module _ (m n : May) (up : (name : Name) → m name ≡ true → n name ≡ true
   wider_board _ _ (tunes tune b h) = tunes tune b (up _ h)
 
   wider_live : (w v : Live) → LiveStep m w v → Goes n w v
-  wider_live _ _ (objects es w s) = one (objects es w (wider_step w.objects es s))
+  wider_live _ _ (objects es w s) = one (objects es w (wider_step (steady m) (steady n) (steady_more m n up) w.objects es s))
+  wider_live _ _ (turns differs es w p a) = one (turns differs es w (wider_walk m n up w.objects es p) a)
   wider_live _ _ (board b w s) = one (board b w (wider_board w.board b s))
   wider_live _ _ (shows w v h s) = one (shows w v (up _ h) s)
   wider_live _ _ (hears w v h s) = one (hears w v (up _ h) s)

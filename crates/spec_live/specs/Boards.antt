@@ -1,5 +1,5 @@
--- Who is connected, the state of the random numbers, and what a wizard tuned.
-use Rattle.std.specs.Prelude.{ℕ, Bool, false, List, [], map, find, Option, None}
+-- Who is connected, the state of the random numbers, what a wizard tuned, and the epoch.
+use Rattle.std.specs.Prelude.{ℕ, suc, Bool, false, not, ◌&&◌, nat_lt, if◌then◌else◌, List, [], map, find, Option, None}
 use Rattle.std.specs.Option.{option_map_or, option_and_then}
 use Rattle.rand_core.specs.Pcg32Seed.{pcg32_seed}
 use Rattle.rand_pcg.specs.Lcg.{Lcg}
@@ -7,6 +7,7 @@ use Rattle.rand_pcg.specs.Pcg.{pcg32, pcg32_of_seed}
 use Rattle.muck_model.specs.declared.dbref.Dbref.{Dbref}
 use Rattle.muck_model.specs.declared.edit.EditState.{EditState}
 use Rattle.muck_model.specs.declared.tune.Tune.{Tune}
+use Rattle.muck_model.specs.Parameters.{same_tune}
 unfoldable pub use Rattle.muck_model.specs.Parameters.{first_tune}
 use Rattle.spec_live.specs.Output.{bytes_of, output_taken}
 use Rattle.spec_live.specs.Connections.{Connection, is_connection, changed_in, connection_placed, without_connection, newcomer, text_told, left, player_seated, lined, editor_set, edits, edited_where, is_connection_of, hears, told_where, left_where, has_player}
@@ -15,6 +16,7 @@ pub record Board : Type 0 where
   pub connections : List Connection
   pub random : Lcg
   pub tune : Tune
+  pub turns : ℕ
 
 -- the random numbers that begin so
 unfoldable pub random_from : ℕ → Lcg
@@ -22,7 +24,7 @@ random_from start = pcg32_of_seed (pcg32_seed 16 start)
 
 -- nobody is connected
 unfoldable pub early_board : ℕ → Tune → Board
-early_board start tune = record { connections = []; random = random_from start; tune = tune }
+early_board start tune = record { connections = []; random = random_from start; tune = tune; turns = 0 }
 
 -- Readers.
 
@@ -99,8 +101,20 @@ edited_one d editor b = on_connection d (editor_set editor) b
 unfoldable pub editors_closed : Dbref → Board → Board
 editors_closed program b = on_connections (edited_where (edits program) None) b
 
+-- The epoch: how often something changed on which levels and limits rest, a flag, a level, an owner or what is tuned, as far as such counts go.
+
+abbrev pub turns_most : ℕ
+turns_most = 18446744073709551615
+
+-- the count goes on where something differs
+unfoldable pub next_turn : Bool → ℕ → ℕ
+next_turn differs n = if differs && nat_lt n turns_most then suc n else n
+
+abbrev pub turned : Bool → Board → Board
+turned differs b = record b { turns = next_turn differs b.turns }
+
 unfoldable pub tuned : Tune → Board → Board
-tuned tune b = record b { tune = tune }
+tuned tune b = record (turned (not (same_tune tune b.tune)) b) { tune = tune }
 
 -- the next random word, and the board after it was drawn
 unfoldable pub random_drawn : Board → ℕ × Board

@@ -14,6 +14,7 @@ use Rattle.muck_match.specs.Exits.{exit_for}
 use Rattle.spec_live.specs.Seen.{scenery_of}
 use Rattle.spec_live.specs.Objects.{Entry, dbref_of}
 use Rattle.spec_live.specs.Connections.{Connection}
+use Rattle.spec_live.specs.Boards as boards
 use Rattle.spec_live.specs.Lives.{Live, leave, tell}
 use Rattle.spec_rights.specs.declared.act.Actor.{Actor}
 use Rattle.spec_rights.specs.declared.act.Act.TheVariants.{Start}
@@ -101,7 +102,7 @@ module _ (Lost : Dbref → Type 0) (start : Queue) (d : ℕ) (player : Dbref) (w
 
 -- the objects are those before
 pub objects_up : (d : ℕ) (player : Dbref) (outcome : Outcome) (w : World) → (followed_up d player outcome w).live.objects ≡ w.live.objects
-unfolding leave tuned
+unfolding leave tuned boards.tuned
 objects_up d player Leave w = refl
 objects_up d player (Edit program) w = refl
 objects_up d player (StartOutcome program trigger line arg) w = (quietly_launched d (actor_of w.live.objects player) (record { player = player; program = program; trigger = trigger; command = line; argument = arg }) w).objects

@@ -10,6 +10,7 @@ use Rattle.muck_model.specs.declared.tune.Tune.{Tune}
 use Rattle.spec_live.specs.Objects.{dbref_of, nothing}
 use Rattle.spec_live.specs.Connections.{Connection}
 use Rattle.spec_live.specs.Boards.{edited_one}
+use Rattle.spec_live.specs.Boards as boards
 use Rattle.spec_live.specs.Lives.{Live, tell, leave}
 use Rattle.spec_rights.specs.declared.act.Actor.{Actor}
 use Rattle.spec_rights.specs.declared.act.Act.TheVariants.{Start}
@@ -264,7 +265,7 @@ module _ (Lost : Dbref → Type 0) (n : ℕ) where
       own_is n = grind (arith, nat_tests)
 
   stays_up : (player : Dbref) (outcome : Outcome) (w : World) → Stays w (followed_up n player outcome w)
-  unfolding tuned
+  unfolding tuned boards.tuned
   stays_up player (StartOutcome program trigger line arg) w =
       stays_sits w (followed_up n player (StartOutcome program trigger line arg) w) (launched_sits n (actor_of w.live.objects player) (record { player = player; program = program; trigger = trigger; command = line; argument = arg }) w)
   stays_up player Leave w = stays_sits w (on_live (leave n) w) ((sits_leave n).law w.live)

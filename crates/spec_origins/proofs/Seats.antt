@@ -9,7 +9,7 @@ use Rattle.spec_live.specs.Connections.{Connection, left, player_seated}
 use Rattle.spec_live.specs.Boards.{Board, on_connection, leaving_one, seated_one}
 use Rattle.spec_live.specs.Lives.{Live, Change, on_board, tell, tell_player, leave, draw}
 use Rattle.spec_live.proofs.Keeping.{Keeps, Order, along, keeps_more}
-use Rattle.spec_live.proofs.Lives.{viewed_one, viewed_where, viewed_again, mute, Quiet, BoardStep, opens, closes, leaves_one, leaves, seats as takes, tunes, LiveStep, objects, board, shows, hears, Goes}
+use Rattle.spec_live.proofs.Lives.{viewed_one, viewed_where, viewed_again, mute, Quiet, BoardStep, opens, closes, leaves_one, leaves, seats as takes, tunes, LiveStep, objects, turns, board, shows, hears, Goes}
 use Rattle.spec_rights.specs.declared.act.Actor.{Actor}
 use Rattle.spec_rights.specs.Asking.{refused}
 use Rattle.spec_rights.proofs.Walking.{acts}
@@ -51,6 +51,7 @@ board_sits _ _ (tunes tune b h) = absurd (false≢true h)
 
 step_sits : (w v : Live) → LiveStep acts w v → Sits w v
 step_sits _ _ (objects es w s) = record { seats = refl }
+step_sits _ _ (turns differs es w p a) = record { seats = refl }
 step_sits _ _ (board b w s) = record { seats = board_sits w.board b s }
 step_sits _ _ (shows w v h s) = record { seats = viewed_again mute seat w.board.connections v.board.connections s.connections }
 step_sits _ _ (hears w v h s) = absurd (false≢true h)

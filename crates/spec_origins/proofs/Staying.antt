@@ -19,6 +19,7 @@ use Rattle.spec_live.specs.Objects.{Entry as Kept, object_at, mark_in}
 use Rattle.spec_live.specs.Saving.{pending, saving_done as saved, due_again}
 use Rattle.spec_live.specs.Connections.{Connection}
 use Rattle.spec_live.specs.Boards.{early_board, connection_opened, line_added, bytes_taken, edited_one}
+use Rattle.spec_live.specs.Boards as boards
 use Rattle.spec_live.specs.Lives.{Live, tell, tell_player, leave}
 use Rattle.spec_live.proofs.Keeping.{Keeps, keeps_more}
 use Rattle.spec_rights.specs.declared.act.Actor.{Actor}
@@ -154,7 +155,7 @@ editor_is : (es : List Kept) (s t : EditState) → ◌≡◌ {A = Option EditSta
 editor_is es s t e h = let k : s ≡ t = cc in subst (λ (u : EditState). Stands es u.program) k h
 
 up_held : (d : ℕ) (player : Dbref) (outcome : Outcome) (w : World) → Names w.live outcome → Now w → Held w.live.objects (followed_up d player outcome w)
-unfolding tuned edited_one
+unfolding tuned boards.tuned edited_one
 up_held d player (Start program trigger line arg) w k h =
     let c : Started = record { player = player; program = program; trigger = trigger; command = line; argument = arg } in
     let a : Actor = actor_of w.live.objects player in

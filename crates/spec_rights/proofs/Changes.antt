@@ -1,13 +1,14 @@
 -- Each change of an object that was there keeps to the licence.
 use Rattle.std.proofs.Common.{◌≡◌, ℕ, Bool, true, false, cond, List, refl, sym, ◌∙◌, ap, subst, Option, Some, None, inl, inr}
-use Rattle.std.specs.Prelude.{◌&&◌, not, slice_get}
-use Rattle.std.proofs.lemmas.Bool.{cases_eq}
+use Rattle.std.specs.Prelude.{◌&&◌, ◌==◌, not, slice_get}
+use Rattle.std.proofs.lemmas.Bool.{cases_eq, cond-true, cond-false, eqb-true}
 use Rattle.std.specs.Option.{option_map, option_map_or}
 use Rattle.std.specs.Ordering.{eq_by_cmp}
 use Rattle.std.specs.Cmp.{Equal-is}
 use Rattle.std.specs.FinMap.{get, insert, remove, get-insert, get-remove}
 use Rattle.muck_model.specs.declared.dbref.Dbref.{Dbref}
 use Rattle.muck_model.specs.declared.dbref.Flags.{Flags}
+use Rattle.muck_model.proofs.Dbrefs.{eq_same}
 use Rattle.muck_prop.specs.declared.value.PropValue.{PropValue}
 use Rattle.muck_prop.specs.Order.{path_cmp, path_cmp_total}
 use Rattle.muck_prop.specs.Paths.{class_of}
@@ -15,25 +16,27 @@ use Rattle.muck_prop.specs.Store.{PropMap, is_nothing, value_stored as put}
 use Rattle.muck_prop.proofs.Maps.{path_cmp_same}
 use Rattle.spec_live.specs.declared.object.Object.{Object}
 use Rattle.spec_live.specs.Flags.{has_flag, with_flag, without_flag, wizard}
-use Rattle.spec_live.specs.Objects.{Entry, dbref_of, object_in, list_in, mark_in, number_in, object_at, changed_at}
+use Rattle.spec_live.specs.Objects.{Entry, dbref_of, same, object_in, list_in, mark_in, number_in, object_at, changed_at}
 use Rattle.spec_live.specs.Setting.{set_at, with_name, with_owner, with_link, with_flags, with_level, with_lines, lines_set, with_password}
+use Rattle.spec_live.specs.Connections.{Connection}
 use Rattle.spec_live.specs.Boards.{Board}
 use Rattle.spec_live.specs.Lives.{Live}
 use Rattle.spec_live.proofs.Lists.{get_changed_same}
 use Rattle.spec_live.proofs.Steps as field
-use Rattle.spec_live.proofs.Steps.{Field, kept, owned, flagged, password, field_set}
+use Rattle.spec_live.proofs.Steps.{Field, kept, owned, flagged, password, name_of, field_set}
+use Rattle.spec_live.proofs.Footings.{footing, steady}
 use Rattle.spec_live.proofs.Lives.{Goes}
 use Rattle.spec_live.proofs.Readers.{object_changed, object_unchanged, object_elsewhere, list_change, list_changed, mark_elsewhere}
 use Rattle.spec_rights.specs.declared.act.Actor.{Actor}
 use Rattle.spec_rights.specs.declared.act.Act.TheVariants.{Write, Link, Edit, Change, Rename, Password, SetFlag, SetLevel, SetOwner}
 use Rattle.spec_rights.specs.Verdict.{is_master, controls, is_guarded}
-use Rattle.spec_rights.specs.Changing.{at_number, set_object, name_given, object_owned_by, linked, is_flag, flag_set, flag_cleared, leveled, lines_kept, password_kept, property_stored, unstored}
+use Rattle.spec_rights.specs.Changing.{at_number, set_object, object_turned, name_given, object_owned_by, linked, is_flag, flag_set, flag_cleared, leveled, lines_kept, password_kept, property_stored, unstored}
 use Rattle.spec_rights.specs.Licence.{Freedom, Open, Judge, Changed, Differs, SameLists, SameTies, name_open, property_open, link_open, level_open, lines_open, owner_open}
 use Rattle.spec_rights.proofs.Lookups.{Row, row_same, rows_changed, number_is}
 use Rattle.spec_rights.proofs.Listing.{lists_alike, lists_itself}
-use Rattle.spec_rights.proofs.Walking.{acts, silent, same_marks, silent_acts, field_silent, goes_set, goes_lines}
+use Rattle.spec_rights.proofs.Walking.{acts, silent, same_marks, silent_acts, field_silent, goes_set, goes_turned, goes_lines}
 use Rattle.spec_rights.proofs.Bits.{wizard_stays_set, wizard_stays_cleared}
-use Rattle.spec_rights.proofs.Licences.{judge, changed_same, SameMarks, mark_open, Kept, kept_same, Stay, End, Stays, Ends, itself, ties_itself, ends_by, stays_by}
+use Rattle.spec_rights.proofs.Licences.{judge, changed_same, SameMarks, mark_open, Kept, kept_same, Stay, End, Stays, Ends, itself, ties, ties_same, ties_itself, ends_by, stays_by}
 use Rattle.spec_rights.proofs.Allowed.{rename_allowed, write_allowed, change_allowed, link_allowed, flag_allowed, level_allowed, owner_allowed, edit_allowed, password_allowed}
 
 -- Where f is done to one object, R holds of all.
@@ -76,12 +79,10 @@ differs_row j x None (Some p) r = absurd r
 differs_row j x (Some o) None r = absurd r
 differs_row j x (Some o) (Some p) r = r
 
-pub end_objects : (j : Judge) (w v : Live) → v.board ≡ w.board → ((n : ℕ) → Differs j (dbref_of n) (object_at (dbref_of n) w.objects) (object_at (dbref_of n) v.objects)) → SameLists j w.objects v.objects → Goes silent w v → End j w v
-end_objects j w v b rows lists p =
-    let T : Board → Type 0 = λ t. SameTies j.actor w.board.connections t.connections in
-    let U : Board → Type 0 = λ t. t.tune ≡ w.board.tune in
+pub end_objects : (j : Judge) (w v : Live) → v.board.connections ≡ w.board.connections → v.board.tune ≡ w.board.tune → ((n : ℕ) → Differs j (dbref_of n) (object_at (dbref_of n) w.objects) (object_at (dbref_of n) v.objects)) → SameLists j w.objects v.objects → Goes silent w v → End j w v
+end_objects j w v same tune rows lists p =
     let marks : SameMarks j w.objects v.objects = λ n. mark_open j (dbref_of n) _ _ (object_at (dbref_of n) v.objects) (inl (same_marks w v p n)) in
-    record { rows = rows; lists = lists; marks = marks; goes = silent_acts w v p; ties = subst T (sym b) (ties_itself j.actor w.board.connections); tune = subst U (sym b) refl }
+    record { rows = rows; lists = lists; marks = marks; goes = silent_acts w v p; ties = ties_same j.actor w.board.connections v.board.connections (ap (λ (cs : List Connection). ties cs) same); tune = tune }
 
 -- the lists of all are as they were
 lists_number : (j : Judge) (g : ℕ → List Entry → List Entry) (es : List Entry) → ((m : ℕ) (v : Bool) (k : ℕ) → list_in v (g m es) k ≡ list_in v es k) → (q : Option ℕ) → SameLists j es (option_map_or (λ m. g m es) q es)
@@ -98,15 +99,27 @@ field_kind : (c : Field) (o : Object) → (field_set c o).kind ≡ o.kind
 field_kind kept o = refl
 field_kind c o = refl
 
-stay_found : (j : Judge) (x : Dbref) (c : Field) → ((o : Object) → Kept j x o (field_set c o)) → (w : Live) → Stay j w (set_object (field_set c) x w)
-stay_found j x c h w =
+stay_found : (j : Judge) (x : Dbref) (c : Field) → steady silent (name_of c) ≡ true → ((o : Object) → Kept j x o (field_set c o)) → (w : Live) → Stay j w (set_object (field_set c) x w)
+stay_found j x c steadily h w =
     let f : Object → Object = field_set c in
-    stay_objects j w (set_object f x w) refl (rows_found (Kept j) (kept_same j) x f (field_kind c) h w.objects) (lists_set j x f w.objects) (goes_set silent c x w (field_silent c))
+    stay_objects j w (set_object f x w) refl (rows_found (Kept j) (kept_same j) x f (field_kind c) h w.objects) (lists_set j x f w.objects) (goes_set silent c x w steadily)
 
-pub end_found : (j : Judge) (x : Dbref) (c : Field) → ((o : Object) → Changed j x o (field_set c o)) → (w : Live) → End j w (set_object (field_set c) x w)
-end_found j x c h w =
+pub end_found : (j : Judge) (x : Dbref) (c : Field) → steady silent (name_of c) ≡ true → ((o : Object) → Changed j x o (field_set c o)) → (w : Live) → End j w (set_object (field_set c) x w)
+end_found j x c steadily h w =
     let f : Object → Object = field_set c in
-    end_objects j w (set_object f x w) refl (λ n. differs_row j (dbref_of n) _ _ (rows_found (Changed j) (changed_same j) x f (field_kind c) h w.objects n)) (lists_set j x f w.objects) (goes_set silent c x w (field_silent c))
+    end_objects j w (set_object f x w) refl refl (λ n. differs_row j (dbref_of n) _ _ (rows_found (Changed j) (changed_same j) x f (field_kind c) h w.objects n)) (lists_set j x f w.objects) (goes_set silent c x w steadily)
+
+-- where it is one on which levels rest, the epoch goes on
+end_turned : (j : Judge) (x : Dbref) (differs : Object → Bool) (c : Field) → ((o : Object) → differs o ≡ false → footing (field_set c o) ≡ footing o) → ((o : Object) → Changed j x o (field_set c o)) → (w : Live) →
+    End j w (object_turned differs (field_set c) x w)
+end_turned j x differs c keeps h w =
+    let f : Object → Object = field_set c in
+    end_objects j w (object_turned differs f x w) refl refl (λ n. differs_row j (dbref_of n) _ _ (rows_found (Changed j) (changed_same j) x f (field_kind c) h w.objects n)) (lists_set j x f w.objects)
+    (goes_turned silent differs c x w (field_silent c) keeps)
+
+not_false : (b : Bool) → not b ≡ false → b ≡ true
+not_false true e = refl
+not_false false e = absurd (cc)
 
 -- Names.
 
@@ -118,7 +131,7 @@ kept_name j x name o h = record {
 
 pub stays_named : (a : Actor) (free : Freedom) (x : Dbref) (name : List ℕ) → Stays a free (Some (Rename x)) (name_given x name)
 unfolding name_given
-stays_named a free x name = stays_by _ (λ start w s g. let j = judge a free start in stay_found j x (field.named name) (λ o. kept_name j x name o (rename_allowed a free start w.objects x s g)) w)
+stays_named a free x name = stays_by _ (λ start w s g. let j = judge a free start in stay_found j x (field.named name) refl (λ o. kept_name j x name o (rename_allowed a free start w.objects x s g)) w)
 
 -- Links.
 
@@ -130,7 +143,7 @@ kept_link j x to o h = record {
 
 pub stays_linked : (a : Actor) (free : Freedom) (x to : Dbref) → Stays a free (Some (Link x to)) (linked x to)
 unfolding linked
-stays_linked a free x to = stays_by _ (λ start w s g. let j = judge a free start in stay_found j x (field.linked to) (λ o. kept_link j x to o (link_allowed a free start w.objects x to s g)) w)
+stays_linked a free x to = stays_by _ (λ start w s g. let j = judge a free start in stay_found j x (field.linked to) refl (λ o. kept_link j x to o (link_allowed a free start w.objects x to s g)) w)
 
 -- Properties.
 
@@ -170,11 +183,11 @@ kept_props j x props o h = record {
 
 stay_stored : (j : Judge) (x : Dbref) (path : List (List ℕ)) (value : PropValue) → property_open j x path ≡ true → (w : Live) → Stay j w (property_stored x path value w)
 unfolding property_stored
-stay_stored j x path value h = stay_found j x (field.stored path value) (λ o. kept_props j x _ o (stored_open j x path value o.props h))
+stay_stored j x path value h = stay_found j x (field.stored path value) refl (λ o. kept_props j x _ o (stored_open j x path value o.props h))
 
 stay_unstored : (j : Judge) (x : Dbref) (path : List (List ℕ)) → property_open j x path ≡ true → (w : Live) → Stay j w (unstored x path w)
 unfolding unstored
-stay_unstored j x path h = stay_found j x (field.unstored path) (λ o. kept_props j x _ o (removed_open j x path o.props h))
+stay_unstored j x path h = stay_found j x (field.unstored path) refl (λ o. kept_props j x _ o (removed_open j x path o.props h))
 
 pub stays_stored : (a : Actor) (free : Freedom) (x : Dbref) (path : List (List ℕ)) (value : PropValue) → Stays a free (Some (Write x path)) (property_stored x path value)
 stays_stored a free x path value = stays_by _ (λ start w s g. stay_stored (judge a free start) x path value (write_allowed a free start w.objects x path s g) w)
@@ -229,25 +242,31 @@ kept_digest j x salt word o h = record {
 
 pub stays_password : (a : Actor) (free : Freedom) (x : Dbref) (salt : ℕ) (word : List ℕ) → Stays a free (Some (Password x)) (password_kept x salt word)
 unfolding password_kept
-stays_password a free x salt word = stays_by _ (λ start w s g. let j = judge a free start in stay_found j x (password salt word) (λ o. kept_digest j x salt word o (password_allowed w.objects a x g)) w)
+stays_password a free x salt word = stays_by _ (λ start w s g. let j = judge a free start in stay_found j x (password salt word) refl (λ o. kept_digest j x salt word o (password_allowed w.objects a x g)) w)
 
 -- Owners.
 
 changed_owner : (j : Judge) (x owner : Dbref) (o : Object) → owner_open j x owner ≡ true → Changed j x o (with_owner owner o)
 changed_owner j x owner o h = record { kind = refl; name = inl refl; owner = inr h; place = inl refl; link = inl refl; home = inl refl; flags = inl refl; wizard = inl refl; level = inl refl; props = λ path. inl refl; lines = inl refl; digest = inl refl }
 
+owner_keeps : (owner : Dbref) (o : Object) → not (same o.owner owner) ≡ false → footing (with_owner owner o) ≡ footing o
+owner_keeps owner o e = let is : o.owner ≡ owner = eq_same o.owner owner (not_false (same o.owner owner) e) in ap (λ (d : Dbref). footing (with_owner d o)) (sym is)
+
 pub ends_owned : (a : Actor) (free : Freedom) (x owner : Dbref) → Ends itself a free (Some (SetOwner x owner)) (object_owned_by x owner)
 unfolding object_owned_by
-ends_owned a free x owner = ends_by _ (λ start w s g. let j = judge a free start in end_found j x (owned owner) (λ o. changed_owner j x owner o (owner_allowed a free start w.objects x owner s g)) w)
+ends_owned a free x owner = ends_by _ (λ start w s g. let j = judge a free start in end_turned j x (λ o. not (same o.owner owner)) (owned owner) (owner_keeps owner) (λ o. changed_owner j x owner o (owner_allowed a free start w.objects x owner s g)) w)
 
 -- Levels.
 
 changed_level : (j : Judge) (x : Dbref) (level : ℕ) (o : Object) → level_open j x level ≡ true → Changed j x o (with_level level o)
 changed_level j x level o h = record { kind = refl; name = inl refl; owner = inl refl; place = inl refl; link = inl refl; home = inl refl; flags = inl refl; wizard = inl refl; level = inr h; props = λ path. inl refl; lines = inl refl; digest = inl refl }
 
+level_keeps : (level : ℕ) (o : Object) → not (o.level == level) ≡ false → footing (with_level level o) ≡ footing o
+level_keeps level o e = let is : o.level ≡ level = eqb-true o.level level (not_false (o.level == level) e) in ap (λ (n : ℕ). footing (with_level n o)) (sym is)
+
 pub ends_leveled : (a : Actor) (free : Freedom) (x : Dbref) (level : ℕ) → Ends itself a free (Some (SetLevel x level)) (leveled x level)
 unfolding leveled
-ends_leveled a free x level = ends_by _ (λ start w s g. let j = judge a free start in end_found j x (field.leveled level) (λ o. changed_level j x level o (level_allowed a free start w.objects x level s g)) w)
+ends_leveled a free x level = ends_by _ (λ start w s g. let j = judge a free start in end_turned j x (λ o. not (o.level == level)) (field.leveled level) (level_keeps level) (λ o. changed_level j x level o (level_allowed a free start w.objects x level s g)) w)
 
 -- Flags.
 
@@ -261,16 +280,22 @@ wizard_open true false true old new e f g = absurd (cc)
 wizard_open true false false old new e f g = inl (g refl)
 wizard_open false m v old new e f g = absurd (cc)
 
+flag_keeps : (flag : ℕ) (o : Object) → not (has_flag flag o.flags) ≡ false → footing (with_flags (with_flag flag o.flags) o) ≡ footing o
+flag_keeps flag o e = ap (λ (f : Flags). footing (with_flags f o)) (cond-true (has_flag flag o.flags) o.flags _ (not_false (has_flag flag o.flags) e))
+
+no_flag_keeps : (flag : ℕ) (o : Object) → has_flag flag o.flags ≡ false → footing (with_flags (without_flag flag o.flags) o) ≡ footing o
+no_flag_keeps flag o e = ap (λ (f : Flags). footing (with_flags f o)) (cond-false (has_flag flag o.flags) _ o.flags e)
+
 pub ends_flag_set : (a : Actor) (free : Freedom) (x : Dbref) (flag : Flags) → is_flag flag ≡ true → Ends itself a free (Some (SetFlag x flag)) (flag_set x flag)
 unfolding flag_set
 ends_flag_set a free x flag k = ends_by _ (λ start w s g.
     let j = judge a free start in
     let t = flag_allowed a free start w.objects x flag s g in
-    end_found j x (flagged (with_flag flag.0)) (λ o. changed_flags j x (with_flag flag.0 o.flags) o t.0 (wizard_open _ _ _ _ _ t.0 t.1 (λ v. wizard_stays_set flag o.flags k v))) w)
+    end_turned j x (λ o. not (has_flag flag.0 o.flags)) (flagged (with_flag flag.0)) (flag_keeps flag.0) (λ o. changed_flags j x (with_flag flag.0 o.flags) o t.0 (wizard_open _ _ _ _ _ t.0 t.1 (λ v. wizard_stays_set flag o.flags k v))) w)
 
 pub ends_flag_cleared : (a : Actor) (free : Freedom) (x : Dbref) (flag : Flags) → is_flag flag ≡ true → Ends itself a free (Some (SetFlag x flag)) (flag_cleared x flag)
 unfolding flag_cleared
 ends_flag_cleared a free x flag k = ends_by _ (λ start w s g.
     let j = judge a free start in
     let t = flag_allowed a free start w.objects x flag s g in
-    end_found j x (flagged (without_flag flag.0)) (λ o. changed_flags j x (without_flag flag.0 o.flags) o t.0 (wizard_open _ _ _ _ _ t.0 t.1 (λ v. wizard_stays_cleared flag o.flags k v))) w)
+    end_turned j x (λ o. has_flag flag.0 o.flags) (flagged (without_flag flag.0)) (no_flag_keeps flag.0) (λ o. changed_flags j x (without_flag flag.0 o.flags) o t.0 (wizard_open _ _ _ _ _ t.0 t.1 (λ v. wizard_stays_cleared flag o.flags k v))) w)

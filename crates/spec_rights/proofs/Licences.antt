@@ -441,7 +441,7 @@ whole_followed out a own free given f g q p = keeps_after f g (λ w v y s t. rec
         let P : List Entry → Type 0 = λ os. Proper a (free os) (record { objects = os; board = v.board }) u in
         let q = subst P s.objects p in
         let x : Live = record { objects = w.objects; board = v.board } in
-        record { licensed = licensed_from a (free w.objects) w x u (record { objects = refl; ties = (readies w v s).ties; tune = s.tune }) q.licensed; marks = q.marks; goes = join (one (shows w v refl s)) p.goes; tune = p.tune ∙ s.tune }
+        record { licensed = licensed_from a (free w.objects) w x u (record { objects = refl; ties = (readies w v s).ties; tune = s.tune; turns = s.turns }) q.licensed; marks = q.marks; goes = join (one (shows w v refl s)) p.goes; tune = p.tune ∙ s.tune }
 
 -- and what only shows may come last
 pub whole_quietly : (a : Actor) (own : Option ℕ) (free : List Entry → Freedom) (given : Live → Type 0) (f g : Change) → Whole itself a own free given f → Quiet g → Whole itself a own free given (change_followed f g)

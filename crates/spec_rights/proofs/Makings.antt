@@ -6,7 +6,7 @@ use Rattle.muck_laws.proofs.Truths.{and_all, and_three}
 use Rattle.muck_model.proofs.Dbrefs.{same_eq}
 use Rattle.std.specs.Prelude.{Ok, Err, nat_lt, slice_get, min, nat_le, ◌||◌}
 use Rattle.std.specs.Option.{option_map, option_and_then, option_map_or}
-use Rattle.std.proofs.lemmas.Bool.{cases_eq, or_right}
+use Rattle.std.proofs.lemmas.Bool.{cases_eq, or_right, false≢true}
 use Rattle.muck_model.specs.declared.dbref.Dbref.{Dbref}
 use Rattle.muck_model.specs.declared.dbref.Kind.{Kind}
 use Rattle.muck_model.specs.declared.dbref.Kind.TheVariants.{Room, Thing, Exit, Player, Program, Garbage}
@@ -18,10 +18,10 @@ use Rattle.spec_live.specs.Making.{free_in, blank_entry, objects_grown, new_obje
 use Rattle.spec_live.specs.declared.fault.DbFault.TheVariants.{NoSuchObject, WrongKind, WorldFull}
 use Rattle.spec_live.specs.Setting.{set_at, with_home, with_link, with_level}
 use Rattle.spec_live.specs.Lives.{Live}
-use Rattle.spec_live.proofs.Keeping.{join}
+use Rattle.spec_live.proofs.Keeping.{one, join}
 use Rattle.spec_live.proofs.Steps.{Touches}
 use Rattle.spec_live.proofs.Walks.{walk_at, walk_created}
-use Rattle.spec_live.proofs.Lives.{goes_objects}
+use Rattle.spec_live.proofs.Lives.{turns}
 use Rattle.spec_live.proofs.Lists.{get_changed_same}
 use Rattle.spec_live.proofs.Readers.{object_changed, object_unchanged, object_elsewhere, object_moved, object_unmoved, list_changed, list_named}
 use Rattle.spec_live.proofs.CreationLaws.{list_more, free_garbage}
@@ -172,8 +172,8 @@ end_created j kind name owner place finished w p e touch h =
     let L : ℕ → Type 0 = λ m. SameLists j w.objects (set_at finished m (created m kind name owner p.1 w.objects)) in
     let new = h (free_in w.objects) p.1 (number_is w.objects place p.1 k.1) in
     let free : kind_in w.objects p.0 ≡ Garbage = ap (kind_in w.objects) k.0 ∙ free_garbage w.objects in
-    end_objects j w (created_so p.0 kind name owner p.1 finished w) refl (subst D (sym k.0) (differs_made j kind name owner finished p.1 w.objects new)) (subst L (sym k.0) (lists_made j kind name owner finished p.1 w.objects))
-    (goes_objects silent w _ (join (walk_created silent p.0 kind name owner p.1 w.objects free refl refl refl) (walk_at silent p.0 (on_object finished) _ (λ x _. touch x))))
+    end_objects j w (created_so p.0 kind name owner p.1 finished w) refl refl (subst D (sym k.0) (differs_made j kind name owner finished p.1 w.objects new)) (subst L (sym k.0) (lists_made j kind name owner finished p.1 w.objects))
+    (one (turns true _ w (join (walk_created silent p.0 kind name owner p.1 w.objects free refl refl refl) (walk_at silent p.0 (on_object finished) _ (λ x _. touch x))) (λ e. absurd (false≢true (sym e)))))
 
 -- The kinds.
 

@@ -75,7 +75,7 @@ changed_home j x to o h = record { kind = refl; name = inl refl; owner = inl ref
 
 end_homed : (j : Judge) (x to : Dbref) (w : Live) → home_open j x to ≡ true → End j w (homed x to w)
 unfolding homed
-end_homed j x to w h = end_found j x (field.homed to) (λ o. changed_home j x to o h) w
+end_homed j x to w h = end_found j x (field.homed to) refl (λ o. changed_home j x to o h) w
 
 pub ends_homed : (a : Actor) (free : Freedom) (x to : Dbref) → Ends itself a free (Some (Link x to)) (homed x to)
 ends_homed a free x to = ends_by _ (λ start w s g. end_homed (judge a free start) x to w (live_allowed a free start w.objects x to s g))

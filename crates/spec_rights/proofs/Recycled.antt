@@ -27,7 +27,9 @@ use Rattle.spec_live.proofs.Readers.{object_elsewhere, object_left, object_moved
 use Rattle.spec_live.proofs.Steps.{May, Gone, Place, Lists, kept, sets, lines, makes, vanishes, tells as unmarks}
 use Rattle.spec_live.proofs.Walks.{walk_recycled}
 use Rattle.spec_live.proofs.Entries.{Holds, each_walk, mark_read}
-use Rattle.spec_live.proofs.Lives.{Goes, goes_objects, fewer_along}
+use Rattle.spec_live.specs.Boards.{next_turn, turned}
+use Rattle.spec_live.proofs.Keeping.{one}
+use Rattle.spec_live.proofs.Lives.{turns, Goes, fewer_along}
 use Rattle.spec_live.proofs.Tracing.{traced_along}
 use Rattle.spec_live.proofs.Savings.{object_relinked, list_relinked}
 use Rattle.spec_rights.specs.declared.act.Actor.{Actor}
@@ -446,11 +448,11 @@ may a es x d e some other c =
     subst P (sym e) at c
 
 there : (a : Actor) (free : Freedom) (x : Dbref) (w : Live) → controls w.objects a x ≡ true → (d : ℕ) → number_in w.objects x ≡ Some d → not (d == 0 || is_player (kind_in w.objects d)) ≡ true →
-    Proper a free w (record w { objects = recycled d w.objects })
+    Proper a free w (record { objects = recycled d w.objects; board = turned true w.board })
 there a free x w h d e t =
     let known : x ≡ dbref_of d = number_is w.objects x d e in
     let k : ((d == 0) ≡ false) × (is_player (kind_in w.objects d) ≡ false) = or_parts _ _ (not-true _ t) in
-    let path : Goes acts w (record w { objects = recycled d w.objects }) = goes_objects acts w _ (walk_recycled acts d w.objects refl refl refl) in
+    let path : Goes acts w (record { objects = recycled d w.objects; board = turned true w.board }) = one (turns true _ w (walk_recycled acts d w.objects refl refl refl) (λ e. absurd (false≢true (sym e)))) in
     record {
       licensed = record {
         gone = Some (dbref_of d);
@@ -470,7 +472,7 @@ there a free x w h d e t =
 
 -- an object is recycled where the check passes
 pub recycled_proper : (a : Actor) (free : Freedom) (x : Dbref) (w : Live) (n : ℕ) → verdict w.objects a (Recycle x) ≡ None → recycle_check x w.objects ≡ Ok n → Proper a free w (recycled_now x w)
-unfolding recycled_now recycle_check checked
+unfolding recycled_now recycle_check checked next_turn
 recycled_proper a free x w n g e = at (number_in w.objects x) refl e
   where
     passed : (d n : ℕ) (b : Bool) → ◌≡◌ {A = Result ℕ DbFault} (cond b (Ok d) (Err WrongKind)) (Ok n) → b ≡ true
@@ -478,6 +480,6 @@ recycled_proper a free x w n g e = at (number_in w.objects x) refl e
     passed d n false e = absurd (cc)
 
     at : (q : Option ℕ) → number_in w.objects x ≡ q → option_map_or (λ (d : ℕ). cond (not (d == 0 || is_player (kind_in w.objects d))) (Ok d) (Err WrongKind)) q (Err NoSuchObject) ≡ Ok n →
-        Proper a free w (record w { objects = option_map_or (λ (d : ℕ). recycled d w.objects) q w.objects })
+        Proper a free w (record { objects = option_map_or (λ (d : ℕ). recycled d w.objects) q w.objects; board = turned (is_some q) w.board })
     at None f e = nothing_recycled a free w
     at (Some d) f e = there a free x w (recycle_allowed w.objects a x g) d f (passed d n (not (d == 0 || is_player (kind_in w.objects d))) e)

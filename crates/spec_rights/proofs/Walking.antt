@@ -1,16 +1,18 @@
 -- Each change by leave is a path of steps.
-use Rattle.std.proofs.Common.{◌≡◌, ℕ, List, Option, Some, None, true, false, refl, ◌∙◌}
-use Rattle.std.specs.Option.{option_map_or}
+use Rattle.std.proofs.Common.{◌≡◌, ℕ, List, Option, Some, None, Bool, true, false, refl, sym, ap, ◌∙◌}
+use Rattle.std.specs.Option.{option_map_or, option_and_then}
 use Rattle.muck_model.specs.declared.dbref.Dbref.{Dbref}
-use Rattle.spec_live.specs.Objects.{Entry, mark_in, number_in, on_object}
+use Rattle.spec_live.specs.declared.object.Object.{Object}
+use Rattle.spec_live.specs.Objects.{Entry, object_in, object_at, mark_in, number_in, on_object}
 use Rattle.spec_live.specs.Setting.{set_at, lines_set}
 use Rattle.spec_live.specs.Lives.{Live}
 use Rattle.spec_live.proofs.Keeping.{stays, one}
 use Rattle.spec_live.proofs.Steps.{Name, May, Told, Stored, Begun, Stilled, Came, Heard, Tuned, Lists, Lines, Gone, Place, Field, kept, name_of, field_set, sets, Touches, Walk}
 use Rattle.spec_live.proofs.Walks.{walk_set, walk_lines, walk_moved}
 use Rattle.spec_live.proofs.Entries.{mark_walk}
-use Rattle.spec_live.proofs.Lives.{Goes, goes_objects, objects_along, wider}
-use Rattle.spec_rights.specs.Changing.{set_object, lines_kept, moved_at, moved_to}
+use Rattle.spec_live.proofs.Footings.{footing, Alike, alike_order, alike_at, steady}
+use Rattle.spec_live.proofs.Lives.{turns, Goes, goes_objects, objects_along, wider}
+use Rattle.spec_rights.specs.Changing.{set_object, object_turned, lines_kept, moved_at, moved_to}
 
 -- Whoever acts tells of no object, begins and ends no dump, ends no event and tunes nothing, no connection comes or goes by it, no line comes to one, and no editor is taken.
 abbrev pub acts : May
@@ -33,12 +35,27 @@ number_walk : (may : May) (g : ℕ → List Entry → List Entry) → ((n : ℕ)
 number_walk may g p None es = stays
 number_walk may g p (Some n) es = p n es
 
-pub goes_set : (may : May) (c : Field) (x : Dbref) (w : Live) → may (name_of c) ≡ true → Goes may w (set_object (field_set c) x w)
-goes_set may c x w m = goes_objects may w _ (number_walk may (set_at (field_set c)) (λ n es. walk_set may c n es m) (number_in w.objects x) w.objects)
+pub goes_set : (may : May) (c : Field) (x : Dbref) (w : Live) → steady may (name_of c) ≡ true → Goes may w (set_object (field_set c) x w)
+goes_set may c x w m = goes_objects may w _ (number_walk (steady may) (set_at (field_set c)) (λ n es. walk_set (steady may) c n es m) (number_in w.objects x) w.objects)
+
+-- what levels rest on stays where the test says that it doesn't differ
+alike_set : (differs : Object → Bool) (f : Object → Object) → ((o : Object) → differs o ≡ false → footing (f o) ≡ footing o) → (x : Dbref) (es : List Entry) →
+    option_map_or differs (object_at x es) false ≡ false → Alike es (option_map_or (λ n. set_at f n es) (number_in es x) es)
+unfolding object_at
+alike_set differs f keeps x es same = at (number_in es x) same
+  where
+    at : (q : Option ℕ) → option_map_or differs (option_and_then (object_in es) q) false ≡ false → Alike es (option_map_or (λ n. set_at f n es) q es)
+    at None h = alike_order.itself es
+    at (Some n) h = alike_at n f es (λ o there. keeps o (sym (ap (λ (q : Option Object). option_map_or differs q false) there) ∙ h))
+
+-- a field on which levels rest
+pub goes_turned : (may : May) (differs : Object → Bool) (c : Field) (x : Dbref) (w : Live) → may (name_of c) ≡ true → ((o : Object) → differs o ≡ false → footing (field_set c o) ≡ footing o) → Goes may w (object_turned differs (field_set c) x w)
+goes_turned may differs c x w m keeps =
+    one (turns (option_map_or differs (object_at x w.objects) false) _ w (number_walk may (set_at (field_set c)) (λ n es. walk_set may c n es m) (number_in w.objects x) w.objects) (alike_set differs (field_set c) keeps x w.objects))
 
 pub goes_lines : (may : May) (x : Dbref) (ls : List (List ℕ)) (w : Live) → may Lines ≡ true → Goes may w (lines_kept x ls w)
 unfolding lines_kept
-goes_lines may x ls w m = goes_objects may w _ (number_walk may (lines_set ls) (λ n es. walk_lines may ls n es m) (number_in w.objects x) w.objects)
+goes_lines may x ls w m = goes_objects may w _ (number_walk (steady may) (lines_set ls) (λ n es. walk_lines (steady may) ls n es m) (number_in w.objects x) w.objects)
 
 moved_walk : (may : May) (d t : Option ℕ) (es : List Entry) → may Place ≡ true → may Lists ≡ true → Walk may es (moved_at d t es)
 moved_walk may (Some d) (Some t) es p l = walk_moved may d t es p l
@@ -46,7 +63,7 @@ moved_walk may d t es p l = stays
 
 pub goes_moved : (may : May) (x to : Dbref) (w : Live) → may Place ≡ true → may Lists ≡ true → Goes may w (moved_to x to w)
 unfolding moved_to
-goes_moved may x to w p l = goes_objects may w _ (moved_walk may (number_in w.objects x) (number_in w.objects to) w.objects p l)
+goes_moved may x to w p l = goes_objects may w _ (moved_walk (steady may) (number_in w.objects x) (number_in w.objects to) w.objects p l)
 
 pub same_marks : (w v : Live) → Goes silent w v → (n : ℕ) → mark_in v.objects n ≡ mark_in w.objects n
 same_marks w v p = objects_along silent (record { itself = λ es n. refl; both = λ es fs gs p q n. q n ∙ p n }) (mark_walk silent refl refl refl) w v p

@@ -1,5 +1,5 @@
 -- The changes of objects that an act is leave for, by the numbers that are written. What isn't there doesn't change.
-use Rattle.std.specs.Prelude.{ℕ, Bool, ◌==◌, if◌then◌else◌, List, [], ◌∷◌, Option, Some}
+use Rattle.std.specs.Prelude.{ℕ, Bool, true, false, not, ◌==◌, if◌then◌else◌, List, [], ◌∷◌, Option, Some, is_some}
 use Rattle.std.specs.List.{list_any}
 use Rattle.std.specs.Option.{option_map_or}
 use Rattle.muck_model.specs.declared.dbref.Dbref.{Dbref}
@@ -8,14 +8,15 @@ use Rattle.muck_model.specs.declared.dbref.Kind.{Kind}
 use Rattle.muck_model.specs.declared.tune.Tune.{Tune}
 use Rattle.muck_prop.specs.declared.value.PropValue.{PropValue}
 use Rattle.spec_live.specs.declared.object.Object.{Object}
-use Rattle.spec_live.specs.Flags.{with_flag, without_flag}
-use Rattle.spec_live.specs.Objects.{Entry, number_in}
+use Rattle.spec_live.specs.Flags.{has_flag, with_flag, without_flag}
+use Rattle.spec_live.specs.Objects.{Entry, same, number_in, object_at}
 use Rattle.spec_live.specs.Moving.{moved}
 use Rattle.spec_live.specs.Making.{created}
 use Rattle.spec_live.specs.Setting.{set_at, lines_set, with_name, with_owner, with_link, with_home, with_flags, with_level, with_password, with_prop, without_prop}
 use Rattle.spec_live.specs.Recycling.{recycled}
 use Rattle.spec_live.specs.Connections.{is_connection_of, left}
-use Rattle.spec_live.specs.Boards.{Board, on_connections}
+use Rattle.spec_live.specs.Boards as boards
+use Rattle.spec_live.specs.Boards.{on_connections, turned}
 use Rattle.spec_live.specs.Lives.{Change, on_objects, on_board}
 
 -- a change of what stands at a number, where an object is there
@@ -25,11 +26,15 @@ at_number f x es = option_map_or (λ n. f n es) (number_in es x) es
 abbrev pub set_object : (Object → Object) → Dbref → Change
 set_object f x = on_objects (at_number (set_at f) x)
 
+-- the same, by which the epoch goes on where the object that is there differs in a field on which levels rest
+abbrev pub object_turned : (Object → Bool) → (Object → Object) → Dbref → Change
+object_turned differs f x w = record { objects = at_number (set_at f) x w.objects; board = turned (option_map_or differs (object_at x w.objects) false) w.board }
+
 unfoldable pub name_given : Dbref → List ℕ → Change
 name_given x name = set_object (with_name name) x
 
 unfoldable pub object_owned_by : Dbref → Dbref → Change
-object_owned_by x owner = set_object (with_owner owner) x
+object_owned_by x owner = object_turned (λ o. not (same o.owner owner)) (with_owner owner) x
 
 unfoldable pub linked : Dbref → Dbref → Change
 linked x to = set_object (with_link to) x
@@ -38,7 +43,7 @@ unfoldable pub homed : Dbref → Dbref → Change
 homed x to = set_object (with_home to) x
 
 unfoldable pub flagged : Dbref → Flags → Change
-flagged x flags = set_object (with_flags flags) x
+flagged x flags = object_turned (λ o. not (o.flags.0 == flags.0)) (with_flags flags) x
 
 -- the values of the bits of flags
 abbrev pub flag_values : List ℕ
@@ -49,13 +54,13 @@ abbrev pub is_flag : Flags → Bool
 is_flag flag = list_any (λ value. value == flag.0) flag_values
 
 unfoldable pub flag_set : Dbref → Flags → Change
-flag_set x flag = set_object (λ o. with_flags (with_flag flag.0 o.flags) o) x
+flag_set x flag = object_turned (λ o. not (has_flag flag.0 o.flags)) (λ o. with_flags (with_flag flag.0 o.flags) o) x
 
 unfoldable pub flag_cleared : Dbref → Flags → Change
-flag_cleared x flag = set_object (λ o. with_flags (without_flag flag.0 o.flags) o) x
+flag_cleared x flag = object_turned (λ o. has_flag flag.0 o.flags) (λ o. with_flags (without_flag flag.0 o.flags) o) x
 
 unfoldable pub leveled : Dbref → ℕ → Change
-leveled x level = set_object (with_level level) x
+leveled x level = object_turned (λ o. not (o.level == level)) (with_level level) x
 
 unfoldable pub password_kept : Dbref → ℕ → List ℕ → Change
 password_kept x salt word = set_object (with_password salt word) x
@@ -77,12 +82,13 @@ moved_at d to es = es
 unfoldable pub moved_to : Dbref → Dbref → Change
 moved_to x to w = on_objects (moved_at (number_in w.objects x) (number_in w.objects to)) w
 
+-- where an object is there it goes, with its flags, its level and its owner
 unfoldable pub recycled_now : Dbref → Change
-recycled_now x = on_objects (at_number recycled x)
+recycled_now x w = record { objects = at_number recycled x w.objects; board = turned (is_some (number_in w.objects x)) w.board }
 
--- an object is made at the number n in the place of the number `to`, with a field set at once
+-- an object is made at the number n in the place of the number `to`, with a field set at once, and flags, a level and an owner come with it
 unfoldable pub created_so : ℕ → Kind → List ℕ → Dbref → ℕ → (Object → Object) → Change
-created_so n kind name owner to f = on_objects (λ es. set_at f n (created n kind name owner to es))
+created_so n kind name owner to f w = record { objects = set_at f n (created n kind name owner to w.objects); board = turned true w.board }
 
 -- The board.
 
@@ -90,8 +96,5 @@ created_so n kind name owner to f = on_objects (λ es. set_at f n (created n kin
 unfoldable pub connections_left : Dbref → Change
 connections_left player = on_board (on_connections (λ c. if is_connection_of player c then left c else c))
 
-abbrev pub with_tune : Tune → Board → Board
-with_tune tune b = record b { tune = tune }
-
 unfoldable pub tuned : Tune → Change
-tuned tune = on_board (with_tune tune)
+tuned tune = on_board (boards.tuned tune)

@@ -15,6 +15,6 @@ returns c =
     let s = c.self.inside in
     let there : position (is_connection c.args.d) s.connections.items ≡ Some c.in_ok-at.at = ap (position (is_connection c.args.d)) (sym c.deref.ensures.value) ∙ sym c.place_of.ensures ∙ c.in_ok-at.was in
     rw (← c.self.view_is) (
-      (λ i. inl (c.index_mut.result.ghost_name, λ w. (ap (λ cs. record { connections = cs; random = s.random; tune = s.tune }) (written c.args.d s.connections.items c.in_ok-at.at w there)) i)),
+      (λ i. inl (c.index_mut.result.ghost_name, λ w. (ap (λ cs. record { connections = cs; random = s.random; tune = s.tune; turns = s.turns }) (written c.args.d s.connections.items c.in_ok-at.at w there)) i)),
       record { writes_back = tt; value = sym (found_at c.args.d s.connections.items c.in_ok-at.at _ there c.index_mut.ensures.value) },
     )

@@ -12,6 +12,6 @@ returns-clause-ok c =
     let s = c.self.inside in
     let cs = s.connections.items in
     let at = c.greater_at-at.ensures.at ∙ ap (position_or_len (λ x. nat_lt c.args.d x.number)) c.deref.ensures.value in
-    ap (λ l. record { connections = l; random = s.random; tune = s.tune })
+    ap (λ l. record { connections = l; random = s.random; tune = s.tune; turns = s.turns })
     (c.in_ok-insert.ensures.items ∙ inserted c.args.d c.in_ok-new.new cs _ (ap (λ x. x.number) c.in_ok-new.ensures) at ∙ ap (λ x. connection_placed x cs) c.in_ok-new.ensures)
     ∙ ap (connection_opened c.args.d c.args.greeting.now) c.self.view_is

@@ -10,9 +10,9 @@ use Rattle.muck_board.proofs.board.Board.tell_where.Goals.{then-hears+in_ok-tell
 
 pub returns-in_err-tell-clause-rest : goal.returns-in_err-tell-clause-rest
 returns-in_err-tell-clause-rest g c =
-    ap (λ cs. record { connections = map quiet cs; random = c.self.inside.random; tune = c.self.inside.tune })
+    ap (λ cs. record { connections = map quiet cs; random = c.self.inside.random; tune = c.self.inside.tune; turns = c.self.inside.turns })
     (with_items_is c.self.inside.connections _ (length-set c.loop-c.c-items c.loop-c.c-index c.tell.new.self ∙ (omega arith)))
-    ∙ ap (λ cs. record { connections = cs; random = c.self.inside.random; tune = c.self.inside.tune })
+    ∙ ap (λ cs. record { connections = cs; random = c.self.inside.random; tune = c.self.inside.tune; turns = c.self.inside.turns })
     (quiet_where quiet _ c.loop-c.c-items c.loop-c.c-index _ c.tell.new.self (omega arith) c.in_err-tell.ensures.rest c.loop-c.invariant.rest ∙ ap (map quiet) c.deref_mut-c-items.ensures.value)
     ∙ ap silent c.self.view_is
 
