@@ -1,6 +1,6 @@
 // Claims.
-ghost use Rattle.std.specs.Prelude.{◌≡◌, not, vec_capacity};
-ghost use Rattle.std.specs.List.{filter};
+ghost use Rattle.std.specs.Prelude.{◌≡◌, ◌&&◌, ◌==◌, not, vec_capacity};
+ghost use Rattle.std.specs.List.{filter, list_any};
 ghost use Rattle.muck_queue.specs.Queues.{is_claimed, is_on};
 
 /// A claim: a party is to run a slice of a process, or to learn that it has ended.
@@ -26,6 +26,13 @@ pub fn is_claimed(claims: &[Claim], pid: i32) -> bool
     ensures { result ≡ is_claimed pid claims.now }
 {
     claims.iter().any(|c| c.is_on(pid))
+}
+
+/// Whether that party has claimed it.
+pub fn has_claim(claims: &[Claim], party: u8, pid: i32) -> bool
+    ensures { result ≡ list_any (λ c. is_on pid c && c.party == party) claims.now }
+{
+    claims.iter().any(|c| c.is_on(pid) && c.party == party)
 }
 
 /// Nobody claims the process of that number any more. The room of its claims stays.

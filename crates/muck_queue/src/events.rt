@@ -1,6 +1,6 @@
 // The events that a process has been sent.
 ghost use Rattle.std.specs.Prelude.{◌≡◌, ◌∷◌, [], ◌++◌, OnOk, OnErr, drop, length, slice_get};
-ghost use Rattle.std.specs.Option.{option_map};
+ghost use Rattle.std.specs.Option.{option_map, option_copied};
 ghost use Rattle.muck_queue.specs.inner.Events.{shown};
 
 use muck_model::NoMemory;
@@ -60,6 +60,13 @@ impl Events {
     {
         self.items.push(event)?;
         Ok(())
+    }
+
+    /// The oldest one, which stays there.
+    pub fn oldest(&self) -> Option<&ProcessEvent>
+        ensures { option_map shown (option_copied result) ≡ slice_get self.now 0 }
+    {
+        self.items.first()
     }
 
     /// Takes out the oldest one; `None`, and nothing has changed, where there is none.

@@ -1,5 +1,5 @@
 // One process.
-ghost use Rattle.std.specs.Prelude.{◌≡◌, ◌&&◌, ◌||◌, OnOk, OnErr, if◌then◌else◌, length, min, slice_get};
+ghost use Rattle.std.specs.Prelude.{◌≡◌, ◌&&◌, ◌||◌, ℕ, IfOk, OnOk, OnErr, if◌then◌else◌, length, min, slice_get};
 ghost use Rattle.std.specs.Option.{option_map};
 ghost use Rattle.muf_model.specs.Datum.{text as text_item};
 ghost use Rattle.muf_model.specs.inner.View.{view};
@@ -13,6 +13,7 @@ use crate::mode::{Mode, Wait};
 use muck_model::{Dbref, Line, NoMemory};
 use muf_model::{Text, Value};
 use muf_running::Running;
+use std::alloc::Global;
 
 /// A process: a program that runs or waits, for whom it runs and what started it.
 #[derive(Drop)]
@@ -264,6 +265,26 @@ impl Process {
         self.due = moment;
         self.section = 0;
         self.receive();
+    }
+}
+
+impl Process {
+    /// A copy of its program as it stands once the process wakes: where it waits for an event, and one has come, it has that. The event
+    /// stays, and what came with it is shared.
+    pub fn copy_awake(&self, alloc: Global) -> Result<Option<Running>, NoMemory>
+        ensures { IfOk result (λ running. (moment : ℕ) → running ≡ (woken moment self.now).running) }
+    {
+        let Some(running) = &self.running else {
+            return Ok(None);
+        };
+        let mut running = running.copy(alloc)?;
+        if self.wait == Wait::ForEvent {
+            if let Some(event) = self.events.oldest() {
+                running.hand(event.data.copy()?);
+                running.hand(Value::Str(event.name.share()?));
+            }
+        }
+        Ok(Some(running))
     }
 }
 

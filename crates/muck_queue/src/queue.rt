@@ -1,8 +1,9 @@
 // The processes of a world.
-ghost use Rattle.std.specs.Prelude.{◌≡◌, ◌≢◌, length, is_some, IfOk, OnOk, OnErr, Some, None};
+ghost use Rattle.std.specs.Prelude.{◌≡◌, ◌≢◌, ◌&&◌, ◌==◌, length, is_some, IfOk, OnOk, OnErr, Some, None};
 ghost use Rattle.std.specs.Option.{option_copied, option_map, option_map_or};
+ghost use Rattle.std.specs.List.{list_any};
 ghost use Rattle.muf_model.specs.inner.View.{view};
-ghost use Rattle.muck_queue.specs.Queues.{empty_queue, process, next_due, claimed, released, on_process, standing, state_of, without_process, is_queue_full, process_added, has_process_tied, is_busy, reader, oldest_event, ended_tied, ended_running, trigger_cleared, number_most, units_counted, resting, sleeping, process_in_mode, told_line, without_event, woken};
+ghost use Rattle.muck_queue.specs.Queues.{empty_queue, process, next_due, claimed, released, on_process, standing, state_of, without_process, is_queue_full, process_added, has_process_tied, is_busy, reader, oldest_event, is_on, ended_tied, ended_running, trigger_cleared, number_most, units_counted, resting, sleeping, process_in_mode, told_line, without_event, woken};
 ghost use Rattle.muck_queue.specs.inner.Adding.{Adds, Sends};
 ghost use Rattle.muck_queue.specs.inner.Events.{shown};
 ghost use Rattle.muck_queue.specs.inner.Leading.{IsNext};
@@ -166,6 +167,13 @@ impl Queue {
             return;
         }
         self.soonest = processes::soonest(&self.processes);
+    }
+
+    /// Whether that party has claimed the process of that number.
+    pub fn has_claim(&self, party: u8, pid: i32) -> bool
+        ensures { result ≡ list_any (λ c. is_on pid c && c.party == party) self.now.claims }
+    {
+        claim::has_claim(&self.claims, party, pid)
     }
 
     /// Nobody claims the process of a number any more; nothing has changed where nobody did.

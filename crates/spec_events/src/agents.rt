@@ -2,6 +2,7 @@
 ghost use Rattle.std.specs.Prelude.{◌≡◌, ℤ, ℕ, true};
 ghost use Rattle.muck_model.specs.declared.dbref.Dbref.{Dbref};
 ghost use Rattle.spec_live.specs.Objects.{dbref_of};
+ghost use Rattle.muck_queue.specs.Queues.{woken};
 ghost use Rattle.muf_model.specs.Source.{Source};
 ghost use Rattle.spec_events.specs.World.{World};
 ghost use Rattle.spec_events.specs.Following.{is_marked, NoneIn};
@@ -22,6 +23,16 @@ impl Agent {
             mode: process.mode,
             units: process.units,
             section: process.section,
+        }
+    }
+
+    /// The same, once the process is awake: a section of its own begins.
+    pub fn awake(process: &Process) -> Self
+        ensures { (moment : ℕ) → result ≡ agent_of (woken moment process.now) }
+    {
+        Agent {
+            section: 0,
+            ..Agent::of(process)
         }
     }
 }

@@ -1,12 +1,18 @@
 -- Slices, by what the code of them answers.
-use Rattle.std.specs.Prelude.{◌≡◌, ◌⊎◌, ℕ, suc, ◌<◌, ◌≤◌, ℤ, Bool, true, false, Option, Some, None}
+use Rattle.std.specs.Prelude.{◌≡◌, ◌⊎◌, ℕ, suc, ◌+◌, ◌<◌, ◌≤◌, length, ℤ, Bool, true, false, Option, Some, None}
 use Rattle.muck_model.specs.declared.tune.Tune.{Tune}
+use Rattle.muck_model.specs.declared.dbref.Dbref.{Dbref}
+use Rattle.spec_rights.specs.declared.act.Actor.{Actor}
 use Rattle.muf_model.specs.Source.{Source}
+use Rattle.muf_running.specs.declared.stint.Ran.{Ran}
+use Rattle.muf_running.specs.declared.stint.Ran.TheVariants.{Asking}
+use Rattle.muf_running.specs.declared.stint.Stint.{Stint}
+use Rattle.muf_running.specs.inner.Stints.{RanAlike, AskedAt}
 use Rattle.muf_model.specs.Unit.{Outcome, goes, asks, units}
 use Rattle.muf_model.specs.Chains.{taken}
 use Rattle.spec_events.specs.declared.starting.Agent.{Agent}
 use Rattle.spec_events.specs.World.{World}
-use Rattle.spec_events.specs.Slices.{Went, on, rest, over, world_of, deed, after_deed, unit_went, is_through, limit_fault, units_run, last_world}
+use Rattle.spec_events.specs.Slices.{acting, Went, on, rest, over, world_of, deed, after_deed, unit_went, is_through, limit_fault, units_run, last_world}
 use Rattle.spec_events.specs.inner.Stints.{allowed, many_counted}
 use Rattle.muck_turns.specs.declared.state.limits.Allowance.{Allowance}
 use Rattle.muck_turns.specs.declared.state.limits.Allowance.TheVariants.{Through, Spent, Units}
@@ -47,3 +53,21 @@ Runs pid x m s w v None = LeadsTo false v (ran pid x (taken m s) s.program.numbe
 abbrev pub Stops : Tune → ℤ → ℕ → World → World → Option ℕ → Type 0
 Stops tune pid n w v (Some left) = (left < n) × (last_world w (units_run tune n pid w) ≡ last_world v (units_run tune left pid v))
 Stops tune pid n w v None = last_world w (units_run tune n pid w) ≡ v
+
+-- and a meter shows those that were taken: with what is left it shows as many together
+abbrev pub MetersOn : Tune → ℤ → ℕ → World → World → ℕ → ℕ → Option ℕ → Type 0
+MetersOn tune pid n w v before shown (Some left) = (shown + left ≤ before + n) × (shown + length (units_run tune left pid v) ≡ before + length (units_run tune n pid w))
+MetersOn tune pid n w v before shown None = shown ≡ before + length (units_run tune n pid w)
+
+-- the unit that a run asks for
+abbrev pub asked_units : Ran → ℕ
+asked_units (Asking p t) = 1
+asked_units r = 0
+
+-- This is what a run of at most so many units left of a process that stood here, in this program, and who acts there.
+pub record TookFrom (most : ℕ) (s : Source) (x : Agent) (a : Actor) (program : Dbref) (stint : Stint) (w : World) : Type 0 where
+  pub ran : RanAlike stint.ran (units most s)
+  pub count : stint.units ≡ taken most s
+  pub asked : AskedAt stint.ran
+  pub acts : a ≡ acting x s w.live.objects
+  pub program : program.0 ≡ s.program.number

@@ -1,5 +1,5 @@
 // How many units a process may take.
-ghost use Rattle.std.specs.Prelude.{◌≡◌, ◌≤◌, ◌<◌, true, false, IfNone, Option};
+ghost use Rattle.std.specs.Prelude.{◌≡◌, ◌≤◌, ◌<◌, true, false, min, IfNone, Option};
 ghost use Rattle.spec_events.specs.Slices.{are_spent, is_through, limit_fault, section_most, units_most_at};
 ghost use Rattle.spec_events.specs.inner.Stints.{allowed, unbroken, unspent};
 ghost use Rattle.muck_turns.specs.inner.Limits.{Allows};
@@ -80,7 +80,8 @@ fn are_spent(most: Option<u32>, units: u64) -> bool
 }
 
 // How many units a process may take without being asked again; less than all of them, where that is beyond what one run takes.
-fn allowed(tune: &Tune, level: u8, agent: &Agent, left: u64) -> u32
+pub(super) fn allowed(tune: &Tune, level: u8, agent: &Agent, left: u64) -> u32
+    ensures exact { result ≡ min (allowed tune.now level left agent.now) 4294967295 }
     ensures most { result ≤ allowed tune.now level left agent.now }
     ensures some { 0 < allowed tune.now level left agent.now → 0 < result }
 {

@@ -13,8 +13,10 @@ ghost use Rattle.muck_turns.specs.inner.Seeing.{SeesNext, views};
 
 use crate::state::State;
 use crate::state::limits::{Allowance, next_allowance};
+use crate::state::slices::slice_most;
 use muck_model::{NoMemory, Tune};
 use muf_debug::{View, Watch};
+use muf_run::Meter;
 use muf_running::Running;
 use spec_hooks::Turned;
 use std::alloc::Global;
@@ -47,7 +49,7 @@ impl State {
         ensures seen { OnOk result (SeesAll W.tells (views_of pid self.old) watch.old watch.new) }
     {
         let tune = self.board.tune();
-        let most = u64::from(tune.instr_slice) + u64::from(tune.preempt_units) + 1;
+        let most = slice_most(&tune);
         self.queue.wake(pid, self.moment);
         self.take_seen(&tune, pid, most, watch)?;
         self.queue.release(pid);
@@ -83,7 +85,7 @@ impl State {
         ensures stops { IfOk result (λ next. Stops tune.now pid left self.old self.new next) }
         ensures seen { IfOk result (λ next. SeesNext W.tells tune.now pid left self.old self.new watch.old watch.new next) }
     {
-        let Some((agent, running)) = self.lend(pid) else {
+        let Some((agent, running)) = self.take_out(pid) else {
             return Ok(None);
         };
         let actor = self.actor(agent, &running)?;
@@ -100,7 +102,7 @@ impl State {
             }
             Allowance::Units(_most) => {
                 show(self.alloc, pid, &running, watch)?;
-                let Some(units) = self.run(pid, agent, actor, running, 1)? else {
+                let Some(units) = self.run(pid, agent, actor, running, 1, &mut Meter::new())? else {
                     return Ok(None);
                 };
                 Ok(Some(left - units))

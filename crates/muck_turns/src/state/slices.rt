@@ -1,17 +1,21 @@
 // Slices: the units of a process, one behind the other.
-ghost use Rattle.std.specs.Prelude.{◌≡◌, OnOk, IfOk};
+ghost use Rattle.std.specs.Prelude.{◌≡◌, ◌<◌, ◌+◌, ◌^◌, ℕ, OnOk, IfOk, IfSome, length};
+ghost use Rattle.std.specs.Option.{option_map, option_map_or};
 ghost use Rattle.muck_model.specs.declared.event.Event.{Event};
-ghost use Rattle.muf_model.specs.Chains.{StandsAt};
-ghost use Rattle.muf_model.specs.Unit.{fault_met};
-ghost use Rattle.spec_events.specs.Slices.{acting, after_deed, broken, deed, last_world, out, units_run, seat, unit_went};
+ghost use Rattle.muf_model.specs.Source.{Source};
+ghost use Rattle.muf_model.specs.Chains.{StandsAt, taken};
+ghost use Rattle.muf_model.specs.Unit.{fault_met, units};
+ghost use Rattle.spec_events.specs.declared.starting.Agent.{Agent};
+ghost use Rattle.spec_events.specs.Slices.{acting, after_deed, broken, deed, last_world, out, units_run, seat, slice_most, unit_went};
+ghost use Rattle.spec_claims.specs.Loans.{loan_most, woken_seat, RanFrom, MetersRest};
 ghost use Rattle.spec_events.specs.Steps.{happened, hooked_by};
 ghost use Rattle.muck_turns.specs.inner.Hooks.{AreTold};
 ghost use Rattle.spec_live.specs.Stood.{IsStill};
-ghost use Rattle.muck_turns.specs.inner.Limits.{LeadsTo, Runs, Stops};
+ghost use Rattle.muck_turns.specs.inner.Limits.{LeadsTo, Runs, Stops, MetersOn, TookFrom, asked_units, ran_units};
 
 use crate::state::State;
 use crate::state::deeds::Done;
-use crate::state::limits::{Allowance, next_allowance};
+use crate::state::limits::{Allowance, allowed, next_allowance};
 use muck_model::{Dbref, NoMemory, Tune};
 use muf_model::{MufFault, Prim};
 use muf_run::Meter;
@@ -22,46 +26,137 @@ use spec_rights::Actor;
 
 impl State {
     /// A slice of a process, which wakes, and then nobody claims it any more. It takes its units until it is over or waits, or the
-    /// slice is through, outside preempt, or one would be too many. Each unit costs what it touches. Before and after those that
-    /// run at once the process is looked for, which is a pass over at most 400.
-    pub fn slice(&mut self, pid: i32) -> Result<(), NoMemory>
+    /// slice is through, outside preempt, or one would be too many; and the meter counts each. Each unit costs what it touches. Before and after
+    /// those that run at once the process is looked for, which is a pass over at most 400.
+    pub fn slice(&mut self, pid: i32, meter: &mut Meter) -> Result<(), NoMemory>
         requires told { AreTold self.old.live.objects }
         requires still { IsStill self.old.live.objects }
-        ensures { OnOk result (self.new ≡ hooked_by self.old (Event.Slice pid) (happened self.old 0 (Event.Slice pid))) }
+        requires room { meter.old < 2 ^ 62 }
+        ensures slice { OnOk result (self.new ≡ hooked_by self.old (Event.Slice pid) (happened self.old 0 (Event.Slice pid))) }
+        ensures meter { OnOk result (MetersRest pid 0 self.old meter.old meter.new) }
     {
-        self.take_slice(pid)?;
+        self.take_slice(pid, meter)?;
         self.hook(Turned::Nobody, None)
     }
 
     // That alone.
     #[tactic(auto, unfolding(spec_events::specs::Slices::sliced))]
-    fn take_slice(&mut self, pid: i32) -> Result<(), NoMemory>
-        ensures { OnOk result (self.new ≡ happened self.old 0 (Event.Slice pid)) }
+    fn take_slice(&mut self, pid: i32, meter: &mut Meter) -> Result<(), NoMemory>
+        requires { meter.old < 2 ^ 62 }
+        ensures slice { OnOk result (self.new ≡ happened self.old 0 (Event.Slice pid)) }
+        ensures meter { OnOk result (MetersRest pid 0 self.old meter.old meter.new) }
     {
         let tune = self.board.tune();
-        let most = u64::from(tune.instr_slice) + u64::from(tune.preempt_units) + 1;
+        let most = slice_most(&tune);
         self.queue.wake(pid, self.moment);
-        self.take_units(&tune, pid, most)?;
+        self.take_units(&tune, pid, most, meter)?;
         self.queue.release(pid);
         Ok(())
     }
 
+    /// A copy of a process as it stands once it is awake, and how many units of its slice it may take without being asked again; `None` exactly where it isn't
+    /// there. Nothing changes.
+    pub fn copy_awake(&self, pid: i32) -> Result<Option<(Running, u32)>, NoMemory>
+        ensures { IfOk result (λ found. found ≡ option_map (λ (at : Agent × Source). (at.1, loan_most self.now at.0 at.1)) (woken_seat pid self.now)) }
+    {
+        let Some(process) = self.queue.get(pid) else {
+            return Ok(None);
+        };
+        let Some(running) = process.copy_awake(self.alloc)? else {
+            return Ok(None);
+        };
+        let agent = Agent::awake(process);
+        let actor = self.actor(agent, &running)?;
+        let tune = self.board.tune();
+        let most = allowed(&tune, actor.level, &agent, slice_most(&tune));
+        Ok(Some((running, most)))
+    }
+
+    /// The same slice as [`State::slice`] makes, of a process of which these units were taken outside, by a copy that stood as it stands here once it is awake.
+    /// The world's own state of it is dropped before the units go on, so that what both share is the copy's alone. The meter counts what is left.
+    pub fn resume(&mut self, pid: i32, stint: Stint, meter: &mut Meter) -> Result<(), NoMemory>
+        requires told { AreTold self.old.live.objects }
+        requires still { IsStill self.old.live.objects }
+        requires room { meter.old < 2 ^ 62 }
+        requires ran { RanFrom pid stint self.old }
+        ensures slice { OnOk result (self.new ≡ hooked_by self.old (Event.Commit pid) (happened self.old 0 (Event.Commit pid))) }
+        ensures meter { OnOk result (MetersRest pid stint.units self.old meter.old meter.new) }
+    {
+        self.take_rest(pid, stint, meter)?;
+        self.hook(Turned::Nobody, None)
+    }
+
+    // That alone.
+    #[tactic(auto, unfolding(spec_events::specs::Slices::sliced))]
+    fn take_rest(&mut self, pid: i32, stint: Stint, meter: &mut Meter) -> Result<(), NoMemory>
+        requires room { meter.old < 2 ^ 62 }
+        requires ran { RanFrom pid stint self.old }
+        ensures slice { OnOk result (self.new ≡ happened self.old 0 (Event.Commit pid)) }
+        ensures meter { OnOk result (MetersRest pid stint.units self.old meter.old meter.new) }
+    {
+        let tune = self.board.tune();
+        let most = slice_most(&tune);
+        self.queue.wake(pid, self.moment);
+        let Some((agent, own)) = self.take_out(pid) else {
+            unreachable!()
+        };
+        let actor = self.actor(agent, &own)?;
+        let program = own.program();
+        drop(own);
+        if let Some(units) = self.took(pid, agent, actor, program, stint, meter)? {
+            self.take_units(&tune, pid, most - units, meter)?;
+        }
+        self.queue.release(pid);
+        Ok(())
+    }
+
+    /// The slice of a process of which a run outside left this, where there is one that counts; and else all of it from its own state.
+    pub fn take_over(&mut self, pid: i32, ran: Option<Stint>, meter: &mut Meter) -> Result<(), NoMemory>
+        requires told { AreTold self.old.live.objects }
+        requires still { IsStill self.old.live.objects }
+        requires room { meter.old < 2 ^ 62 }
+        requires ran { IfSome ran (λ stint. RanFrom pid stint self.old) }
+        ensures slice { OnOk result (self.new ≡ hooked_by self.old (Event.Commit pid) (happened self.old 0 (Event.Commit pid))) }
+        ensures meter { OnOk result (MetersRest pid (option_map_or (λ stint. stint.units) ran 0) self.old meter.old meter.new) }
+    {
+        match ran {
+            Some(stint) => self.resume(pid, stint, meter),
+            None => self.slice(pid, meter),
+        }
+    }
+
     // The units of a process that has so many.
-    fn take_units(&mut self, tune: &Tune, pid: i32, most: u64) -> Result<(), NoMemory>
-        ensures { OnOk result (self.new ≡ last_world self.old (units_run tune.now most pid self.old)) }
+    fn take_units(
+        &mut self,
+        tune: &Tune,
+        pid: i32,
+        most: u64,
+        meter: &mut Meter,
+    ) -> Result<(), NoMemory>
+        requires { meter.old + most < 2 ^ 63 }
+        ensures world { OnOk result (self.new ≡ last_world self.old (units_run tune.now most pid self.old)) }
+        ensures meter { OnOk result (meter.new ≡ meter.old + length (units_run tune.now most pid self.old)) }
     {
         let mut left = most;
-        while let Some(units) = self.stint(tune, pid, left)? {
+        while let Some(units) = self.stint(tune, pid, left, meter)? {
             left = units;
         }
         Ok(())
     }
 
     // As many units as may be taken at once; answers how many are left, where it goes on.
-    fn stint(&mut self, tune: &Tune, pid: i32, left: u64) -> Result<Option<u64>, NoMemory>
-        ensures { IfOk result (λ next. Stops tune.now pid left self.old self.new next) }
+    fn stint(
+        &mut self,
+        tune: &Tune,
+        pid: i32,
+        left: u64,
+        meter: &mut Meter,
+    ) -> Result<Option<u64>, NoMemory>
+        requires { meter.old + left < 2 ^ 63 }
+        ensures stops { IfOk result (λ next. Stops tune.now pid left self.old self.new next) }
+        ensures meter { IfOk result (λ next. MetersOn tune.now pid left self.old self.new meter.old meter.new next) }
     {
-        let Some((agent, running)) = self.lend(pid) else {
+        let Some((agent, running)) = self.take_out(pid) else {
             return Ok(None);
         };
         let actor = self.actor(agent, &running)?;
@@ -72,11 +167,12 @@ impl State {
             }
             Allowance::Spent(fault) => {
                 let program = running.program();
+                meter.tick();
                 self.end_broken(pid, agent.player, program, fault)?;
                 Ok(None)
             }
             Allowance::Units(most) => {
-                let Some(units) = self.run(pid, agent, actor, running, most)? else {
+                let Some(units) = self.run(pid, agent, actor, running, most, meter)? else {
                     return Ok(None);
                 };
                 Ok(Some(left - units))
@@ -93,13 +189,35 @@ impl State {
         actor: Actor,
         running: Running,
         most: u32,
+        meter: &mut Meter,
     ) -> Result<Option<u64>, NoMemory>
-        requires { actor ≡ acting agent running self.old.live.objects }
-        ensures { IfOk result (λ next. Runs pid agent most running self.old self.new next) }
+        requires actor { actor ≡ acting agent running self.old.live.objects }
+        requires room { meter.old < 2 ^ 63 }
+        ensures runs { IfOk result (λ next. Runs pid agent most running self.old self.new next) }
+        ensures meter { IfOk result (λ _. meter.new ≡ meter.old + ran_units (taken most running) (units most running)) }
     {
         let program = running.program();
-        let mut meter = Meter::new();
-        let Stint { ran, units } = running.run(self.alloc, most, &mut meter)?;
+        let stint = running.run(self.alloc, most, meter)?;
+        self.took(pid, agent, actor, program, stint, meter)
+    }
+
+    // What a run left of a process whose state is out: its units are counted, and a shared primitive is used where one is asked for, which is a unit more; answers
+    // how many they were, where it goes on.
+    fn took(
+        &mut self,
+        pid: i32,
+        agent: Agent,
+        actor: Actor,
+        program: Dbref,
+        stint: Stint,
+        meter: &mut Meter,
+    ) -> Result<Option<u64>, NoMemory>
+        requires from { (most : ℕ) × (s : Source) × TookFrom most s agent actor program stint self.old }
+        requires room { meter.old < 18446744073709551615 }
+        ensures runs { (most : ℕ) (s : Source) → TookFrom most s agent actor program stint self.old → IfOk result (λ next. Runs pid agent most s self.old self.new next) }
+        ensures meter { IfOk result (λ _. meter.new ≡ meter.old + asked_units stint.ran) }
+    {
+        let Stint { ran, units } = stint;
         match ran {
             Ran::Going(next) => {
                 self.queue.count(pid, units);
@@ -107,6 +225,7 @@ impl State {
                 Ok(Some(u64::from(units)))
             }
             Ran::Asking(prim, at) => {
+                meter.tick();
                 self.queue.count(pid, units + 1);
                 let goes_on = self.ask(pid, agent, actor, prim, at)?;
                 Ok(if goes_on {
@@ -127,7 +246,7 @@ impl State {
     }
 
     // For whom a process acts as the world is, and its state, which is out of it from now on.
-    pub(super) fn lend(&mut self, pid: i32) -> Option<(Agent, Running)>
+    pub(super) fn take_out(&mut self, pid: i32) -> Option<(Agent, Running)>
         ensures seat { result ≡ seat pid self.old }
         ensures out { self.new ≡ out pid self.old }
     {
@@ -203,4 +322,12 @@ impl State {
         self.board.tell_player(player, text.as_slice())?;
         Ok(())
     }
+}
+
+// The most units of a slice.
+pub(super) fn slice_most(tune: &Tune) -> u64
+    ensures value { result ≡ slice_most tune.now }
+    ensures few { result < 2 ^ 62 }
+{
+    u64::from(tune.instr_slice) + u64::from(tune.preempt_units) + 1
 }

@@ -5,7 +5,7 @@ use Rattle.muck_queue.specs.declared.process.Process.{Process}
 use Rattle.muck_queue.specs.Queues.{state_of}
 use Rattle.muck_queue.proofs.Standing.{none_standing}
 use Rattle.spec_events.specs.World.{World}
-use Rattle.muck_turns.proofs.state.State.lend.Goals as goal
+use Rattle.muck_turns.proofs.state.State.take_out.Goals as goal
 
 pub returns-in_err-get-clause-out : goal.returns-in_err-get-clause-out
 returns-in_err-get-clause-out c =
