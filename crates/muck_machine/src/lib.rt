@@ -2,8 +2,10 @@
 #![tactic(auto)]
 
 mod beginning;
+mod lent;
 mod past;
 mod world;
 
 pub use beginning::Beginning;
+pub use lent::Lent;
 pub use world::{Situation, Sliced, World};

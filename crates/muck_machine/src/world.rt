@@ -16,6 +16,7 @@ ghost use Rattle.muck_machine.specs.inner.Claims.{slice_event};
 ghost use Rattle.muck_turns.specs.inner.Hooks.{AreTold};
 
 mod dumping;
+mod lending;
 mod seeing;
 mod sharing;
 mod situation;
@@ -27,6 +28,7 @@ use muck_library::Library;
 use muck_model::{Entry, Event, Line, NoMemory, Tale, Tune};
 use muck_queue::Queue;
 use muck_turns::{Begun, Dumps, Origin, State, WELCOME};
+use muf_run::Meter;
 pub use situation::Situation;
 use std::alloc::Global;
 use std::marker::Model;
@@ -329,7 +331,7 @@ impl World {
             });
             return Ok(Sliced::Lost);
         }
-        let done = self.state.slice(pid);
+        let done = self.state.slice(pid, &mut Meter::new());
         let entry = Entry {
             party,
             event: Event::Slice { pid },

@@ -1,5 +1,5 @@
 -- What a party may give back, and what it has claimed.
-use Rattle.std.proofs.Common.{◌≡◌, ℕ, ℤ, Bool, true, false, ◌==◌, List, [], ◌∷◌, ◌++◌, refl, sym, ◌∙◌, ap, subst, arith, append_assoc}
+use Rattle.std.proofs.Common.{◌≡◌, ℕ, ℤ, Bool, true, false, ◌==◌, List, [], ◌∷◌, ◌++◌, Option, refl, sym, ◌∙◌, ap, subst, arith, append_assoc}
 use Rattle.std.proofs.lemmas.Bool.Decides.{nat_tests}
 use Rattle.turn_lock.specs.Histories.{entry_kept, own_of}
 use Rattle.turn_lock.specs.declared.view.Place.TheVariants.{Idle}
@@ -17,6 +17,14 @@ use Rattle.muck_machine.specs.inner.Beginnings.{beginning}
 use Rattle.muck_machine.specs.inner.Seats.{Chair, Turned}
 use Rattle.muck_machine.proofs.Seating.{one_bare, held_settled, given_seen, given_root, none_or_more, others_none, rests_turned}
 use Rattle.muck_work.specs.inner.Jobs.{by}
+use Rattle.muck_model.specs.declared.note.Note.{Note}
+use Rattle.muck_model.specs.declared.note.Counted.{Counted}
+use Rattle.muf_model.specs.Source.{Source}
+use Rattle.spec_events.specs.World.{World}
+use Rattle.spec_events.specs.Logged.{loose_notes, loose_count}
+use Rattle.spec_claims.specs.Loans.{Phase, Loan, loan_of, woken_seat, claimed_world, OfClaim}
+use Rattle.muck_machine.specs.inner.Beginnings.{begun}
+use Rattle.muck_work.specs.inner.Claims.{Holds}
 use Rattle.muck_work.specs.inner.Holds.{HasTurn, HasEntered, HasGiven, HasClaimed}
 
 -- an entry without a note
@@ -91,3 +99,29 @@ claim_held whose pid me me' h t claimed =
     ap (λ (es : List Entry). has_claim whose pid (after h.start es)) whole
     ∙ claim_stays h.start (entries_of claimed.0) whose pid (entries_of rest) (subst (AllLawful h.start) whole t.lawful)
     (others_are whose rest (others_none whose me.0.seen rest (others_since whose me me' h t)))
+
+-- What was lent behind the claim is of it still.
+pub claim_open : (whose : ℕ) (pid : ℤ) (That : ℕ → Source → Phase → Type 0) (l : Loan) (me me' : Chair) (h : History) → HasTurn whose me me' h → Holds whose pid That l me.0 → OfClaim whose pid That l h
+claim_open whose pid That l me me' h t k =
+    let rest : List Logged = t.waited.0.0 in
+    let claim : Entry = by whose (Claim pid) in
+    let seen : entries_of me.0.seen ≡ entries_of k.front ++ claim ∷ [] = ap entries_of k.seen ∙ entries_append k.front (k.item ∷ []) ∙ ap (λ (e : Entry). entries_of k.front ++ e ∷ []) k.entry in
+    let whole : h.entries ≡ entries_of k.front ++ claim ∷ entries_of rest =
+    entries_since whose me me' h t ∙ ap (λ (ls : List Logged). entries_of (ls ++ rest)) k.seen ∙ ap entries_of (append_assoc k.front (k.item ∷ []) rest) ∙ entries_append k.front (k.item ∷ rest)
+    ∙ ap (λ (e : Entry). entries_of k.front ++ e ∷ entries_of rest) k.entry
+    in
+    let start : k.start ≡ h.start = same_world k.start h.start k.mounting (loose_notes h) (loose_count h) (sym k.root ∙ sym t.waited.5 ∙ sym t.root) in
+    let there : after k.start (entries_of me.0.seen) ≡ claimed_world h.start (entries_of k.front) whose pid = ap (λ (w : World). after w (entries_of me.0.seen)) start ∙ ap (after h.start) seen in
+    record {
+      front = entries_of k.front;
+      others = entries_of rest;
+      whole = whole;
+      apart = others_are whose rest (others_none whose me.0.seen rest (others_since whose me me' h t));
+      at = k.at;
+      stood = sym (ap (woken_seat pid) there) ∙ k.stood;
+      loan = k.loan ∙ ap (λ (w : World). loan_of whose pid w l.phase k.at) there;
+      that = k.that;
+    }
+  where
+    same_world : (w v : World) (mounting : Note) (notes : List Note) (counted : Option Counted) → begun w mounting ∷ [] ≡ record { world = v; notes = notes; counted = counted } ∷ [] → w ≡ v
+    same_world w v mounting notes counted e = cc

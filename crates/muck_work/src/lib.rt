@@ -1,8 +1,10 @@
 //! What each party of a world that several share does alike: it takes the world, makes one entry, and gives it back; and its turn of work.
 #![tactic(auto)]
 
+mod claims;
 mod holds;
 mod jobs;
 
+pub use claims::{Ending, ends_claim, runs};
 pub use holds::{gives, takes};
 pub use jobs::{Job, does_job};

@@ -36,14 +36,14 @@ invariant_of-self-2 c =
     let back : to_z w32 (of_z w32 c.args.pid) ≡ c.args.pid = search rules in
     let there : is_process_there c.args.pid (now c.args.self.now) ≡ true = ap (λ n. is_process_there n (now c.args.self.now)) (sym back) ∙ sym (c.has_process.ensures c.requires.alive) ∙ c.if-not-has_process.false in
     let may = ap (λ pid. is_lawful (now c.args.self.now) (record { party = c.args.party; event = Slice pid })) back ∙ slice_lawful (now c.args.self.now) c.args.party c.args.pid c.requires.alive c.requires.claim there in
-    keeps_concluded c.self.inside.past _ _ _ _ _ c.slice-done.result c.conclude.result c.self.invariant c.self.view_is may refl c.slice-done.ensures c.conclude.ensures.same c.conclude.ensures.past
+    keeps_concluded c.self.inside.past _ _ _ _ _ c.slice-done.result c.conclude.result c.self.invariant c.self.view_is may refl c.slice-done.ensures.slice c.conclude.ensures.same c.conclude.ensures.past
 
 pub invariant_of-self-in_err-conclude : goal.invariant_of-self-in_err-conclude
 invariant_of-self-in_err-conclude c =
     let back : to_z w32 (of_z w32 c.args.pid) ≡ c.args.pid = search rules in
     let there : is_process_there c.args.pid (now c.args.self.now) ≡ true = ap (λ n. is_process_there n (now c.args.self.now)) (sym back) ∙ sym (c.has_process.ensures c.requires.alive) ∙ c.if-not-has_process.false in
     let may = ap (λ pid. is_lawful (now c.args.self.now) (record { party = c.args.party; event = Slice pid })) back ∙ slice_lawful (now c.args.self.now) c.args.party c.args.pid c.requires.alive c.requires.claim there in
-    keeps_concluded c.self.inside.past _ _ _ _ _ c.slice-done.result c.conclude.result c.self.invariant c.self.view_is may refl c.slice-done.ensures c.conclude.ensures.same c.conclude.ensures.past
+    keeps_concluded c.self.inside.past _ _ _ _ _ c.slice-done.result c.conclude.result c.self.invariant c.self.view_is may refl c.slice-done.ensures.slice c.conclude.ensures.same c.conclude.ensures.past
 
 pub returns-clause-ran : goal.returns-clause-ran
 returns-clause-ran c =
