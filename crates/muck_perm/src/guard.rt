@@ -28,7 +28,7 @@ use muck_board::Board;
 use muck_db::Db;
 use muck_model::{Dbref, Flags, Kind, Line, LineList, NoMemory, Tune};
 use muck_prop::{Path, PropValue};
-use spec_live::DbFault;
+use spec_live::{DbFault, has_flag};
 use spec_rights::{Act, Actor};
 use std::alloc::Global;
 
@@ -380,23 +380,25 @@ impl<'a> Guard<'a> {
     }
 
     // Whether it is there, and has the flag.
+    #[tactic(auto, using(crate::proofs::Flagging::flag_some))]
     fn has_flag(&self, object: Dbref, flag: Flags) -> bool
         requires { is_flag flag ≡ true }
         ensures { result ≡ option_map_or (λ o. has_flag flag.0 o.flags) (object_at object (objects_of self.now)) false }
     {
         match self.db.get(object) {
-            Some(object) => object.flags().has(flag),
+            Some(object) => has_flag(flag.0, object.flags()),
             None => false,
         }
     }
 
     // Whether it is there, and hasn't the flag.
+    #[tactic(auto, using(crate::proofs::Flagging::flag_some))]
     fn lacks_flag(&self, object: Dbref, flag: Flags) -> bool
         requires { is_flag flag ≡ true }
         ensures { result ≡ option_map_or (λ o. not (has_flag flag.0 o.flags)) (object_at object (objects_of self.now)) false }
     {
         match self.db.get(object) {
-            Some(object) => !object.flags().has(flag),
+            Some(object) => !has_flag(flag.0, object.flags()),
             None => false,
         }
     }

@@ -2,23 +2,23 @@
 ghost use Rattle.std.specs.Prelude.{◌≡◌, ◌<◌, ℕ, [], IfSome, length, true, false};
 ghost use Rattle.muck_model.specs.declared.event.Event.{Event};
 ghost use Rattle.spec_events.specs.Histories.{now, entered, by_porter};
-ghost use Rattle.spec_events.specs.Steps.{has_claim};
 ghost use Rattle.muck_peer.specs.Moves.{Clocked, IsUntimed};
-ghost use Rattle.muck_porter.specs.inner.Deeds.{AllOff, IsWantedAt, IsFound, ServedAs, ServedFrom, WorkedAs, DidAs, ClaimOf};
+ghost use Rattle.muck_porter.specs.inner.Deeds.{AllOff, IsWantedAt, IsFound, ServedAs, ServedFrom, WorkedAs, WorkLent, DidAs, ClaimOf};
+ghost use Rattle.muck_work.specs.inner.Claims.{IsOpen};
 
 use muck_io::Clock;
 use muck_machine::World;
 use muck_model::NoMemory;
 use muck_peer::{Chose, Peer, Want, tells_time};
-use muck_work::{Job, does_job};
+use muck_work::{Ending, Job, does_job, ends_claim};
 
 /// A deed that isn't for one peer, nor work.
 #[derive(Drop)]
 pub enum Deed {
     /// The connection of a link that came is opened.
     Open(u32),
-    /// The process that was claimed runs for a slice.
-    Slice(i32),
+    /// The claim that was made ends.
+    End(Ending),
     /// Time goes on.
     Time,
     /// The run is stopped.
@@ -136,7 +136,7 @@ pub fn serves<C: Clock>(
 
 /// One entry of a turn of work.
 pub fn works<C: Clock>(world: &mut World, clock: &mut C, peers: &Vec<Peer>) -> Worked
-    ensures { (event : Event) × (world.new ≡ entered world.old (by_porter event)) × WorkedAs result event × Clocked (C.answers clock.old) (C.answers clock.new) (now world.old) event }
+    ensures { (event : Event) × (world.new ≡ entered world.old (by_porter event)) × WorkedAs result event × WorkLent result (now world.new) × Clocked (C.answers clock.old) (C.answers clock.new) (now world.old) event }
 {
     if world.is_dead() {
         world.died(0);
@@ -170,15 +170,16 @@ fn opens<C: Clock>(world: &mut World, clock: &mut C, d: u32, noted: bool) -> Did
     Did::Timed
 }
 
-// The claimed process runs, or it has ended.
-fn slices(world: &mut World, pid: i32) -> Did
+// The claim ends.
+fn closes(world: &mut World, ending: Ending) -> Did
     requires alive { (now world.old).dead ≡ false }
-    requires claim { has_claim 0 pid (now world.old) ≡ true }
-    ensures { (event : Event) × (world.new ≡ entered world.old (by_porter event)) × DidAs (Deed.Slice pid) result false [] (now world.old) event × IsUntimed event }
+    requires claim { IsOpen 0 ending world.old }
+    ensures { (event : Event) × (world.new ≡ entered world.old (by_porter event)) × DidAs (Deed.End ending) result false [] (now world.old) event × IsUntimed event }
 {
-    match world.slice(0, pid) {
-        Ok(_) => Did::Done,
-        Err(NoMemory) => Did::Dead,
+    if ends_claim(world, 0, ending) {
+        Did::Done
+    } else {
+        Did::Dead
     }
 }
 
@@ -217,22 +218,22 @@ fn halts<C: Clock>(world: &mut World, clock: &mut C) -> Did
 
 /// One entry of any other deed. `noted` tells whether the note of the links was made.
 pub fn does<C: Clock>(
-    deed: &Deed,
+    deed: Deed,
     world: &mut World,
     clock: &mut C,
     peers: &Vec<Peer>,
     noted: bool,
 ) -> Did
-    requires { ClaimOf deed.now (now world.old) }
-    ensures { (event : Event) × (world.new ≡ entered world.old (by_porter event)) × DidAs deed.now result noted peers.now.items (now world.old) event × Clocked (C.answers clock.old) (C.answers clock.new) (now world.old) event }
+    requires { ClaimOf deed world.old }
+    ensures { (event : Event) × (world.new ≡ entered world.old (by_porter event)) × DidAs deed result noted peers.now.items (now world.old) event × Clocked (C.answers clock.old) (C.answers clock.new) (now world.old) event }
 {
     if world.is_dead() {
         world.died(0);
         return Did::Dead;
     }
-    match *deed {
+    match deed {
         Deed::Open(d) => opens(world, clock, d, noted),
-        Deed::Slice(pid) => slices(world, pid),
+        Deed::End(ending) => closes(world, ending),
         Deed::Time => {
             tells_time(world, clock);
             Did::Timed

@@ -112,10 +112,10 @@ impl<'a, 'w, 't, 's, 'l, 'c, 'g, 'r, W: Wait, L: Links, C: Clock, G: Gate, R: Re
     }
 
     /// One hold, for a deed that isn't work. Answers whether it was done; else a moment was entered.
-    pub(crate) fn does(&mut self, deed: &Deed) -> Result<bool, Fault>
-        requires { MayDo deed.now (stand L.tells L.told L.listening C.answers self.old) }
-        ensures goes { Goes (deed_reach deed.now result) (stand L.tells L.told L.listening C.answers self.old) (stand L.tells L.told L.listening C.answers self.new) }
-        ensures last { EndsLast deed.now (stand L.tells L.told L.listening C.answers self.old) (stand L.tells L.told L.listening C.answers self.new) }
+    pub(crate) fn does(&mut self, deed: Deed) -> Result<bool, Fault>
+        requires { MayDo deed (stand L.tells L.told L.listening C.answers self.old) }
+        ensures goes { Goes (deed_reach deed result) (stand L.tells L.told L.listening C.answers self.old) (stand L.tells L.told L.listening C.answers self.new) }
+        ensures last { EndsLast deed (stand L.tells L.told L.listening C.answers self.old) (stand L.tells L.told L.listening C.answers self.new) }
     {
         match begins(
             self.rt,

@@ -12,7 +12,7 @@ use muck_io::{Clock, Gate, Rest, place};
 use muck_links::{Accepted, Links};
 use muck_model::NoMemory;
 use muck_peer::Peer;
-use muck_work::{Job, gives};
+use muck_work::{Ending, Job, gives, runs};
 use std::sync::Wait;
 
 // The most links that are open at once.
@@ -69,7 +69,7 @@ impl<'a, 'w, 't, 's, 'l, 'c, 'g, 'r, W: Wait, L: Links, C: Clock, G: Gate, R: Re
         requires { MayDo Deed.Stop (stand L.tells L.told L.listening C.answers self.old) }
         ensures { Goes (reach Far.free result) (stand L.tells L.told L.listening C.answers self.old) (stand L.tells L.told L.listening C.answers self.new) }
     {
-        match self.does(&Deed::Stop) {
+        match self.does(Deed::Stop) {
             Ok(_) => Ok(()),
             Err(fault) => Err(fault),
         }
@@ -126,7 +126,7 @@ impl<'a, 'w, 't, 's, 'l, 'c, 'g, 'r, W: Wait, L: Links, C: Clock, G: Gate, R: Re
                 Ok(held) => {
                     let mut held = held;
                     let deed = Deed::Open(peer.number());
-                    let did = does(&deed, &mut held.state, self.clock, &*self.peers, self.noted);
+                    let did = does(deed, &mut held.state, self.clock, &*self.peers, self.noted);
                     gives(self.turn, self.seat, held, self.rest);
                     match did {
                         Did::Done => {
@@ -164,7 +164,7 @@ impl<'a, 'w, 't, 's, 'l, 'c, 'g, 'r, W: Wait, L: Links, C: Clock, G: Gate, R: Re
         self.opens()
     }
 
-    // One turn of work: a line is done, or a process runs for a slice, at once behind its claim.
+    // One turn of work: a line is done, or a process is claimed, runs while the porter hasn't the turn, and the claim ends at once behind it.
     fn works_once(&mut self) -> Result<Work, Fault>
         requires { Stands Far.timed (stand L.tells L.told L.listening C.answers self.old) }
         ensures { Goes (reach Far.free result) (stand L.tells L.told L.listening C.answers self.old) (stand L.tells L.told L.listening C.answers self.new) }
@@ -173,16 +173,28 @@ impl<'a, 'w, 't, 's, 'l, 'c, 'g, 'r, W: Wait, L: Links, C: Clock, G: Gate, R: Re
             Ok(worked) => match worked {
                 Worked::Did(job) => match job {
                     Job::Line => Ok(Work::Line),
-                    Job::Claim(pid) => match self.does(&Deed::Slice(pid)) {
-                        Ok(_) => Ok(Work::Busy),
-                        Err(fault) => Err(fault),
-                    },
+                    Job::Claim(pid, lent) => {
+                        let ending = runs(&*self.seat, 0, pid, lent, self.gate);
+                        self.closes(ending)
+                    }
+                    Job::Wants(pid) => self.closes(Ending::Die(pid)),
                     Job::Idle => Ok(Work::Idle),
                     Job::Died => Err(Fault::NoMemory),
                 },
                 Worked::Waits => Ok(Work::Idle),
                 Worked::Ready => Ok(Work::Ready),
             },
+            Err(fault) => Err(fault),
+        }
+    }
+
+    // The claim that was made ends.
+    fn closes(&mut self, ending: Ending) -> Result<Work, Fault>
+        requires { MayDo (Deed.End ending) (stand L.tells L.told L.listening C.answers self.old) }
+        ensures { Goes (reach Far.free result) (stand L.tells L.told L.listening C.answers self.old) (stand L.tells L.told L.listening C.answers self.new) }
+    {
+        match self.does(Deed::End(ending)) {
+            Ok(_) => Ok(Work::Busy),
             Err(fault) => Err(fault),
         }
     }
@@ -225,7 +237,7 @@ impl<'a, 'w, 't, 's, 'l, 'c, 'g, 'r, W: Wait, L: Links, C: Clock, G: Gate, R: Re
             Ok(Work::Idle) => Ok(Round::Idle),
             Ok(Work::Ready) => {
                 self.gate.pass(place::BEFORE_END);
-                match self.does(&Deed::Leave) {
+                match self.does(Deed::Leave) {
                     Ok(left) => Ok(left_round(left)),
                     Err(fault) => Err(fault),
                 }

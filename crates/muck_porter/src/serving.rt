@@ -66,7 +66,7 @@ impl<'a, 'w, 't, 's, 'l, 'c, 'g, 'r, W: Wait, L: Links, C: Clock, G: Gate, R: Re
         ensures goes { Goes (Far.ended result) (stand L.tells L.told L.listening C.answers self.old) (stand L.tells L.told L.listening C.answers self.new) }
         ensures last { EndsLast Deed.Die (stand L.tells L.told L.listening C.answers self.old) (stand L.tells L.told L.listening C.answers self.new) }
     {
-        match self.does(&Deed::Die) {
+        match self.does(Deed::Die) {
             Ok(_) => Fault::NoMemory,
             Err(fault) => fault,
         }
@@ -77,7 +77,7 @@ impl<'a, 'w, 't, 's, 'l, 'c, 'g, 'r, W: Wait, L: Links, C: Clock, G: Gate, R: Re
         requires { Stands Far.free (stand L.tells L.told L.listening C.answers self.old) }
         ensures { Goes (reach Far.timed result) (stand L.tells L.told L.listening C.answers self.old) (stand L.tells L.told L.listening C.answers self.new) }
     {
-        match self.does(&Deed::Time) {
+        match self.does(Deed::Time) {
             Ok(_) => Ok(()),
             Err(fault) => Err(fault),
         }

@@ -1,22 +1,20 @@
 // What a worker does in a hold: one entry.
-ghost use Rattle.std.specs.Prelude.{◌≡◌, ◌<◌, true, false, if◌then◌else◌};
+ghost use Rattle.std.specs.Prelude.{◌≡◌, ◌<◌, false, if◌then◌else◌};
 ghost use Rattle.muck_model.specs.declared.event.Event.{Event};
 ghost use Rattle.spec_events.specs.Histories.{now, entered};
-ghost use Rattle.spec_events.specs.Steps.{has_claim};
 ghost use Rattle.muck_work.specs.inner.Jobs.{by};
 ghost use Rattle.muck_worker.specs.inner.Deeds.{did_as, DidAs, IsOpen};
 
-use muck_machine::{Sliced, World};
-use muck_model::NoMemory;
-use muck_work::{Job, does_job};
+use muck_machine::{Lent, World};
+use muck_work::{Ending, Job, does_job, ends_claim};
 
 /// What a worker has to do in its next turn.
-#[derive(Clone, Copy)]
+#[derive(Drop)]
 pub enum Task {
     /// A line, or a process, if there is any.
     Work,
-    /// A slice of the process that it has claimed.
-    Slice(i32),
+    /// The claim that it has made is to end.
+    Claim(Ending),
     /// It is to end.
     End,
 }
@@ -24,12 +22,14 @@ pub enum Task {
 /// What it did.
 #[derive(Drop)]
 pub enum Did {
-    /// A line was done, or a slice.
+    /// A line was done, or a claim is over.
     Went,
     /// There was nothing to do.
     Idled,
-    /// A process was claimed, and this is to be done with it.
-    Claimed(Task),
+    /// A process was claimed and lent.
+    Claimed(i32, Lent),
+    /// A process was claimed, and memory wanted to lend it.
+    Wants(i32),
     /// There was nothing to do, and the run is stopping.
     Stops,
     /// It has seen that the run is stopping.
@@ -38,17 +38,17 @@ pub enum Did {
     Failed,
 }
 
-// The claimed process runs for a slice, or it has ended.
-fn slices(world: &mut World, party: u8, pid: i32) -> Did
+// The claim ends.
+fn closes(world: &mut World, party: u8, ending: Ending) -> Did
     requires alive { (now world.old).dead ≡ false }
     requires worker { (0 < party) × (party < 9) }
-    requires claim { has_claim party pid (now world.old) ≡ true }
-    ensures { (event : Event) × (world.new ≡ entered world.old (by party event)) × DidAs party (Task.Slice pid) result event }
+    requires claim { IsOpen party (Task.Claim ending) world.old }
+    ensures { (event : Event) × (world.new ≡ entered world.old (by party event)) × DidAs party (Task.Claim ending) result event (now world.new) }
 {
-    match world.slice(party, pid) {
-        Ok(Sliced::Ran) => Did::Went,
-        Ok(Sliced::Lost) => Did::Went,
-        Err(NoMemory) => Did::Failed,
+    if ends_claim(world, party, ending) {
+        Did::Went
+    } else {
+        Did::Failed
     }
 }
 
@@ -65,17 +65,18 @@ fn outcome_of(job: Job, stops: bool) -> Did
 {
     match job {
         Job::Line => Did::Went,
-        Job::Claim(pid) => Did::Claimed(Task::Slice(pid)),
+        Job::Claim(pid, lent) => Did::Claimed(pid, lent),
+        Job::Wants(pid) => Did::Wants(pid),
         Job::Idle => idled(stops),
         Job::Died => Did::Failed,
     }
 }
 
-// A line is done, or a process is claimed, or there is nothing to do.
+// A line is done, or a process is claimed and lent, or there is nothing to do.
 fn serves(world: &mut World, party: u8) -> Did
     requires alive { (now world.old).dead ≡ false }
     requires worker { (0 < party) × (party < 9) }
-    ensures { (event : Event) × (world.new ≡ entered world.old (by party event)) × DidAs party Task.Work result event }
+    ensures { (event : Event) × (world.new ≡ entered world.old (by party event)) × DidAs party Task.Work result event (now world.new) }
 {
     let stops = world.is_stopping();
     let job = does_job(world, party);
@@ -86,7 +87,7 @@ fn serves(world: &mut World, party: u8) -> Did
 fn ends(world: &mut World, party: u8) -> Did
     requires alive { (now world.old).dead ≡ false }
     requires worker { (0 < party) × (party < 9) }
-    ensures { (event : Event) × (world.new ≡ entered world.old (by party event)) × DidAs party Task.End result event }
+    ensures { (event : Event) × (world.new ≡ entered world.old (by party event)) × DidAs party Task.End result event (now world.new) }
 {
     if world.stopped(party) {
         return Did::Over;
@@ -97,8 +98,8 @@ fn ends(world: &mut World, party: u8) -> Did
 /// One entry of a worker.
 pub fn works(world: &mut World, party: u8, task: Task) -> Did
     requires worker { (0 < party) × (party < 9) }
-    requires claim { IsOpen party task (now world.old) }
-    ensures { (event : Event) × (world.new ≡ entered world.old (by party event)) × DidAs party task result event }
+    requires claim { IsOpen party task world.old }
+    ensures { (event : Event) × (world.new ≡ entered world.old (by party event)) × DidAs party task result event (now world.new) }
 {
     if world.is_dead() {
         world.died(party);
@@ -106,7 +107,7 @@ pub fn works(world: &mut World, party: u8, task: Task) -> Did
     }
     match task {
         Task::Work => serves(world, party),
-        Task::Slice(pid) => slices(world, party, pid),
+        Task::Claim(ending) => closes(world, party, ending),
         Task::End => ends(world, party),
     }
 }

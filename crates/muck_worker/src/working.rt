@@ -5,12 +5,12 @@ ghost use Rattle.spec_events.specs.Logged.{bare_item};
 ghost use Rattle.muck_machine.specs.inner.Seats.{Rests, Left, Waited, Turned};
 ghost use Rattle.muck_worker.specs.inner.Working.{WorkerReady, WorkerDone};
 ghost use Rattle.muck_work.specs.inner.Jobs.{by};
-ghost use Rattle.muck_worker.specs.inner.Deeds.{DidAs, IsHeld};
+ghost use Rattle.muck_worker.specs.inner.Deeds.{DidKnown, IsHeld};
 
 use crate::deeds::{Did, Task, works};
 use muck_io::{Gate, Rest, place};
 use muck_machine::World;
-use muck_work::{gives, takes};
+use muck_work::{Ending, gives, runs, takes};
 use std::sync::Wait;
 use turn_lock::{Spent, Turn, TurnSeat};
 
@@ -39,7 +39,7 @@ fn worker_turn<W: Wait, R: Rest>(
     requires rests { Rests party seat.old.me }
     requires claim { IsHeld party task seat.old.me.0 }
     ensures own { (seat.new.table_id ≡ seat.old.table_id) × (seat.new.id ≡ seat.old.id) }
-    ensures ok { IfOk result (λ did. Rests party seat.new.me × ((event : Event) × Turned seat.old.me.0 seat.new.me.0 (bare_item (by party event)) × DidAs party task did event)) }
+    ensures ok { IfOk result (λ did. Rests party seat.new.me × ((event : Event) × Turned seat.old.me.0 seat.new.me.0 (bare_item (by party event)) × DidKnown party task did event seat.new.me.0)) }
     ensures err { OnErr result (Left party seat.new.me × Waited seat.old.me.0 seat.new.me.0 × (2 ^ 62 ≤ length seat.new.me.0.seen)) }
 {
     let held = takes(rt, turn, seat, rest)?;
@@ -49,8 +49,8 @@ fn worker_turn<W: Wait, R: Rest>(
     Ok(did)
 }
 
-/// A worker of this party works until the run is stopped: each turn of it does a line, or claims a process, or slices the one that it
-/// claimed, where there is any; and else it idles, and rests. Its last entry says that it has seen the stop, but after want of
+/// A worker of this party works until the run is stopped: each turn of it does a line, or claims a process, which then runs while it hasn't the turn, or ends that
+/// claim, where there is any; and else it idles, and rests. Its last entry says that it has seen the stop, but after want of
 /// memory or turns. Before that one it passes the gate.
 pub fn worker<W: Wait, G: Gate, R: Rest>(
     rt: &W,
@@ -76,7 +76,8 @@ pub fn worker<W: Wait, G: Gate, R: Rest>(
                 rest.rest(party);
                 task = Task::Work;
             }
-            Ok(Did::Claimed(next)) => task = next,
+            Ok(Did::Claimed(pid, lent)) => task = Task::Claim(runs(seat, party, pid, lent, gate)),
+            Ok(Did::Wants(pid)) => task = Task::Claim(Ending::Die(pid)),
             Ok(Did::Stops) => {
                 gate.pass(place::BEFORE_END);
                 task = Task::End;

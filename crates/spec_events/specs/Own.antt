@@ -3,7 +3,7 @@ use Rattle.std.specs.Prelude.{◌≡◌, ℕ, ℤ, Bool, true, false, ◌==◌, 
 use Rattle.std.specs.Option.{option_and_then, option_map_or}
 use Rattle.std.specs.Ordering.{int_eq}
 use Rattle.muck_model.specs.declared.event.Event.{Event}
-use Rattle.muck_model.specs.declared.event.Event.TheVariants.{Opened, Input, Closed, Moment, Exec, Planned, Claim, Slice, Commit, Lost, Starved, Idle, Take, Cut, Stored, DumpFailed, Halt, StopSeen, Died}
+use Rattle.muck_model.specs.declared.event.Event.TheVariants.{Opened, Input, Closed, Moment, Exec, Planned, Claim, Commit, Lost, Starved, Idle, Take, Cut, Stored, DumpFailed, Halt, StopSeen, Died}
 
 -- What a party did last, as far as it matters for what may follow: nothing that binds it; it entered a moment; it has planned a building; it has
 -- claimed this process; its dump of this number runs; it has seen the stop; it has made the last dump; memory was wanted.
@@ -56,9 +56,8 @@ dumper_may Idle = Some Stage.unbound
 dumper_may StopSeen = Some Stage.stopped
 dumper_may event = None
 
--- what was claimed is sliced at once, or taken over from where it ran outside, or it starved there, or it is learned that it ended
+-- what was claimed runs outside of the hold and is taken over at once, or it wanted memory there, or it is learned that it ended
 abbrev pub claim_may : ℤ → Event → Option Stage
-claim_may pid (Slice n) = if int_eq n pid then Some Stage.unbound else None
 claim_may pid (Commit n) = if int_eq n pid then Some Stage.unbound else None
 claim_may pid (Lost n) = if int_eq n pid then Some Stage.unbound else None
 claim_may pid (Starved n) = if int_eq n pid then Some Stage.unbound else None

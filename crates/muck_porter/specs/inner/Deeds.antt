@@ -3,15 +3,16 @@ use Rattle.std.specs.Prelude.{◌≡◌, ℕ, Bool, true, false, ◌≤◌, ◌<
 use mathlib.Core.Option.{some}
 use lib.ListN.{get_elem?}
 use Rattle.muck_model.specs.declared.event.Event.{Event}
-use Rattle.muck_model.specs.declared.event.Event.TheVariants.{Opened, Closed as ClosedEvent, Moment, Slice as SliceEvent, Lost, Halt, StopSeen, Died}
+use Rattle.muck_model.specs.declared.event.Event.TheVariants.{Opened, Closed as ClosedEvent, Moment, Halt, StopSeen, Died}
 use Rattle.spec_events.specs.World.{World}
-use Rattle.spec_events.specs.Steps.{has_claim}
+use Rattle.spec_events.specs.Histories.{History}
 use Rattle.spec_serve.specs.inner.Keeping.{Peer}
 use Rattle.muck_peer.specs.declared.steps.Want.{Want}
 use Rattle.muck_peer.specs.Moves.{IsWorkedOff, HasCause, IsWanted, PeerStep}
-use Rattle.muck_work.specs.inner.Jobs.{JobAs}
+use Rattle.muck_work.specs.inner.Jobs.{JobAs, IsLent}
+use Rattle.muck_work.specs.inner.Claims.{IsOpen, EndsAs}
 use Rattle.muck_porter.specs.declared.deeds.Deed.{Deed}
-use Rattle.muck_porter.specs.declared.deeds.Deed.TheVariants.{Open, Slice, Time, Stop, Leave, Die}
+use Rattle.muck_porter.specs.declared.deeds.Deed.TheVariants.{Open, End, Time, Stop, Leave, Die}
 use Rattle.muck_porter.specs.declared.deeds.Did.{Did}
 use Rattle.muck_porter.specs.declared.deeds.Did.TheVariants.{Done, Timed, Dead}
 use Rattle.muck_porter.specs.declared.deeds.Served.{Served}
@@ -53,19 +54,24 @@ WorkedAs (DidJob job) event = JobAs job event
 WorkedAs Waits event = IsMoment event
 WorkedAs Ready event = IsMoment event
 
+-- what it lent is the process as it stands behind the claim
+abbrev pub WorkLent : Worked → World → Type 0
+WorkLent (DidJob job) w = IsLent 0 job w
+WorkLent worked w = Unit {0}
+
 -- any other deed: it is done, or a moment is entered
 abbrev pub DidAs : Deed → Did → Bool → List Peer → World → Event → Type 0
 DidAs deed Dead noted peers w event = event ≡ Died
 DidAs (Open d) Done noted peers w event = (event ≡ Opened d) × (noted ≡ false)
-DidAs (Slice pid) Done noted peers w event = (event ≡ SliceEvent pid) ⊎ (event ≡ Lost pid)
-DidAs (Slice pid) Timed noted peers w event = ⊥
+DidAs (End ending) Done noted peers w event = EndsAs ending true event
+DidAs (End ending) Timed noted peers w event = ⊥
 DidAs Stop Done noted peers w event = event ≡ Halt
 DidAs Leave Done noted peers w event = (event ≡ StopSeen) × (w.stopping ≡ true) × AllOff w peers
 DidAs Time Done noted peers w event = ⊥
 DidAs Die answer noted peers w event = ⊥
 DidAs deed Timed noted peers w event = IsMoment event
 
--- what is sliced is claimed by the porter
-abbrev pub ClaimOf : Deed → World → Type 0
-ClaimOf (Slice pid) w = has_claim 0 pid w ≡ true
-ClaimOf deed w = Unit {0}
+-- a claim that is to end is one of the porter's, and what was lent is of it
+abbrev pub ClaimOf : Deed → History → Type 0
+ClaimOf (End ending) h = IsOpen 0 ending h
+ClaimOf deed h = Unit {0}

@@ -7,9 +7,9 @@ use Rattle.muck_links.specs.Sessions.{LinksTold}
 use Rattle.spec_serve.specs.Promises.{Tally}
 use Rattle.spec_serve.specs.inner.Keeping.{Peer, new_peer}
 use Rattle.muck_machine.specs.inner.Seats.{Sight}
-use Rattle.muck_work.specs.inner.Holds.{HasClaimed}
+use Rattle.muck_work.specs.inner.Claims.{IsHeld}
 use Rattle.muck_porter.specs.declared.deeds.Deed.{Deed}
-use Rattle.muck_porter.specs.declared.deeds.Deed.TheVariants.{Slice}
+use Rattle.muck_porter.specs.declared.deeds.Deed.TheVariants.{End}
 use Rattle.muck_porter.specs.inner.Notes.{note_in}
 use Rattle.muck_porter.specs.inner.Kept.{tally, BooksAt, PromisedIn, KeptBy}
 
@@ -50,7 +50,7 @@ abbrev pub LastEntry : Tally → Tally → Sight → Sight → Type 0
 LastEntry k k' v v' = (b : Tally) → PromisedIn b v v.seen k → KeptBy b v' k'
 
 abbrev pub ClaimAt : Deed → Sight → Type 0
-ClaimAt (Slice pid) v = HasClaimed 0 pid v
+ClaimAt (End ending) v = IsHeld 0 ending v
 ClaimAt deed v = Unit {0}
 
 -- A cause to stop the run: listening failed, or no link will come any more and none is open.

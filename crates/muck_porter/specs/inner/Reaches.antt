@@ -4,8 +4,9 @@ use Rattle.muck_work.specs.declared.jobs.Job.{Job}
 use Rattle.muck_work.specs.declared.jobs.Job.TheVariants.{Line, Claim, Idle as JobIdle, Died as JobDied}
 use Rattle.muck_porter.specs.declared.desk.Fault.{Fault}
 use Rattle.muck_porter.specs.declared.desk.Fault.TheVariants.{NoMemory, Spent}
+use Rattle.muck_work.specs.inner.Claims.{pid_of, IsHeld}
 use Rattle.muck_porter.specs.declared.deeds.Deed.{Deed}
-use Rattle.muck_porter.specs.declared.deeds.Deed.TheVariants.{Open, Slice, Time, Stop, Leave, Die}
+use Rattle.muck_porter.specs.declared.deeds.Deed.TheVariants.{Open, End, Time, Stop, Leave, Die}
 use Rattle.muck_porter.specs.declared.deeds.Did.{Did}
 use Rattle.muck_porter.specs.declared.deeds.Did.TheVariants.{Done, Timed, Dead}
 use Rattle.muck_porter.specs.declared.deeds.Worked.{Worked}
@@ -30,7 +31,7 @@ deed_far Leave true = Far.left
 deed_far Leave false = Far.free
 deed_far Die done = Far.ended NoMemory
 deed_far Stop done = Far.free
-deed_far (Slice pid) done = Far.free
+deed_far (End ending) done = Far.free
 deed_far (Open d) done = Far.free
 
 abbrev pub deed_reach : Deed → Result Bool Fault → Far
@@ -86,7 +87,7 @@ MayStop d = (d.broke ≡ true) ⊎ ((d.told.over ≡ true) × (d.peers ≡ []))
 
 -- what has to stand for a deed
 abbrev pub MayDo : Deed → Stand → Type 0
-MayDo (Slice pid) d = Stands (Far.claimed pid) d
+MayDo (End ending) d = Stands (Far.claimed (pid_of ending)) d × IsHeld 0 ending d.me.0
 MayDo Stop d = Stands Far.free d × (d.tells ≡ true → MayStop d)
 MayDo Time d = Stands Far.free d
 MayDo Leave d = Stands Far.free d

@@ -10,16 +10,16 @@ unfoldable pub OwnRows : Type 0
 OwnRows =
     -- the porter idles at once behind a moment, and makes the last dump behind the stop
     IsWellFormed 0 (Opened 1 ∷ Input 1 (codes "WHO") ∷ Moment 1 ∷ Exec 1 ∷ Take 1 5 ∷ Moment 1 ∷ Idle ∷ Closed 1 ∷ Halt ∷ StopSeen ∷ Cut 1 ∷ Stored 1 ∷ [])
-    × IsWellFormed 0 (Claim (pos 1) ∷ Slice (pos 1) ∷ Claim (pos 2) ∷ Lost (pos 2) ∷ [])
+    × IsWellFormed 0 (Claim (pos 1) ∷ Commit (pos 1) ∷ Claim (pos 2) ∷ Lost (pos 2) ∷ [])
     × (is_some (stage_of 0 (Moment 1 ∷ Exec 1 ∷ Idle ∷ [])) ≡ false)
     × (is_some (stage_of 0 (Cut 1 ∷ [])) ≡ false)
     × (is_some (stage_of 0 (StopSeen ∷ Opened 1 ∷ [])) ≡ false)
     × (is_some (stage_of 0 (StopSeen ∷ Cut 1 ∷ DumpFailed 1 ∷ Cut 2 ∷ [])) ≡ false)
-    -- a worker does lines and slices what it claimed at once
-    × IsWellFormed 3 (Exec 1 ∷ Claim (pos 1) ∷ Slice (pos 1) ∷ Idle ∷ Claim (pos 2) ∷ Lost (pos 2) ∷ StopSeen ∷ [])
+    -- a worker does lines, and ends each claim at once; it slices nothing within its hold
+    × IsWellFormed 3 (Exec 1 ∷ Claim (pos 1) ∷ Commit (pos 1) ∷ Idle ∷ Claim (pos 2) ∷ Lost (pos 2) ∷ StopSeen ∷ [])
     × (is_some (stage_of 3 (Claim (pos 1) ∷ Idle ∷ [])) ≡ false)
-    × (is_some (stage_of 3 (Claim (pos 1) ∷ Slice (pos 2) ∷ [])) ≡ false)
-    -- or what was claimed ran outside of the hold and is taken over, or wanted memory there
+    × (is_some (stage_of 3 (Claim (pos 1) ∷ Slice (pos 1) ∷ [])) ≡ false)
+    -- what was claimed is taken over, or wanted memory outside
     × IsWellFormed 3 (Claim (pos 1) ∷ Commit (pos 1) ∷ Claim (pos 2) ∷ Starved (pos 2) ∷ [])
     × (is_some (stage_of 3 (Claim (pos 1) ∷ Commit (pos 2) ∷ [])) ≡ false)
     × (is_some (stage_of 3 (Claim (pos 1) ∷ Starved (pos 2) ∷ [])) ≡ false)
@@ -47,7 +47,7 @@ OwnRows =
     × IsPartyOver 3 (Claim (pos 1) ∷ Died ∷ [])
     × IsPartyOver 9 (Idle ∷ StopSeen ∷ [])
     × (is_over 3 (Claim (pos 1) ∷ []) ≡ false)
-    × (is_over 3 (Claim (pos 1) ∷ Slice (pos 1) ∷ []) ≡ false)
+    × (is_over 3 (Claim (pos 1) ∷ Commit (pos 1) ∷ []) ≡ false)
     × (is_over 9 (Cut 1 ∷ []) ≡ false)
     × (is_over 9 (Cut 1 ∷ Stored 1 ∷ []) ≡ false)
     × (is_over 0 (StopSeen ∷ Cut 1 ∷ []) ≡ false)
