@@ -1,5 +1,5 @@
 -- The units of a slice, many at once.
-use Rattle.std.proofs.Common.{◌≡◌, ℕ, zero, suc, ◌-◌, ◌<◌, ◌≤◌, min, List, Bool, true, false, Option, Some, None, refl, sym, ap, ◌∙◌, subst, arith, inl, inr}
+use Rattle.std.proofs.Common.{◌≡◌, ℕ, zero, suc, ◌+◌, ◌-◌, ◌<◌, ◌≤◌, min, List, length, Bool, true, false, Option, Some, None, refl, sym, ap, ◌∙◌, subst, arith, inl, inr}
 use Rattle.std.specs.Prelude.{ℤ}
 use Rattle.std.specs.Option.{option_map, option_and_then}
 use Rattle.std.proofs.Math.Nat.{min-le_left}
@@ -13,7 +13,8 @@ use Rattle.muf_model.specs.Chains.{count, taken, programs_of, Keeps}
 use Rattle.muf_model.proofs.Chains.{taken_most, taken_some, units_keep}
 use Rattle.muf_running.specs.declared.stint.Ran.{Ran}
 use Rattle.muf_running.specs.declared.stint.Ran.TheVariants.{Going, Asking, Ended, Faulted}
-use Rattle.muf_running.specs.inner.Stints.{RanAlike, Raised}
+use Rattle.muf_running.specs.declared.stint.Stint.{Stint}
+use Rattle.muf_running.specs.inner.Stints.{RanAlike, AskedAt, Raised}
 use Rattle.muck_queue.specs.declared.process.Process.{Process}
 use Rattle.muck_queue.specs.Queues.{Queue, process, units_counted, released}
 use Rattle.muck_queue.proofs.Standing.{none_standing}
@@ -29,12 +30,12 @@ use Rattle.spec_events.specs.Steps.{happened}
 use Rattle.muck_model.specs.declared.event.Event.TheVariants.{Slice}
 use Rattle.spec_events.specs.inner.Stints.{many_counted, unbroken, unspent, allowed}
 use Rattle.spec_events.proofs.Taken.{same_actor}
-use Rattle.spec_events.proofs.Units.{finish, after_turn, finish_none, finish_zero, finish_through, finish_limit, stands_same, stands_moved, broken_moved, counted_moved, resumed, resumed_moved, run_law}
+use Rattle.spec_events.proofs.Units.{Made, plus, none, finish, going_on, finish_none, finish_zero, finish_through, finish_limit, stands_same, stands_moved, broken_moved, counted_moved, resumed, resumed_moved, run_law}
 use Rattle.muck_turns.specs.declared.state.deeds.Done.TheVariants.{Does as DoneDoes, Rests as DoneRests, Fails as DoneFails}
 use Rattle.muck_turns.specs.declared.state.limits.Allowance.{Allowance}
 use Rattle.muck_turns.specs.declared.state.limits.Allowance.TheVariants.{Through, Spent, Units}
 use Rattle.muck_turns.specs.inner.Deeds.{DoneAs}
-use Rattle.muck_turns.specs.inner.Limits.{LeadsTo, Allows, ran, ran_units, Runs, Stops}
+use Rattle.muck_turns.specs.inner.Limits.{LeadsTo, Allows, ran, ran_units, Runs, Stops, MetersOn, TookFrom}
 
 -- How many units a run takes.
 
@@ -154,15 +155,34 @@ module _ (pid : ℤ) (x : Agent) (m u : ℕ) (s : Source) (w v : World) (ran : R
 -- What a run makes of the slice.
 
 module _ (tune : Tune) (pid : ℤ) where
-  after_on : (n : ℕ) (v : World) (t : Went) → LeadsTo true v t → after_turn tune n pid t ≡ finish tune n pid v
+  after_on : (n : ℕ) (v : World) (t : Went) → LeadsTo true v t → going_on tune n pid t ≡ finish tune n pid v
   after_on n v (on w) h = ap (finish tune n pid) h.world
   after_on n v (rest w) h = absurd (let e : false ≡ true = h.goes in cc)
   after_on n v (over w) h = absurd (let e : false ≡ true = h.goes in cc)
 
-  after_off : (n : ℕ) (v : World) (t : Went) → LeadsTo false v t → after_turn tune n pid t ≡ v
+  after_off : (n : ℕ) (v : World) (t : Went) → LeadsTo false v t → going_on tune n pid t ≡ none v
   after_off n v (on w) h = absurd (let e : true ≡ false = h.goes in cc)
-  after_off n v (rest w) h = h.world
-  after_off n v (over w) h = h.world
+  after_off n v (rest w) h = ap none h.world
+  after_off n v (over w) h = ap none h.world
+
+  -- What is to be made is made behind so many units; or it goes on with so many left.
+
+  made_so : (n k : ℕ) (w v : World) → finish tune n pid w ≡ plus k (none v) → Stops tune pid n w v None
+  made_so n k w v e = ap (λ (m : Made). m.world) e
+
+  made_meter : (n k : ℕ) (w v : World) (before shown : ℕ) → finish tune n pid w ≡ plus k (none v) → shown ≡ before + k → MetersOn tune pid n w v before shown None
+  made_meter n k w v before shown e is = let units_are : length (units_run tune n pid w) ≡ k + 0 = ap (λ (m : Made). m.units) e in omega (arith, is, units_are)
+
+  on_so : (n left k : ℕ) (w v : World) → finish tune n pid w ≡ plus k (finish tune left pid v) → left < n → Stops tune pid n w v (Some left)
+  on_so n left k w v e fewer = (fewer, ap (λ (m : Made). m.world) e)
+
+  on_meter : (n left k : ℕ) (w v : World) (before shown : ℕ) → finish tune n pid w ≡ plus k (finish tune left pid v) → left + k ≡ n → shown ≡ before + k → MetersOn tune pid n w v before shown (Some left)
+  on_meter n left k w v before shown e all is =
+      let units_are : length (units_run tune n pid w) ≡ k + length (units_run tune left pid v) = ap (λ (m : Made). m.units) e in
+      (omega (arith, all, is), omega (arith, is, units_are))
+
+  none_plus : (m : Made) → m ≡ plus 0 m
+  none_plus m = let sum : m.units ≡ 0 + m.units = omega arith in ap (λ n. record { world = m.world; units = n }) sum
 
   unlent : (p : Process) (o : Option Source) → option_map {U = Agent × Source} (λ s. (agent_of p, s)) o ≡ None → o ≡ None
   unlent p None e = refl
@@ -173,9 +193,15 @@ module _ (tune : Tune) (pid : ℤ) where
   unseated (Some p) e = unlent p p.running e
 
   -- it isn't there
+  none_made : (n : ℕ) (w v : World) → seat pid w ≡ None → v ≡ out pid w → finish tune n pid w ≡ plus 0 (none v)
+  none_made n w v e is =
+      finish_none tune pid n w e ∙ ap none (sym (is ∙ ap (λ q. record w { queue = q }) (none_standing pid w.queue (unseated (process pid w.queue) e)))) ∙ none_plus (none v)
+
   pub none_so : (n : ℕ) (w v : World) → seat pid w ≡ None → v ≡ out pid w → Stops tune pid n w v None
-  none_so n w v e is =
-      finish_none tune pid n w e ∙ sym (is ∙ ap (λ q. record w { queue = q }) (none_standing pid w.queue (unseated (process pid w.queue) e)))
+  none_so n w v e is = made_so n 0 w v (none_made n w v e is)
+
+  pub none_meter : (n : ℕ) (w v : World) (before shown : ℕ) → seat pid w ≡ None → v ≡ out pid w → shown ≡ before → MetersOn tune pid n w v before shown None
+  none_meter n w v before shown e is same = made_meter n 0 w v before shown (none_made n w v e is) (omega (arith, same))
 
   -- what it may take, by who acts once its state is out
   pub allows_as : (n : ℕ) (x : Agent) (s : Source) (w u : World) (a : Actor) (b : Allowance) → u ≡ out pid w → a ≡ acting x s u.live.objects → Allows tune a.level n x b → Allows tune (acting x s w.live.objects).level n x b
@@ -184,59 +210,106 @@ module _ (tune : Tune) (pid : ℤ) where
 
 module _ (tune : Tune) (pid : ℤ) (x : Agent) where
   -- the world that the state is out of is as good
-  resumed_ran : (n left : ℕ) (program : ℤ) (o : Outcome) (w : World) → resumed tune pid x n left program o w ≡ after_turn tune (left - ran_units n o) pid (ran pid x n program o (out pid w))
-  resumed_ran n left program (asks p t) w = ap (λ v. after_turn tune (left - suc n) pid (after_deed pid x.player t (deed pid x p t v))) (sym (counted_moved pid None (suc n) w))
-  resumed_ran n left program (goes k t) w = sym (resumed_moved tune pid None x n left program (goes k t) w)
-  resumed_ran n left program ended w = sym (resumed_moved tune pid None x n left program ended w)
-  resumed_ran n left program stuck w = sym (resumed_moved tune pid None x n left program stuck w)
-  resumed_ran n left program (faulted f) w = sym (resumed_moved tune pid None x n left program (faulted f) w)
+  asked_more : (n : ℕ) (m : Made) → plus n (plus 1 m) ≡ plus (suc n) m
+  asked_more n m = let sum : n + (1 + m.units) ≡ suc n + m.units = omega arith in ap (λ k. record { world = m.world; units = k }) sum
+
+  resumed_ran : (n left : ℕ) (program : ℤ) (o : Outcome) (w : World) → plus n (resumed tune pid x n left program o w) ≡ plus (ran_units n o) (going_on tune (left - ran_units n o) pid (ran pid x n program o (out pid w)))
+  resumed_ran n left program (asks p t) w =
+      asked_more n (going_on tune (left - suc n) pid (after_deed pid x.player t (deed pid x p t (out pid (many_counted (suc n) pid w)))))
+      ∙ ap (λ v. plus (suc n) (going_on tune (left - suc n) pid (after_deed pid x.player t (deed pid x p t v)))) (sym (counted_moved pid None (suc n) w))
+  resumed_ran n left program (goes k t) w = ap (plus n) (sym (resumed_moved tune pid None x n left program (goes k t) w))
+  resumed_ran n left program ended w = ap (plus n) (sym (resumed_moved tune pid None x n left program ended w))
+  resumed_ran n left program stuck w = ap (plus n) (sym (resumed_moved tune pid None x n left program stuck w))
+  resumed_ran n left program (faulted f) w = ap (plus n) (sym (resumed_moved tune pid None x n left program (faulted f) w))
 
   module _ (n : ℕ) (s : Source) (w v : World) (at : seat pid w ≡ Some (x, s)) (a : Allowance) (allows : Allows tune (acting x s w.live.objects).level n x a) where
     allowed_as : (b : Allowance) → a ≡ b → Allows tune (acting x s w.live.objects).level n x b
     allowed_as b e = subst (λ y. Allows tune (acting x s w.live.objects).level n x y) e allows
 
-    through_by : Allows tune (acting x s w.live.objects).level n x Through → finish tune n pid w ≡ w
+    through_by : Allows tune (acting x s w.live.objects).level n x Through → finish tune n pid w ≡ none w
     through_by (inl e) = ap (λ m. finish tune m pid w) e ∙ finish_zero tune pid w
     through_by (inr e) = finish_through tune pid n x s w at e
 
     -- the slice is through, and it stands where it stood
-    pub through_so : a ≡ Through → v ≡ process_stands_at pid s (out pid w) → Stops tune pid n w v None
-    through_so e is = through_by (allowed_as Through e) ∙ sym (is ∙ stands_moved pid None s w ∙ stands_same pid x s w at)
+    through_made : a ≡ Through → v ≡ process_stands_at pid s (out pid w) → finish tune n pid w ≡ plus 0 (none v)
+    through_made e is = through_by (allowed_as Through e) ∙ ap none (sym (is ∙ stands_moved pid None s w ∙ stands_same pid x s w at)) ∙ none_plus tune pid (none v)
 
-    spent_by : (m : ℕ) (f : MufFault) → m ≡ n → 0 < n → is_through tune n x ≡ false → limit_fault tune (acting x s w.live.objects).level x ≡ Some f → finish tune m pid w ≡ broken pid x.player s.program.number f w
+    pub through_so : a ≡ Through → v ≡ process_stands_at pid s (out pid w) → Stops tune pid n w v None
+    through_so e is = made_so tune pid n 0 w v (through_made e is)
+
+    pub through_meter : (before shown : ℕ) → a ≡ Through → v ≡ process_stands_at pid s (out pid w) → shown ≡ before → MetersOn tune pid n w v before shown None
+    through_meter before shown e is same = made_meter tune pid n 0 w v before shown (through_made e is) (omega (arith, same))
+
+    spent_by : (m : ℕ) (f : MufFault) → m ≡ n → 0 < n → is_through tune n x ≡ false → limit_fault tune (acting x s w.live.objects).level x ≡ Some f → finish tune m pid w ≡ plus 1 (none (broken pid x.player s.program.number f w))
     spent_by zero f e some on_it h = absurd (omega (arith, e, some))
     spent_by (suc m) f e some on_it h = finish_limit tune pid m x s f w at (ap (λ k. is_through tune k x) e ∙ on_it) h
 
     -- it ends by the fault of the unit that would be one too many
-    pub spent_so : (f : MufFault) (program : ℤ) → a ≡ Spent f → program ≡ s.program.number → v ≡ broken pid x.player program f (out pid w) → Stops tune pid n w v None
-    spent_so f program e same is =
+    spent_made : (f : MufFault) (program : ℤ) → a ≡ Spent f → program ≡ s.program.number → v ≡ broken pid x.player program f (out pid w) → finish tune n pid w ≡ plus 1 (none v)
+    spent_made f program e same is =
         let (some, on_it, h) = allowed_as (Spent f) e in
-        spent_by n f refl some on_it h ∙ sym (is ∙ ap (λ k. broken pid x.player k f (out pid w)) same ∙ broken_moved pid None x.player s.program.number f w)
+        spent_by n f refl some on_it h ∙ ap (λ u. plus 1 (none u)) (sym (is ∙ ap (λ k. broken pid x.player k f (out pid w)) same ∙ broken_moved pid None x.player s.program.number f w))
 
-    ran_by : (m : ℕ) → a ≡ Units m → finish tune n pid w ≡ after_turn tune (n - ran_units (taken m s) (units m s)) pid (ran pid x (taken m s) s.program.number (units m s) (out pid w))
-    ran_by m e =
-        let (some, most) = allowed_as (Units m) e in
-        run_law tune pid x m n s w at some most ∙ resumed_ran (taken m s) n s.program.number (units m s) w
+    pub spent_so : (f : MufFault) (program : ℤ) → a ≡ Spent f → program ≡ s.program.number → v ≡ broken pid x.player program f (out pid w) → Stops tune pid n w v None
+    spent_so f program e same is = made_so tune pid n 1 w v (spent_made f program e same is)
+
+    pub spent_meter : (before shown : ℕ) (f : MufFault) (program : ℤ) → a ≡ Spent f → program ≡ s.program.number → v ≡ broken pid x.player program f (out pid w) → shown ≡ before + 1 → MetersOn tune pid n w v before shown None
+    spent_meter before shown f program e same is count = made_meter tune pid n 1 w v before shown (spent_made f program e same is) count
+
+    ran_by : (m : ℕ) → 0 < m → m ≤ allowed tune (acting x s w.live.objects).level n x →
+        finish tune n pid w ≡ plus (ran_units (taken m s) (units m s)) (going_on tune (n - ran_units (taken m s) (units m s)) pid (ran pid x (taken m s) s.program.number (units m s) (out pid w)))
+    ran_by m some most = run_law tune pid x m n s w at some most ∙ resumed_ran (taken m s) n s.program.number (units m s) w
+
+    -- units were taken, as many as may be, and it goes on
+    pub goes_made : (m k : ℕ) (u : World) → 0 < m → m ≤ allowed tune (acting x s w.live.objects).level n x → u ≡ out pid w → Runs pid x m s u v (Some k) → finish tune n pid w ≡ plus k (finish tune (n - k) pid v)
+    goes_made m k u some most is h =
+        ran_by m some most
+        ∙ ap (λ y. plus (ran_units (taken m s) (units m s)) (going_on tune (n - ran_units (taken m s) (units m s)) pid (ran pid x (taken m s) s.program.number (units m s) y))) (sym is)
+        ∙ ap (plus (ran_units (taken m s) (units m s))) (after_on tune pid (n - ran_units (taken m s) (units m s)) v _ h.1)
+        ∙ ap (λ y. plus y (finish tune (n - y) pid v)) (sym h.0)
+
+    -- or it doesn't
+    pub stops_made : (m : ℕ) (u : World) → 0 < m → m ≤ allowed tune (acting x s w.live.objects).level n x → u ≡ out pid w → Runs pid x m s u v None → finish tune n pid w ≡ plus (ran_units (taken m s) (units m s)) (none v)
+    stops_made m u some most is h =
+        ran_by m some most
+        ∙ ap (λ y. plus (ran_units (taken m s) (units m s)) (going_on tune (n - ran_units (taken m s) (units m s)) pid (ran pid x (taken m s) s.program.number (units m s) y))) (sym is)
+        ∙ ap (plus (ran_units (taken m s) (units m s))) (after_off tune pid (n - ran_units (taken m s) (units m s)) v _ h)
 
     pub left_by : (m k : ℕ) → a ≡ Units m → k ≡ ran_units (taken m s) (units m s) → (0 < k) × (k ≤ n)
     left_by m k e is = let (some, most) = allowed_as (Units m) e in ran_left tune (acting x s w.live.objects).level n m k x s some most is
 
-    -- units were taken, and it goes on
     pub goes_so : (m k : ℕ) (u : World) → a ≡ Units m → u ≡ out pid w → Runs pid x m s u v (Some k) → Stops tune pid n w v (Some (n - k))
     goes_so m k u e is h =
         let known = left_by m k e h.0 in
         let some : 0 < k = known.0 in
-        let most : k ≤ n = known.1 in (
-          omega (arith, some, most),
-          ran_by m e ∙ ap (λ y. after_turn tune (n - ran_units (taken m s) (units m s)) pid (ran pid x (taken m s) s.program.number (units m s) y)) (sym is)
-              ∙ after_on tune pid (n - ran_units (taken m s) (units m s)) v _ h.1 ∙ ap (λ y. finish tune (n - y) pid v) (sym h.0),
-        )
+        let most : k ≤ n = known.1 in
+        let may = allowed_as (Units m) e in
+        on_so tune pid n (n - k) k w v (goes_made m k u may.0 may.1 is h) (omega (arith, some, most))
 
-    -- or it doesn't
+    pub goes_meter : (before shown : ℕ) (m k : ℕ) (u : World) → a ≡ Units m → u ≡ out pid w → Runs pid x m s u v (Some k) → shown ≡ before + ran_units (taken m s) (units m s) → MetersOn tune pid n w v before shown (Some (n - k))
+    goes_meter before shown m k u e is h count =
+        let most : k ≤ n = (left_by m k e h.0).1 in
+        let may = allowed_as (Units m) e in
+        on_meter tune pid n (n - k) k w v before shown (goes_made m k u may.0 may.1 is h) (omega (arith, most)) (count ∙ ap (λ y. before + y) (sym h.0))
+
     pub stops_so : (m : ℕ) (u : World) → a ≡ Units m → u ≡ out pid w → Runs pid x m s u v None → Stops tune pid n w v None
-    stops_so m u e is h =
-        ran_by m e ∙ ap (λ y. after_turn tune (n - ran_units (taken m s) (units m s)) pid (ran pid x (taken m s) s.program.number (units m s) y)) (sym is)
-        ∙ after_off tune pid (n - ran_units (taken m s) (units m s)) v _ h
+    stops_so m u e is h = let may = allowed_as (Units m) e in made_so tune pid n (ran_units (taken m s) (units m s)) w v (stops_made m u may.0 may.1 is h)
+
+    pub stops_meter : (before shown : ℕ) (m : ℕ) (u : World) → a ≡ Units m → u ≡ out pid w → Runs pid x m s u v None → shown ≡ before + ran_units (taken m s) (units m s) → MetersOn tune pid n w v before shown None
+    stops_meter before shown m u e is h count = let may = allowed_as (Units m) e in made_meter tune pid n (ran_units (taken m s) (units m s)) w v before shown (stops_made m u may.0 may.1 is h) count
+
+-- What a run outside left.
+
+-- it is what the same run within would have left
+pub took_from : (most : ℕ) (x : Agent) (a : Actor) (program : Dbref) (own s : Source) (stint : Stint) (w : World) → own ≡ s → a ≡ acting x own w.live.objects → program.0 ≡ own.program.number →
+    RanAlike stint.ran (units most s) → stint.units ≡ taken most s → AskedAt stint.ran → TookFrom most s x a program stint w
+took_from most x a program own s stint w same acts number ran count asked = record {
+  ran = ran;
+  count = count;
+  asked = asked;
+  acts = acts ∙ ap (λ t. acting x t w.live.objects) same;
+  program = number ∙ ap (λ (t : Source). t.program.number) same;
+}
 
 -- The whole of it: the process wakes, takes its units, and then nobody claims it.
 pub slice_so : (pid : ℤ) (tune : Tune) (most : ℕ) (w u v : World) → tune ≡ w.live.board.tune → most ≡ slice_most tune → u ≡ process_awake pid w → v ≡ last_world u (units_run tune most pid u) → on_queue (released pid) v ≡ happened w 0 (Slice pid)

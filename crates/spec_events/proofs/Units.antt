@@ -1,5 +1,5 @@
 -- What a process makes of many units at once.
-use Rattle.std.proofs.Common.{◌≡◌, ℕ, zero, suc, ◌-◌, ◌<◌, ◌≤◌, min, Bool, true, false, ◌&&◌, cond, nat_le, List, [], ◌∷◌, map, refl, sym, ◌∙◌, ap, subst, arith, Option, Some, None}
+use Rattle.std.proofs.Common.{◌≡◌, ℕ, zero, suc, ◌+◌, ◌-◌, ◌<◌, ◌≤◌, min, Bool, true, false, ◌&&◌, cond, nat_le, List, [], ◌∷◌, length, map, refl, sym, ◌∙◌, ap, subst, arith, Option, Some, None}
 use Rattle.std.proofs.lemmas.Bool.{cond-true, cond-false, lt-leb, le-leb}
 use Rattle.std.proofs.Math.Nat.{min-le_left, min-le_right}
 use Rattle.std.specs.Prelude.{ℤ}
@@ -24,52 +24,82 @@ use Rattle.muck_queue.proofs.Changed.{changed_twice, process_changed}
 use Rattle.muck_queue.proofs.Standing.{standing_twice, without_standing, standing_same}
 use Rattle.spec_events.specs.declared.starting.Agent.{Agent}
 use Rattle.spec_events.specs.World.{World, on_live, on_queue}
-use Rattle.spec_events.specs.Slices.{acting, program_error, process_done, row_done, queued, deed, process_stands_at, ended_one, broken, out, one_counted, Went, on, rest, over, unit_went, after_deed, unit_done, section_most, limit_fault, are_spent, units_most_at, within_limit, unit_taken, world_of, agent_of, seat_of, seat, then_more, is_through, next_unit, units_run, last_world}
+use Rattle.spec_events.specs.Slices.{acting, program_error, process_done, row_done, queued, deed, process_stands_at, ended_one, broken, out, one_counted, Went, on, rest, over, unit_went, after_deed, unit_done, section_most, limit_fault, are_spent, units_most_at, within_limit, unit_taken, world_of, Taken, unit_of, agent_of, seat_of, seat, then_more, is_through, next_unit, units_run, last_world}
 use Rattle.spec_events.specs.inner.Stints.{many_counted, counting, unbroken, unspent, allowed}
 
--- the world after the units of a process that has so many left
-abbrev pub finish : Tune → ℕ → ℤ → World → World
-finish tune n pid w = last_world w (units_run tune n pid w)
+-- A world, and how many units led to it.
+pub record Made : Type 0 where
+  pub world : World
+  pub units : ℕ
 
--- and after a unit that left so many
-abbrev pub after_turn : Tune → ℕ → ℤ → Went → World
-after_turn tune n pid (on w) = finish tune n pid w
-after_turn tune n pid (rest w) = w
-after_turn tune n pid (over w) = w
+-- behind so many more
+abbrev pub plus : ℕ → Made → Made
+plus n m = record m { units = n + m.units }
+
+abbrev pub made : World → List Taken → Made
+made w ts = record { world = last_world w ts; units = length ts }
+
+abbrev pub none : World → Made
+none w = record { world = w; units = 0 }
+
+-- what the units of a process lead to that has so many left
+abbrev pub finish : Tune → ℕ → ℤ → World → Made
+finish tune n pid w = made w (units_run tune n pid w)
+
+-- what a unit leads to that left so many, without that unit, and with it
+abbrev pub going_on : Tune → ℕ → ℤ → Went → Made
+going_on tune n pid (on w) = finish tune n pid w
+going_on tune n pid (rest w) = none w
+going_on tune n pid (over w) = none w
+
+abbrev pub after_turn : Tune → ℕ → ℤ → Went → Made
+after_turn tune n pid t = plus 1 (going_on tune n pid t)
+
+plus_suc : (k : ℕ) (m : Made) → plus 1 (plus k m) ≡ plus (suc k) m
+plus_suc k m = let sum : 1 + (k + m.units) ≡ suc k + m.units = omega arith in ap (λ x. record { world = m.world; units = x }) sum
+
+plus_zero : (m : Made) → plus 0 m ≡ m
+plus_zero m = let sum : 0 + m.units ≡ m.units = omega arith in ap (λ x. record { world = m.world; units = x }) sum
 
 -- How units of a slice come one behind the other.
 
 module _ (tune : Tune) (pid : ℤ) where
-  turned : (n : ℕ) (t : Went) → last_world (world_of t) (then_more (units_run tune n pid) t) ≡ after_turn tune n pid t
-  turned n (on w) = refl
-  turned n (rest w) = refl
-  turned n (over w) = refl
+  turned : (n : ℕ) (w : World) (t : Taken) → made w (t ∷ then_more (units_run tune n pid) t.turn) ≡ after_turn tune n pid t.turn
+  turned n w t = by_turn t.turn
+    where
+      one : (v : World) (ts : List Taken) → record { world = last_world v ts; units = length (t ∷ ts) } ≡ plus 1 (made v ts)
+      one v ts = let sum : length (t ∷ ts) ≡ 1 + length ts = omega arith in ap (λ x. record { world = last_world v ts; units = x }) sum
+
+      by_turn : (u : Went) → record { world = last_world (world_of u) (then_more (units_run tune n pid) u); units = length (t ∷ then_more (units_run tune n pid) u) } ≡ after_turn tune n pid u
+      by_turn (on v) = one v (units_run tune n pid v)
+      by_turn (rest v) = one v []
+      by_turn (over v) = one v []
 
   -- where none is left, none is taken
-  pub finish_zero : (w : World) → finish tune 0 pid w ≡ w
+  pub finish_zero : (w : World) → finish tune 0 pid w ≡ none w
   unfolding units_run
   finish_zero w = refl
 
   -- a process that isn't there, or whose state is out, takes none
-  pub finish_none : (n : ℕ) (w : World) → seat pid w ≡ None → finish tune n pid w ≡ w
+  pub finish_none : (n : ℕ) (w : World) → seat pid w ≡ None → finish tune n pid w ≡ none w
   unfolding units_run
   finish_none zero w e = refl
-  finish_none (suc n) w e = ap (λ (o : Option (Agent × Source)). last_world w (option_map_or (next_unit tune (suc n) pid w (units_run tune n pid)) o [])) e
+  finish_none (suc n) w e = ap (λ (o : Option (Agent × Source)). made w (option_map_or (next_unit tune (suc n) pid w (units_run tune n pid)) o [])) e
 
   -- nor does one whose slice is through
-  pub finish_through : (n : ℕ) (x : Agent) (s : Source) (w : World) → seat pid w ≡ Some (x, s) → is_through tune n x ≡ true → finish tune n pid w ≡ w
+  pub finish_through : (n : ℕ) (x : Agent) (s : Source) (w : World) → seat pid w ≡ Some (x, s) → is_through tune n x ≡ true → finish tune n pid w ≡ none w
   unfolding units_run
   finish_through zero x s w e h = refl
   finish_through (suc n) x s w e h =
-      ap (λ (o : Option (Agent × Source)). last_world w (option_map_or (next_unit tune (suc n) pid w (units_run tune n pid)) o [])) e
-      ∙ ap (last_world w) (cond-true _ _ _ h)
+      ap (λ (o : Option (Agent × Source)). made w (option_map_or (next_unit tune (suc n) pid w (units_run tune n pid)) o [])) e
+      ∙ ap (made w) (cond-true _ _ _ h)
 
   -- another one takes the next
   pub finish_next : (n : ℕ) (x : Agent) (s : Source) (w : World) → seat pid w ≡ Some (x, s) → is_through tune (suc n) x ≡ false → finish tune (suc n) pid w ≡ after_turn tune n pid (unit_taken tune pid x s w)
   unfolding units_run
   finish_next n x s w e h =
-      ap (λ (o : Option (Agent × Source)). last_world w (option_map_or (next_unit tune (suc n) pid w (units_run tune n pid)) o [])) e
-      ∙ ap (last_world w) (cond-false _ _ _ h) ∙ turned n (unit_taken tune pid x s w)
+      ap (λ (o : Option (Agent × Source)). made w (option_map_or (next_unit tune (suc n) pid w (units_run tune n pid)) o [])) e
+      ∙ ap (made w) (cond-false _ _ _ h) ∙ turned n w (unit_of x s w (unit_taken tune pid x s w))
 
   -- a unit that is one too many ends the process
   pub turn_limit : (x : Agent) (s : Source) (f : MufFault) (w : World) → limit_fault tune (acting x s w.live.objects).level x ≡ Some f → unit_taken tune pid x s w ≡ over (broken pid x.player s.program.number f w)
@@ -81,7 +111,7 @@ module _ (tune : Tune) (pid : ℤ) where
   turn_within x s w e = ap (λ o. within_limit o pid x s w) e
 
   pub finish_limit : (n : ℕ) (x : Agent) (s : Source) (f : MufFault) (w : World) → seat pid w ≡ Some (x, s) → is_through tune (suc n) x ≡ false →
-      limit_fault tune (acting x s w.live.objects).level x ≡ Some f → finish tune (suc n) pid w ≡ broken pid x.player s.program.number f w
+      limit_fault tune (acting x s w.live.objects).level x ≡ Some f → finish tune (suc n) pid w ≡ plus 1 (none (broken pid x.player s.program.number f w))
   finish_limit n x s f w at on_it e = finish_next n x s w at on_it ∙ ap (after_turn tune n pid) (turn_limit x s f w e)
 
 -- Where a process sits.
@@ -162,24 +192,24 @@ counted_twice : (pid : ℤ) (n : ℕ) (w : World) → many_counted n pid (one_co
 counted_twice pid n w =
     ap (λ q. record w { queue = q }) (changed_twice pid (units_counted n) (units_counted 1) (λ p. refl) w.queue ∙ ap (λ (f : Process → Process). on_process pid f w.queue) (λ i p. one_more n p i))
 
--- The world after units that ended so, of a process in the program of this number: before them so many were left, and so many
--- are taken, beside the one that is asked for.
-abbrev pub resumed : Tune → ℤ → Agent → ℕ → ℕ → ℤ → Outcome → World → World
+-- What is left behind units that ended so, of a process in the program of this number: before them so many were left, and so many
+-- are taken, beside the one that is asked for, which is counted with what is left.
+abbrev pub resumed : Tune → ℤ → Agent → ℕ → ℕ → ℤ → Outcome → World → Made
 resumed tune pid x n left program (asks p t) w = after_turn tune (left - suc n) pid (after_deed pid x.player t (deed pid x p t (out pid (many_counted (suc n) pid w))))
-resumed tune pid x n left program o w = after_turn tune (left - n) pid (unit_went pid x.player program o (many_counted n pid w))
+resumed tune pid x n left program o w = going_on tune (left - n) pid (unit_went pid x.player program o (many_counted n pid w))
 
 -- it doesn't depend on the state that the world has of the process
 pub resumed_moved : (tune : Tune) (pid : ℤ) (r : Option Source) (x : Agent) (n left : ℕ) (program : ℤ) (o : Outcome) (w : World) → resumed tune pid x n left program o (on_queue (standing pid r) w) ≡ resumed tune pid x n left program o w
 resumed_moved tune pid r x n left program (asks p t) w =
     ap (λ v. after_turn tune (left - suc n) pid (after_deed pid x.player t (deed pid x p t v))) (ap (out pid) (counted_moved pid r (suc n) w) ∙ out_moved pid r (many_counted (suc n) pid w))
 resumed_moved tune pid r x n left program (goes k t) w =
-    ap (after_turn tune (left - n) pid) (ap (unit_went pid x.player program (goes k t)) (counted_moved pid r n w) ∙ went_moved pid r x.player program (goes k t) (many_counted n pid w))
+    ap (going_on tune (left - n) pid) (ap (unit_went pid x.player program (goes k t)) (counted_moved pid r n w) ∙ went_moved pid r x.player program (goes k t) (many_counted n pid w))
 resumed_moved tune pid r x n left program ended w =
-    ap (after_turn tune (left - n) pid) (ap (unit_went pid x.player program ended) (counted_moved pid r n w) ∙ went_moved pid r x.player program ended (many_counted n pid w))
+    ap (going_on tune (left - n) pid) (ap (unit_went pid x.player program ended) (counted_moved pid r n w) ∙ went_moved pid r x.player program ended (many_counted n pid w))
 resumed_moved tune pid r x n left program stuck w =
-    ap (after_turn tune (left - n) pid) (ap (unit_went pid x.player program stuck) (counted_moved pid r n w) ∙ went_moved pid r x.player program stuck (many_counted n pid w))
+    ap (going_on tune (left - n) pid) (ap (unit_went pid x.player program stuck) (counted_moved pid r n w) ∙ went_moved pid r x.player program stuck (many_counted n pid w))
 resumed_moved tune pid r x n left program (faulted f) w =
-    ap (after_turn tune (left - n) pid) (ap (unit_went pid x.player program (faulted f)) (counted_moved pid r n w) ∙ went_moved pid r x.player program (faulted f) (many_counted n pid w))
+    ap (going_on tune (left - n) pid) (ap (unit_went pid x.player program (faulted f)) (counted_moved pid r n w) ∙ went_moved pid r x.player program (faulted f) (many_counted n pid w))
 
 -- What a shared primitive does doesn't depend on the counts of its process.
 deed_counting : (pid : ℤ) (n : ℕ) (x : Agent) (p : Name) (s : Source) (w : World) → deed pid (counting n x) p s w ≡ deed pid x p s w
@@ -194,10 +224,10 @@ resumed_next tune pid x n left program (asks p t) w =
     ∙ ap (λ m. after_turn tune m pid (after_deed pid x.player t (deed pid x p t (out pid (many_counted (suc (suc n)) pid w))))) rest_left
 resumed_next tune pid x n left program (goes k t) w =
     let rest_left : left - n ≡ suc left - suc n = omega arith in
-    ap (λ v. after_turn tune (left - n) pid (unit_went pid x.player program (goes k t) v)) (counted_twice pid n w) ∙ ap (λ m. after_turn tune m pid (unit_went pid x.player program (goes k t) (many_counted (suc n) pid w))) rest_left
-resumed_next tune pid x n left program ended w = ap (λ v. ended_one pid v) (counted_twice pid n w)
-resumed_next tune pid x n left program stuck w = ap (λ v. ended_one pid v) (counted_twice pid n w)
-resumed_next tune pid x n left program (faulted f) w = ap (λ v. broken pid x.player program f v) (counted_twice pid n w)
+    ap (λ v. going_on tune (left - n) pid (unit_went pid x.player program (goes k t) v)) (counted_twice pid n w) ∙ ap (λ m. going_on tune m pid (unit_went pid x.player program (goes k t) (many_counted (suc n) pid w))) rest_left
+resumed_next tune pid x n left program ended w = ap (λ v. none (ended_one pid v)) (counted_twice pid n w)
+resumed_next tune pid x n left program stuck w = ap (λ v. none (ended_one pid v)) (counted_twice pid n w)
+resumed_next tune pid x n left program (faulted f) w = ap (λ v. none (broken pid x.player program f v)) (counted_twice pid n w)
 
 -- Units that need not be asked.
 
@@ -267,46 +297,46 @@ stays s t e = subst (Keeps (programs_of s)) e (unit_keeps s)
 
 module _ (tune : Tune) (pid : ℤ) (level : ℕ) where
   run_on : (n m : ℕ) (x : Agent) (s : Source) (w : World) (o : Outcome) → unit s ≡ o →
-      ((t : Source) → unit s ≡ goes 0 t → finish tune n pid (process_stands_at pid t (one_counted pid w)) ≡ resumed tune pid x (suc (taken m t)) (suc n) s.program.number (units m t) w) →
-      after_turn tune n pid (unit_done pid x s.program.number o (one_counted pid w)) ≡ resumed tune pid x (count o (taken m)) (suc n) s.program.number (and_then o (units m)) w
-  run_on n m x s w (goes zero t) e h = h t e
-  run_on n m x s w (goes (suc k) t) e h = let left : n ≡ suc n - 1 = omega arith in ap (λ r. finish tune r pid (process_stands_at pid t (one_counted pid w))) left
+      ((t : Source) → unit s ≡ goes 0 t → finish tune n pid (process_stands_at pid t (one_counted pid w)) ≡ plus (taken m t) (resumed tune pid x (suc (taken m t)) (suc n) s.program.number (units m t) w)) →
+      after_turn tune n pid (unit_done pid x s.program.number o (one_counted pid w)) ≡ plus (count o (taken m)) (resumed tune pid x (count o (taken m)) (suc n) s.program.number (and_then o (units m)) w)
+  run_on n m x s w (goes zero t) e h = ap (plus 1) (h t e) ∙ plus_suc (taken m t) (resumed tune pid x (suc (taken m t)) (suc n) s.program.number (units m t) w)
+  run_on n m x s w (goes (suc k) t) e h = let left : n ≡ suc n - 1 = omega arith in ap (λ r. plus 1 (finish tune r pid (process_stands_at pid t (one_counted pid w)))) left
   run_on n m x s w ended e h = refl
   run_on n m x s w stuck e h = refl
   run_on n m x s w (faulted f) e h = refl
   run_on n m x s w (asks p t) e h =
-      let left : n ≡ suc n - 1 = omega arith in ap (λ r. after_turn tune r pid (after_deed pid x.player t (deed pid x p t (out pid (one_counted pid w))))) left
-
-  run_next : (n m : ℕ) (x : Agent) (s : Source) (w : World) → seat pid w ≡ Some (x, s) → level_in w.live.objects (programs_of s) ≡ level → May tune level (suc n) (suc m) x →
-      ((t : Source) → unit s ≡ goes 0 t → finish tune n pid (process_stands_at pid t (one_counted pid w)) ≡ resumed tune pid x (suc (taken m t)) (suc n) s.program.number (units m t) w) →
-      finish tune (suc n) pid w ≡ resumed tune pid x (taken (suc m) s) (suc n) s.program.number (units (suc m) s) w
+      let left : n ≡ suc n - 1 = omega arith in ap (λ r. after_turn tune r pid (after_deed pid x.player t (deed pid x p t (out (deed pid x p t (out pid (one_counted pid w))))) left ∙ sym (plus_zero (resumed tune pid x 0 (suc n) s.program.number (asks p t) w))
+ : (n m : ℕ) (x : Agent) (s : Source) (w : World) → seat pid w ≡ Some (x, s) → level_in w.live.objects (programs_of s) ≡ level → May tune level (suc n) (suc m) x →
+      ((t : Source) → unit s ≡ goes 0 t → finish tune n pid (process_stands_at pid t (one_counted pid w)) ≡ plus (taken m t) (resumed tune pid x (suc (taken m t)) (suc n) s.program.number (units m t) w)) →
+      finish tune (suc n) pid w ≡ plus (taken (suc m) s) (resumed tune pid x (taken (suc m) s) (suc n) s.program.number (units (suc m) s) w)
   run_next n m x s w at is may h =
       finish_next tune pid n x s w at (may_through tune level (suc n) m x may)
       ∙ ap (after_turn tune n pid) (turn_within tune pid x s w (ap (λ l. limit_fault tune l x) (acting_in x s w.live.objects ∙ is) ∙ may_within tune level (suc n) m x may))
       ∙ run_on n m x s w (unit s) refl h
 
   run_by : (m n : ℕ) (x : Agent) (s : Source) (w : World) → seat pid w ≡ Some (x, s) → level_in w.live.objects (programs_of s) ≡ level → May tune level (suc n) (suc m) x →
-      finish tune (suc n) pid w ≡ resumed tune pid x (taken (suc m) s) (suc n) s.program.number (units (suc m) s) w
+      finish tune (suc n) pid w ≡ plus (taken (suc m) s) (resumed tune pid x (taken (suc m) s) (suc n) s.program.number (units (suc m) s) w)
   run_by zero n x s w at is may =
-      run_next n zero x s w at is may (λ t e. let left : n ≡ suc n - 1 = omega arith in ap (λ r. finish tune r pid (process_stands_at pid t (one_counted pid w))) left)
+      run_next n zero x s w at is may (λ t e.
+      let left : n ≡ suc n - 1 = omega arith in ap (λ r. finish tune r pid (process_stands_at pid t (one_counted pid w))) left ∙ sym (plus_zero (resumed tune pid x 1 (suc n) s.program.number (goes 0 t) w)))
   run_by (suc m) zero x s w at is may = absurd (omega (arith, may.by_left))
   run_by (suc m) (suc n) x s w at is may =
       run_next (suc n) (suc m) x s w at is may (λ t e.
       let kept = stays s t e in
       run_by m n (counting 1 x) t (process_stands_at pid t (one_counted pid w)) (seat_moved pid 1 x s t w at) (ap (level_in w.live.objects) kept ∙ is) (may_less tune level (suc n) (suc m) x may)
-      ∙ resumed_moved tune pid (Some t) (counting 1 x) (taken (suc m) t) (suc n) t.program.number (units (suc m) t) (one_counted pid w)
+      ∙ ap (plus (taken (suc m) t)) (resumed_moved tune pid (Some t) (counting 1 x) (taken (suc m) t) (suc n) t.program.number (units (suc m) t) (one_counted pid w)
       ∙ ap (λ number. resumed tune pid (counting 1 x) (taken (suc m) t) (suc n) number (units (suc m) t) (one_counted pid w)) (same_program s t kept)
-      ∙ resumed_next tune pid x (taken (suc m) t) (suc n) s.program.number (units (suc m) t) w)
+      ∙ resumed_next tune pid x (taken (suc m) t) (suc n) s.program.number (units (suc m) t) w))
 
   run_some : (m n : ℕ) (x : Agent) (s : Source) (w : World) → seat pid w ≡ Some (x, s) → level_in w.live.objects (programs_of s) ≡ level → 0 < m → May tune level n m x →
-      finish tune n pid w ≡ resumed tune pid x (taken m s) n s.program.number (units m s) w
+      finish tune n pid w ≡ plus (taken m s) (resumed tune pid x (taken m s) n s.program.number (units m s) w)
   run_some zero n x s w at is some may = absurd (omega (arith, some))
   run_some (suc m) zero x s w at is some may = absurd (omega (arith, may.by_left))
   run_some (suc m) (suc n) x s w at is some may = run_by m n x s w at is may
 
--- Units that are taken at once, as many as may be, change the state of the process and are counted, and nothing else.
+-- Units that are taken at once, as many as may be, change the state of the process and are counted, and nothing else; and with what is left behind them they are as many as one by one.
 pub run_law : (tune : Tune) (pid : ℤ) (x : Agent) (m left : ℕ) (s : Source) (w : World) → seat pid w ≡ Some (x, s) → 0 < m → m ≤ allowed tune (acting x s w.live.objects).level left x →
-    finish tune left pid w ≡ resumed tune pid x (taken m s) left s.program.number (units m s) w
+    finish tune left pid w ≡ plus (taken m s) (resumed tune pid x (taken m s) left s.program.number (units m s) w)
 run_law tune pid x m left s w at some most =
     let is = acting_in x s w.live.objects in
     run_some tune pid (acting x s w.live.objects).level m left x s w at (sym is) some (may_of tune (acting x s w.live.objects).level left m x most)
@@ -333,7 +363,7 @@ allowed_none tune level left x some on_it none =
 
 -- so the process ends by that
 pub finish_met : (tune : Tune) (pid : ℤ) (left : ℕ) (x : Agent) (s : Source) (w : World) → seat pid w ≡ Some (x, s) → 0 < left → is_through tune left x ≡ false → allowed tune (acting x s w.live.objects).level left x ≡ 0 →
-    finish tune left pid w ≡ broken pid x.player s.program.number (limit_met tune x) w
+    finish tune left pid w ≡ plus 1 (none (broken pid x.player s.program.number (limit_met tune x) w))
 finish_met tune pid zero x s w at some on_it none = absurd (omega (arith, some))
 finish_met tune pid (suc n) x s w at some on_it none =
     finish_limit tune pid n x s (limit_met tune x) w at on_it (allowed_none tune (acting x s w.live.objects).level (suc n) x some on_it none)
