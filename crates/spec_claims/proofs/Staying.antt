@@ -98,7 +98,7 @@ unclaimed moment cs pid (p ∷ ps) e = at (has_pid pid p) refl (is_process_due m
     at true has false due e f = f e
     at false has b due e f = f e
 
-allowed : (w : World) (party : ℕ) (event : Event) → is_lawful w (record { party = party; event = event }) ≡ true → is_died event ≡ false → is_allowed w party event ≡ true
+pub allowed : (w : World) (party : ℕ) (event : Event) → is_lawful w (record { party = party; event = event }) ≡ true → is_died event ≡ false → is_allowed w party event ≡ true
 unfolding is_lawful
 allowed w party event lawful other = at w.dead lawful
   where
@@ -111,7 +111,7 @@ may_claim w party pid lawful = unclaimed w.moment w.queue.claims pid w.queue.pro
 
 -- It begins.
 
-claim_entered : (w : World) (party : ℕ) (pid : ℤ) → is_lawful w (record { party = party; event = Claim pid }) ≡ true → IsSole party pid (effect w (record { party = party; event = Claim pid }))
+pub claim_entered : (w : World) (party : ℕ) (pid : ℤ) → is_lawful w (record { party = party; event = Claim pid }) ≡ true → IsSole party pid (effect w (record { party = party; event = Claim pid }))
 unfolding effect claimed
 claim_entered w party pid lawful =
     let c : Claimed = record { number = pid; party = party } in
@@ -170,10 +170,22 @@ module _ (party : ℕ) (pid : ℤ) (w : World) (sole : IsSole party pid w) (othe
   stays_event StopSeen lawful = sole
   stays_event Died lawful = sole
 
+-- and so behind any entry of another party
+pub sole_step : (party : ℕ) (pid : ℤ) (w : World) → IsSole party pid w → (e : Entry) → ¬ (e.party ≡ party) → is_lawful w e ≡ true → IsSole party pid (effect w e)
+sole_step party pid w sole e apart lawful = ap (filter (is_on pid)) (effect-claims w e) ∙ stays_event party pid w sole e.party apart e.event lawful
+
+-- what another has claimed is another process
+pub apart_claimed : (party : ℕ) (pid : ℤ) (w : World) → IsSole party pid w → (other : ℕ) → ¬ (other ≡ party) → (n : ℤ) → has_claim other n w ≡ true → int_eq pid n ≡ false
+apart_claimed party pid w sole other apart n has = at (int_eq pid n) refl
+  where
+    at : (b : Bool) → int_eq pid n ≡ b → b ≡ false
+    at false is = refl
+    at true is = absurd (sole_other party other pid w sole apart (subst (λ k. has_claim other k w ≡ true) (sym (same_pid pid n is)) has))
+
 pub sole_stays : (party : ℕ) (pid : ℤ) (es : List Entry) (w : World) → IsSole party pid w → AllLawful w es → AreOthers party es → IsSole party pid (after w es)
 sole_stays party pid [] w sole lawful others = sole
 sole_stays party pid (e ∷ es) w sole lawful others =
-    sole_stays party pid es (effect w e) (ap (filter (is_on pid)) (effect-claims w e) ∙ stays_event party pid w sole e.party others.0 e.event lawful.0) lawful.1 others.1
+    sole_stays party pid es (effect w e) (sole_step party pid w sole e others.0 lawful.0) lawful.1 others.1
 
 -- Behind a claim and others' entries it is this party's still.
 pub claim_stays : (w : World) (front : List Entry) (party : ℕ) (pid : ℤ) (es : List Entry) → AllLawful w (front ++ record { party = party; event = Claim pid } ∷ es) → AreOthers party es →

@@ -14,3 +14,4 @@ pub mod Makings
 pub mod Behind
 pub mod Recycled
 pub mod Permitted
+pub mod Footed
