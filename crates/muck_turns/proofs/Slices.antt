@@ -1,7 +1,7 @@
 -- The units of a slice, many at once.
-use Rattle.std.proofs.Common.{◌≡◌, ℕ, zero, suc, ◌+◌, ◌-◌, ◌<◌, ◌≤◌, min, List, length, Bool, true, false, Option, Some, None, refl, sym, ap, ◌∙◌, subst, arith, inl, inr}
+use Rattle.std.proofs.Common.{◌≡◌, ℕ, zero, suc, ◌+◌, ◌-◌, ◌^◌, ◌<◌, ◌≤◌, min, List, length, Bool, true, false, Option, Some, None, refl, sym, ap, ◌∙◌, subst, arith, inl, inr}
 use Rattle.std.specs.Prelude.{ℤ}
-use Rattle.std.specs.Option.{option_map, option_and_then}
+use Rattle.std.specs.Option.{option_map, option_map_or, option_and_then}
 use Rattle.std.proofs.Math.Nat.{min-le_left}
 use Rattle.muck_model.specs.declared.dbref.Dbref.{Dbref}
 use Rattle.muck_model.specs.declared.tune.Tune.{Tune}
@@ -25,7 +25,7 @@ use Rattle.spec_events.specs.Following.{settled}
 use Rattle.spec_live.specs.Lives.{tell_player}
 use Rattle.spec_live.specs.Objects.{Entry}
 use Rattle.spec_rights.specs.declared.act.Actor.{Actor}
-use Rattle.spec_events.specs.Slices.{SharedEffect, acting, deed, program_error, process_stands_at, ended_one, broken, out, unit_went, after_deed, Went, on, rest, over, agent_of, seat_of, seat, is_through, limit_fault, slice_most, units_run, last_world, process_awake, sliced}
+use Rattle.spec_events.specs.Slices.{SharedEffect, acting, deed, program_error, process_stands_at, ended_one, broken, out, unit_went, after_deed, Went, on, rest, over, agent_of, seat_of, seat, is_through, limit_fault, slice_most, units_run, units_of, last_world, process_awake, sliced}
 use Rattle.spec_events.specs.Steps.{happened}
 use Rattle.muck_model.specs.declared.event.Event.TheVariants.{Slice}
 use Rattle.spec_events.specs.inner.Stints.{many_counted, unbroken, unspent, allowed}
@@ -35,7 +35,8 @@ use Rattle.muck_turns.specs.declared.state.deeds.Done.TheVariants.{Does as DoneD
 use Rattle.muck_turns.specs.declared.state.limits.Allowance.{Allowance}
 use Rattle.muck_turns.specs.declared.state.limits.Allowance.TheVariants.{Through, Spent, Units}
 use Rattle.muck_turns.specs.inner.Deeds.{DoneAs}
-use Rattle.muck_turns.specs.inner.Limits.{LeadsTo, Allows, ran, ran_units, Runs, Stops, MetersOn, TookFrom}
+use Rattle.muck_turns.specs.inner.Limits.{LeadsTo, Allows, ran, ran_units, asked_units, Runs, Stops, MetersOn, TookFrom}
+use Rattle.spec_claims.specs.Loans.{RanFrom, MetersRest}
 
 -- How many units a run takes.
 
@@ -298,18 +299,71 @@ module _ (tune : Tune) (pid : ℤ) (x : Agent) where
     pub stops_meter : (before shown : ℕ) (m : ℕ) (u : World) → a ≡ Units m → u ≡ out pid w → Runs pid x m s u v None → shown ≡ before + ran_units (taken m s) (units m s) → MetersOn tune pid n w v before shown None
     stops_meter before shown m u e is h count = let may = allowed_as (Units m) e in made_meter tune pid n (ran_units (taken m s) (units m s)) w v before shown (stops_made m u may.0 may.1 is h) count
 
+-- How many units a run is, with the one that it asks for.
+
+pub asked_so : (n : ℕ) (r : Ran) (o : Outcome) → RanAlike r o → n + asked_units r ≡ ran_units n o
+asked_so n (Going t) (goes k u) h = omega arith
+asked_so n (Asking p t) (asks q u) h = omega arith
+asked_so n Ended ended h = omega arith
+asked_so n (Faulted f) (faulted g) h = omega arith
+asked_so n _ _ h = absurd h
+
+pub taken_few : (most : ℕ) (s : Source) (n : ℕ) → n ≡ taken most s → n ≤ most
+taken_few most s n e = let few = taken_most most s in omega (arith, e, few)
+
+pub took_here : (most : ℕ) (s : Source) (x : Agent) (a : Actor) (program : Dbref) (stint : Stint) (w : World) → most < 2 ^ 32 → RanAlike stint.ran (units most s) → stint.units ≡ taken most s → AskedAt stint.ran →
+    a ≡ acting x s w.live.objects → program.0 ≡ s.program.number → TookFrom most s x a program stint w
+took_here most s x a program stint w few ran count asked acts number = record { few = few; ran = ran; count = count; asked = asked; acts = acts; program = number }
+
 -- What a run outside left.
 
--- it is what the same run within would have left
-pub took_from : (most : ℕ) (x : Agent) (a : Actor) (program : Dbref) (own s : Source) (stint : Stint) (w : World) → own ≡ s → a ≡ acting x own w.live.objects → program.0 ≡ own.program.number →
-    RanAlike stint.ran (units most s) → stint.units ≡ taken most s → AskedAt stint.ran → TookFrom most s x a program stint w
-took_from most x a program own s stint w same acts number ran count asked = record {
-  ran = ran;
-  count = count;
-  asked = asked;
-  acts = acts ∙ ap (λ t. acting x t w.live.objects) same;
-  program = number ∙ ap (λ (t : Source). t.program.number) same;
-}
+rest_may : (most : ℕ) (tune tuned : Tune) (left : ℕ) (x y : Agent) (s : Source) (es fs : List Entry) → tune ≡ tuned → left ≡ slice_most tune → x ≡ y → es ≡ fs →
+    most ≤ allowed tuned (acting y s fs).level (slice_most tuned) y → most ≤ allowed tune (acting x s es).level left x
+rest_may most tune tuned left x y s es fs a b c d h =
+    subst (λ n. most ≤ n)
+    (sym (ap (λ n. allowed tune (acting x s es).level n x) b ∙ ap (λ t. allowed t (acting x s es).level (slice_most t) x) a ∙ ap (λ z. allowed tuned (acting z s es).level (slice_most tuned) z) c ∙ ap (λ os. allowed tuned (acting y s os).level (slice_most tuned) y) d)) h
+
+module _ (pid : ℤ) (stint : Stint) (w : World) (r : RanFrom pid stint w) where
+  -- the process is there, once it is awake
+  pub seat_kept : (u : World) → u ≡ process_awake pid w → None ≡ seat pid u → ⊥
+  seat_kept u woke e = let f : ◌≡◌ {A = Option (Agent × Source)} None (Some (r.agent, r.state)) = e ∙ ap (seat pid) woke ∙ r.stands in cc
+
+  module _ (u o : World) (woke : u ≡ process_awake pid w) (lent : o ≡ out pid u) (x : Agent) (own : Source) (found : Some (x, own) ≡ seat pid u) where
+    same_seat : Some (x, own) ≡ Some (r.agent, r.state)
+    same_seat = found ∙ ap (seat pid) woke ∙ r.stands
+
+    agent_is : x ≡ r.agent
+    agent_is = ap (λ (q : Option (Agent × Source)). option_map_or (λ t. t.0) q x) same_seat
+
+    own_is : own ≡ r.state
+    own_is = ap (λ (q : Option (Agent × Source)). option_map_or (λ t. t.1) q own) same_seat
+
+    -- it is what the same run within would have left
+    pub took_rest : (a : Actor) (program : Dbref) → a ≡ acting x own o.live.objects → program.0 ≡ own.program.number → TookFrom r.most r.state x a program stint o
+    took_rest a program acts number =
+        took_here r.most r.state x a program stint o r.few r.ran r.count r.asked (acts ∙ ap (λ t. acting x t o.live.objects) own_is) (number ∙ ap (λ (t : Source). t.program.number) own_is)
+
+    module _ (tune : Tune) (left : ℕ) (v : World) (tuned : tune ≡ w.live.board.tune) (most_is : left ≡ slice_most tune) where
+      stands_here : seat pid u ≡ Some (x, r.state)
+      stands_here = sym found ∙ ap (λ t. Some (x, t)) own_is
+
+      may : r.most ≤ allowed tune (acting x r.state u.live.objects).level left x
+      may = rest_may r.most tune w.live.board.tune left x r.agent r.state u.live.objects w.live.objects tuned most_is agent_is (ap (λ (y : World). y.live.objects) woke) r.within
+
+      -- it goes on, or is over
+      pub rest_goes : (k : ℕ) → Runs pid x r.most r.state o v (Some k) → finish tune left pid u ≡ plus k (finish tune (left - k) pid v)
+      rest_goes k h = goes_made tune pid x left r.state u v stands_here (Units r.most) (r.some, may) r.most k o r.some may lent h
+
+      pub rest_ends : Runs pid x r.most r.state o v None → finish tune left pid u ≡ plus (ran_units (taken r.most r.state) (units r.most r.state)) (none v)
+      rest_ends h = stops_made tune pid x left r.state u v stands_here (Units r.most) (r.some, may) r.most o r.some may lent h
+
+-- The meter of a whole slice.
+pub slice_meter : (pid : ℤ) (tune : Tune) (most : ℕ) (w u : World) (before shown : ℕ) → tune ≡ w.live.board.tune → most ≡ slice_most tune → u ≡ process_awake pid w → shown ≡ before + length (units_run tune most pid u) → MetersRest pid 0 w before shown
+slice_meter pid tune most w u before shown tuned count woke is =
+    let all : length (units_run tune most pid u) ≡ length (units_of pid w)
+        = ap (λ n. length (units_run tune n pid u)) count ∙ ap (λ t. length (units_run t (slice_most t) pid u)) tuned ∙ ap (λ y. length (units_run w.live.board.tune (slice_most w.live.board.tune) pid y)) woke
+    in
+    omega (arith, is, all)
 
 -- The whole of it: the process wakes, takes its units, and then nobody claims it.
 pub slice_so : (pid : ℤ) (tune : Tune) (most : ℕ) (w u v : World) → tune ≡ w.live.board.tune → most ≡ slice_most tune → u ≡ process_awake pid w → v ≡ last_world u (units_run tune most pid u) → on_queue (released pid) v ≡ happened w 0 (Slice pid)

@@ -4,7 +4,7 @@ use Rattle.std.specs.Prelude.{find, is_some, nat_lt, map}
 use Rattle.std.specs.Option.{option_map, option_map_or, option_and_then}
 use Rattle.std.specs.List.{list_any}
 use Rattle.std.proofs.lemmas.Bool.{and_parts, eqb-true, ltb-true, false≢true}
-use Rattle.std.proofs.Math.Nat.{min-le_left}
+use Rattle.std.proofs.Math.Nat.{min-le_left, min-le_right}
 use Rattle.muck_model.specs.declared.dbref.Dbref.{Dbref}
 use Rattle.muck_model.specs.declared.event.Entry.{Entry}
 use Rattle.muck_model.specs.declared.event.Event.TheVariants.{Claim}
@@ -211,12 +211,14 @@ module _ (party : ℕ) (pid : ℤ) (l : Loan) (h : History) (o : OfClaim party p
           ∙ allowed_as behind.live.board.tune (acting o.at.0 o.at.1 behind.live.objects).level (slice_most behind.live.board.tune) o.at.0 x (same_mode s ∙ ap (λ (y : Agent). y.mode) woke.agent) (same_units s ∙ ap (λ (y : Agent). y.units) woke.agent) (same_section ∙ ap (λ (y : Agent). y.section) woke.agent)
           in
           let least = min-le_left (allowed behind.live.board.tune (acting o.at.0 o.at.1 behind.live.objects).level (slice_most behind.live.board.tune) o.at.0) 4294967295 in
+          let last = min-le_right (allowed behind.live.board.tune (acting o.at.0 o.at.1 behind.live.objects).level (slice_most behind.live.board.tune) o.at.0) 4294967295 in
           record {
             agent = x;
             state = o.at.1;
             stands = woken_at pid (now h) ∙ ap (λ (r : Option Process). option_and_then seat_of (option_map (woken (now h).moment) r)) found ∙ ap (option_map (λ t. (x, t))) state;
             most = l.most;
             some = some;
+            few = omega (arith, most, last);
             within = subst (λ n. l.most ≤ n) (sym may) (omega (arith, most, least));
             ran = run.0;
             count = run.1;

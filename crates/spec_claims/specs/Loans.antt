@@ -1,5 +1,5 @@
 -- What is lent of a process that a party has claimed, to run outside of its world; and what becomes of it.
-use Rattle.std.specs.Prelude.{◌≡◌, ◌<◌, ◌≤◌, ◌⊎◌, ℕ, ◌+◌, min, ℤ, Bool, true, false, ◌&&◌, ◌==◌, nat_lt, if◌then◌else◌, length, List, [], ◌∷◌, ◌++◌, Option, Some, None}
+use Rattle.std.specs.Prelude.{◌≡◌, ◌<◌, ◌≤◌, ◌^◌, ◌⊎◌, ℕ, ◌+◌, min, ℤ, Bool, true, false, ◌&&◌, ◌==◌, nat_lt, if◌then◌else◌, length, List, [], ◌∷◌, ◌++◌, Option, Some, None}
 use Rattle.muck_model.specs.declared.event.Entry.{Entry}
 use Rattle.muck_model.specs.declared.event.Event.TheVariants.{Claim}
 use Rattle.spec_live.specs.Boards.{turns_most}
@@ -84,6 +84,7 @@ pub record RanFrom (pid : ℤ) (stint : Stint) (w : World) : Type 0 where
   pub stands : woken_seat pid w ≡ Some (agent, state)
   pub most : ℕ
   pub some : 0 < most
+  pub few : most < 2 ^ 32
   pub within : most ≤ allowed w.live.board.tune (acting agent state w.live.objects).level (slice_most w.live.board.tune) agent
   pub ran : RanAlike stint.ran (units most state)
   pub count : stint.units ≡ taken most state

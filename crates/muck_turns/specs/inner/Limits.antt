@@ -1,5 +1,5 @@
 -- Slices, by what the code of them answers.
-use Rattle.std.specs.Prelude.{◌≡◌, ◌⊎◌, ℕ, suc, ◌+◌, ◌<◌, ◌≤◌, length, ℤ, Bool, true, false, Option, Some, None}
+use Rattle.std.specs.Prelude.{◌≡◌, ◌⊎◌, ℕ, suc, ◌+◌, ◌<◌, ◌≤◌, ◌^◌, length, ℤ, Bool, true, false, Option, Some, None}
 use Rattle.muck_model.specs.declared.tune.Tune.{Tune}
 use Rattle.muck_model.specs.declared.dbref.Dbref.{Dbref}
 use Rattle.spec_rights.specs.declared.act.Actor.{Actor}
@@ -66,6 +66,7 @@ asked_units r = 0
 
 -- This is what a run of at most so many units left of a process that stood here, in this program, and who acts there.
 pub record TookFrom (most : ℕ) (s : Source) (x : Agent) (a : Actor) (program : Dbref) (stint : Stint) (w : World) : Type 0 where
+  pub few : most < 2 ^ 32
   pub ran : RanAlike stint.ran (units most s)
   pub count : stint.units ≡ taken most s
   pub asked : AskedAt stint.ran

@@ -1,62 +1,31 @@
-use Rattle.std.proofs.Common.{◌+◌, true, false, Some, arith, sym, ap, ◌∙◌}
-use Rattle.std.proofs.lemmas.Int.{to_z-of_z}
-use Rattle.muck_queue.specs.Queues.{standing}
-use Rattle.spec_events.specs.inner.Stints.{many_counted}
-use Rattle.spec_events.specs.World.{World}
-use Rattle.spec_events.specs.Slices.{acting, process_stands_at, ended_one}
-use Rattle.muck_turns.specs.contracts.state.State as state
-use Rattle.muck_turns.proofs.Slices.{fewer_so, going_so, acts_so, asking_so, asked_so, ended_so, faulted_so}
+use Rattle.std.proofs.Common.{arith}
+use Rattle.muck_laws.proofs.Results.{if_ok_mapped}
+use Rattle.muf_model.specs.Unit.{units}
+use Rattle.muck_turns.proofs.Slices.{took_here, asked_so, taken_few}
 use Rattle.muck_turns.proofs.state.State.run.Goals as goal
 
-pub overflow_add-units : goal.overflow_add-units
-overflow_add-units c =
-    let r = c.ranges.most in
-    let fewer = fewer_so c.args.most c.in_ok-ran.field-0.units c.args.running c.in-Asking.at c.in-Asking.prim c.in_ok-ran.field-0.ran c.in_ok-ran.ensures.ran c.in-Asking.is c.in_ok-ran.ensures.units in
-    omega arith
+-- the run is one from where the process stands here
+pub took-requires-clause-from : goal.took-requires-clause-from
+took-requires-clause-from c =
+    let most = c.ranges.most in
+    let e = c.in_ok-stint.ensures in
+    (c.args.most, c.args.running, took_here c.args.most c.args.running c.args.agent c.args.actor c.program-program.result c.in_ok-stint.stint c.args.self.now (omega arith) e.ran e.units e.asked c.requires.actor c.program-program.ensures)
 
-pub overflow_add-result : goal.overflow_add-result
-overflow_add-result c =
-    let r = c.ranges.most in
-    let fewer = fewer_so c.args.most c.in_ok-ran.field-0.units c.args.running c.in-Asking.at c.in-Asking.prim c.in_ok-ran.field-0.ran c.in_ok-ran.ensures.ran c.in-Asking.is c.in_ok-ran.ensures.units in
-    let same = c.from-then-goes_on.ensures in
-    omega arith
+pub took-requires-clause-room : goal.took-requires-clause-room
+took-requires-clause-room c =
+    let most = c.ranges.most in
+    let meter = c.in_ok-stint.ensures.meter in
+    let room = c.requires.room in
+    let few = taken_few c.args.most c.args.running c.in_ok-stint.stint.units c.in_ok-stint.ensures.units in
+    omega (arith, most, meter, room, few)
 
-pub returns-in-Going : goal.returns-in-Going
-returns-in-Going c =
-    let h = c.ranges.pid in
-    going_so c.args.pid c.args.agent c.args.most c.in_ok-ran.field-0.units c.args.running c.args.self.now _ c.in_ok-ran.field-0.ran c.in_ok-ran.ensures.ran c.in_ok-ran.ensures.units c.in-Going.next c.from.result c.in-Going.is
-    (ap (λ q. state.the_view (record c.self.inside { queue = q })) ((simp to_z-of_z at c.put_back.ensures) ∙ ap (standing c.args.pid (Some c.in-Going.next)) (simp to_z-of_z at c.count.ensures))
-    ∙ ap (λ y. process_stands_at c.args.pid c.in-Going.next (many_counted c.in_ok-ran.field-0.units c.args.pid y)) c.self.view_is)
-    c.from.ensures
+pub returns-clause-runs : goal.returns-clause-runs
+returns-clause-runs c =
+    let most = c.ranges.most in
+    let e = c.in_ok-stint.ensures in
+    c.took.ensures.runs c.args.most c.args.running (took_here c.args.most c.args.running c.args.agent c.args.actor c.program-program.result c.in_ok-stint.stint c.args.self.now (omega arith) e.ran e.units e.asked c.requires.actor c.program-program.ensures)
 
-pub ask-requires-clause-actor : goal.ask-requires-clause-actor
-ask-requires-clause-actor c =
-    acts_so c.args.pid c.args.agent c.args.most c.in_ok-ran.field-0.units c.args.running c.args.self.now c.args.self.now c.in_ok-ran.field-0.ran c.in_ok-ran.ensures.ran c.in_ok-ran.ensures.units c.in-Asking.prim c.in-Asking.at c.args.actor c.self.inside.db c.in-Asking.is
-    (c.requires ∙ ap (λ (y : World). acting c.args.agent c.args.running y.live.objects) (sym c.self.view_is))
-
-pub returns-then-goes_on : goal.returns-then-goes_on
-returns-then-goes_on c =
-    let h = c.ranges.pid in
-    let same = c.from-then-goes_on.ensures in
-    asking_so c.args.pid c.args.agent c.args.most c.in_ok-ran.field-0.units c.args.running c.args.self.now _ c.in_ok-ran.field-0.ran c.in_ok-ran.ensures.ran c.in_ok-ran.ensures.units c.in-Asking.prim c.in-Asking.at _ (c.in_ok-ran.field-0.units + 1) (c.from-then-goes_on.result + 1) _ c.in-Asking.is
-    (omega arith) (ap (λ q. state.the_view (record c.self.inside { queue = q })) (simp to_z-of_z at c.count-in-Asking.ensures) ∙ ap (many_counted (c.in_ok-ran.field-0.units + 1) c.args.pid) c.self.view_is)
-    c.if-goes_on.true (simp to_z-of_z at c.in_ok-goes_on-in-Asking.ensures) (omega arith)
-
-pub returns-else-goes_on : goal.returns-else-goes_on
-returns-else-goes_on c =
-    let h = c.ranges.pid in
-    asked_so c.args.pid c.args.agent c.args.most c.in_ok-ran.field-0.units c.args.running c.args.self.now _ c.in_ok-ran.field-0.ran c.in_ok-ran.ensures.ran c.in_ok-ran.ensures.units c.in-Asking.prim c.in-Asking.at _ (c.in_ok-ran.field-0.units + 1) _ c.in-Asking.is
-    (omega arith) (ap (λ q. state.the_view (record c.self.inside { queue = q })) (simp to_z-of_z at c.count-in-Asking.ensures) ∙ ap (many_counted (c.in_ok-ran.field-0.units + 1) c.args.pid) c.self.view_is)
-    c.if-goes_on.false (simp to_z-of_z at c.in_ok-goes_on-in-Asking.ensures)
-
-pub returns-in-Ended : goal.returns-in-Ended
-returns-in-Ended c =
-    let h = c.ranges.pid in
-    ended_so c.args.pid c.args.agent c.args.most c.in_ok-ran.field-0.units c.args.running c.args.self.now _ c.in_ok-ran.field-0.ran c.in_ok-ran.ensures.ran c.in_ok-ran.ensures.units c.in-Ended.is
-    (ap (λ q. state.the_view (record c.self.inside { queue = q })) (simp to_z-of_z at c.kill.ensures.rest) ∙ ap (ended_one c.args.pid) c.self.view_is)
-
-pub returns-in_ok-end_broken-in-Faulted : goal.returns-in_ok-end_broken-in-Faulted
-returns-in_ok-end_broken-in-Faulted c =
-    let h = c.ranges.pid in
-    faulted_so c.args.pid c.args.agent c.args.most c.in_ok-ran.field-0.units c.args.running c.args.self.now _ c.in_ok-ran.field-0.ran c.in_ok-ran.ensures.ran c.in_ok-ran.ensures.units c.in-Faulted.fault c.program-program.result.0 c.in-Faulted.is c.program-program.ensures
-    (simp to_z-of_z at c.in_ok-end_broken-in-Faulted.ensures)
+pub returns-clause-meter : goal.returns-clause-meter
+returns-clause-meter c =
+    let e = c.in_ok-stint.ensures in
+    if_ok_mapped _ _ c.took.result (λ next took. let all = asked_so _ c.in_ok-stint.stint.ran (units c.args.most c.args.running) e.ran in let meter = e.meter in let count = e.units in omega (arith, took, meter, count, all)) c.took.ensures.meter

@@ -48,27 +48,27 @@ pub returns-in_default-2-clause-stops : goal.returns-in_default-2-clause-stops
 returns-in_default-2-clause-stops g c =
     let h = c.ranges.pid in
     let known = subst (Allows c.args.tune.now (acting c.in-Some.agent c.in-Some.running c.args.self.now.live.objects).level c.args.left c.in-Some.agent) c.in-Units.is (allows_as c.args.tune.now c.args.pid c.args.left c.in-Some.agent c.in-Some.running c.args.self.now c.take_out.new.self c.in_ok-actor.actor c.next_allowance.result (simp to_z-of_z at c.take_out.ensures.out) c.in_ok-actor.ensures c.next_allowance.ensures) in
-    stops_so c.args.tune.now c.args.pid c.in-Some.agent c.args.left c.in-Some.running c.args.self.now _ (sym (simp to_z-of_z at c.in-Some.ensures.seat)) (Units 1) (omega arith, omega (arith, known.0, known.1)) 1 c.take_out.new.self refl (simp to_z-of_z at c.take_out.ensures.out) (subst (Runs c.args.pid c.in-Some.agent 1 c.in-Some.running c.take_out.new.self c.run.new.self) c.in_default-2.is (simp to_z-of_z at c.in_ok-units-in-Units.ensures))
+    stops_so c.args.tune.now c.args.pid c.in-Some.agent c.args.left c.in-Some.running c.args.self.now _ (sym (simp to_z-of_z at c.in-Some.ensures.seat)) (Units 1) (omega arith, omega (arith, known.0, known.1)) 1 c.take_out.new.self refl (simp to_z-of_z at c.take_out.ensures.out) (subst (Runs c.args.pid c.in-Some.agent 1 c.in-Some.running c.take_out.new.self c.run.new.self) c.in_default-2.is (simp to_z-of_z at c.in_ok-units-in-Units.ensures.runs))
 
 pub returns-in_default-2-clause-seen : goal.returns-in_default-2-clause-seen
 returns-in_default-2-clause-seen g c =
     let h = c.ranges.pid in
-    stops_seen g.W.Watch.tells c.args.tune.now c.args.pid c.args.left c.args.self.now c.args.watch.now c.in-Some.agent c.in-Some.running (sym (simp to_z-of_z at c.in-Some.ensures.seat)) _ c.take_out.new.self c.run.new.self c.show-in-Units.new.watch (subst (Allows c.args.tune.now (acting c.in-Some.agent c.in-Some.running c.args.self.now.live.objects).level c.args.left c.in-Some.agent) c.in-Units.is (allows_as c.args.tune.now c.args.pid c.args.left c.in-Some.agent c.in-Some.running c.args.self.now c.take_out.new.self c.in_ok-actor.actor c.next_allowance.result (simp to_z-of_z at c.take_out.ensures.out) c.in_ok-actor.ensures c.next_allowance.ensures)) (simp to_z-of_z at c.take_out.ensures.out) (subst (Runs c.args.pid c.in-Some.agent 1 c.in-Some.running c.take_out.new.self c.run.new.self) c.in_default-2.is (simp to_z-of_z at c.in_ok-units-in-Units.ensures)) (simp to_z-of_z at c.in_ok-show-in-Units.ensures)
+    stops_seen g.W.Watch.tells c.args.tune.now c.args.pid c.args.left c.args.self.now c.args.watch.now c.in-Some.agent c.in-Some.running (sym (simp to_z-of_z at c.in-Some.ensures.seat)) _ c.take_out.new.self c.run.new.self c.show-in-Units.new.watch (subst (Allows c.args.tune.now (acting c.in-Some.agent c.in-Some.running c.args.self.now.live.objects).level c.args.left c.in-Some.agent) c.in-Units.is (allows_as c.args.tune.now c.args.pid c.args.left c.in-Some.agent c.in-Some.running c.args.self.now c.take_out.new.self c.in_ok-actor.actor c.next_allowance.result (simp to_z-of_z at c.take_out.ensures.out) c.in_ok-actor.ensures c.next_allowance.ensures)) (simp to_z-of_z at c.take_out.ensures.out) (subst (Runs c.args.pid c.in-Some.agent 1 c.in-Some.running c.take_out.new.self c.run.new.self) c.in_default-2.is (simp to_z-of_z at c.in_ok-units-in-Units.ensures.runs)) (simp to_z-of_z at c.in_ok-show-in-Units.ensures)
 
 pub overflow_sub-result : goal.overflow_sub-result
 overflow_sub-result g c =
     let h = c.ranges.pid in
     let known = subst (Allows c.args.tune.now (acting c.in-Some.agent c.in-Some.running c.args.self.now.live.objects).level c.args.left c.in-Some.agent) c.in-Units.is (allows_as c.args.tune.now c.args.pid c.args.left c.in-Some.agent c.in-Some.running c.args.self.now c.take_out.new.self c.in_ok-actor.actor c.next_allowance.result (simp to_z-of_z at c.take_out.ensures.out) c.in_ok-actor.ensures c.next_allowance.ensures) in
-    let some = left_by c.args.tune.now c.args.pid c.in-Some.agent c.args.left c.in-Some.running c.args.self.now c.take_out.new.self (sym (simp to_z-of_z at c.in-Some.ensures.seat)) (Units 1) (omega arith, omega (arith, known.0, known.1)) 1 c.in-Some-2.units refl ((subst (Runs c.args.pid c.in-Some.agent 1 c.in-Some.running c.take_out.new.self c.run.new.self) c.in-Some-2.is (simp to_z-of_z at c.in_ok-units-in-Units.ensures))).0 in
+    let some = left_by c.args.tune.now c.args.pid c.in-Some.agent c.args.left c.in-Some.running c.args.self.now c.take_out.new.self (sym (simp to_z-of_z at c.in-Some.ensures.seat)) (Units 1) (omega arith, omega (arith, known.0, known.1)) 1 c.in-Some-2.units refl ((subst (Runs c.args.pid c.in-Some.agent 1 c.in-Some.running c.take_out.new.self c.run.new.self) c.in-Some-2.is (simp to_z-of_z at c.in_ok-units-in-Units.ensures.runs))).0 in
     some.1
 
 pub returns-in-Some-2-clause-stops : goal.returns-in-Some-2-clause-stops
 returns-in-Some-2-clause-stops g c =
     let h = c.ranges.pid in
     let known = subst (Allows c.args.tune.now (acting c.in-Some.agent c.in-Some.running c.args.self.now.live.objects).level c.args.left c.in-Some.agent) c.in-Units.is (allows_as c.args.tune.now c.args.pid c.args.left c.in-Some.agent c.in-Some.running c.args.self.now c.take_out.new.self c.in_ok-actor.actor c.next_allowance.result (simp to_z-of_z at c.take_out.ensures.out) c.in_ok-actor.ensures c.next_allowance.ensures) in
-    goes_so c.args.tune.now c.args.pid c.in-Some.agent c.args.left c.in-Some.running c.args.self.now _ (sym (simp to_z-of_z at c.in-Some.ensures.seat)) (Units 1) (omega arith, omega (arith, known.0, known.1)) 1 c.in-Some-2.units c.take_out.new.self refl (simp to_z-of_z at c.take_out.ensures.out) (subst (Runs c.args.pid c.in-Some.agent 1 c.in-Some.running c.take_out.new.self c.run.new.self) c.in-Some-2.is (simp to_z-of_z at c.in_ok-units-in-Units.ensures))
+    goes_so c.args.tune.now c.args.pid c.in-Some.agent c.args.left c.in-Some.running c.args.self.now _ (sym (simp to_z-of_z at c.in-Some.ensures.seat)) (Units 1) (omega arith, omega (arith, known.0, known.1)) 1 c.in-Some-2.units c.take_out.new.self refl (simp to_z-of_z at c.take_out.ensures.out) (subst (Runs c.args.pid c.in-Some.agent 1 c.in-Some.running c.take_out.new.self c.run.new.self) c.in-Some-2.is (simp to_z-of_z at c.in_ok-units-in-Units.ensures.runs))
 
 pub returns-in-Some-2-clause-seen : goal.returns-in-Some-2-clause-seen
 returns-in-Some-2-clause-seen g c =
     let h = c.ranges.pid in
-    goes_seen g.W.Watch.tells c.args.tune.now c.args.pid c.args.left c.args.self.now c.args.watch.now c.in-Some.agent c.in-Some.running (sym (simp to_z-of_z at c.in-Some.ensures.seat)) _ c.in-Some-2.units c.take_out.new.self c.run.new.self c.show-in-Units.new.watch (subst (Allows c.args.tune.now (acting c.in-Some.agent c.in-Some.running c.args.self.now.live.objects).level c.args.left c.in-Some.agent) c.in-Units.is (allows_as c.args.tune.now c.args.pid c.args.left c.in-Some.agent c.in-Some.running c.args.self.now c.take_out.new.self c.in_ok-actor.actor c.next_allowance.result (simp to_z-of_z at c.take_out.ensures.out) c.in_ok-actor.ensures c.next_allowance.ensures)) (simp to_z-of_z at c.take_out.ensures.out) (subst (Runs c.args.pid c.in-Some.agent 1 c.in-Some.running c.take_out.new.self c.run.new.self) c.in-Some-2.is (simp to_z-of_z at c.in_ok-units-in-Units.ensures)) (simp to_z-of_z at c.in_ok-show-in-Units.ensures)
+    goes_seen g.W.Watch.tells c.args.tune.now c.args.pid c.args.left c.args.self.now c.args.watch.now c.in-Some.agent c.in-Some.running (sym (simp to_z-of_z at c.in-Some.ensures.seat)) _ c.in-Some-2.units c.take_out.new.self c.run.new.self c.show-in-Units.new.watch (subst (Allows c.args.tune.now (acting c.in-Some.agent c.in-Some.running c.args.self.now.live.objects).level c.args.left c.in-Some.agent) c.in-Units.is (allows_as c.args.tune.now c.args.pid c.args.left c.in-Some.agent c.in-Some.running c.args.self.now c.take_out.new.self c.in_ok-actor.actor c.next_allowance.result (simp to_z-of_z at c.take_out.ensures.out) c.in_ok-actor.ensures c.next_allowance.ensures)) (simp to_z-of_z at c.take_out.ensures.out) (subst (Runs c.args.pid c.in-Some.agent 1 c.in-Some.running c.take_out.new.self c.run.new.self) c.in-Some-2.is (simp to_z-of_z at c.in_ok-units-in-Units.ensures.runs)) (simp to_z-of_z at c.in_ok-show-in-Units.ensures)
