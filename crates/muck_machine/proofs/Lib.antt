@@ -6,3 +6,4 @@ pub mod Seating
 pub mod Licences
 pub mod Seeing
 pub mod Situated
+pub mod Lending

@@ -3,7 +3,7 @@ use Rattle.std.proofs.Common.{◌≡◌, ℕ, ◌≤◌, List, [], ◌∷◌, fa
 use Rattle.std.specs.Prelude.{ℤ}
 use Rattle.std.proofs.lemmas.Bool.{cond_both}
 use Rattle.muck_model.specs.declared.tune.Tune.{Tune}
-use Rattle.muck_model.specs.declared.event.Event.TheVariants.{Opened, Claim, Lost, Take}
+use Rattle.muck_model.specs.declared.event.Event.TheVariants.{Opened, Claim, Lost, Starved, Take}
 use Rattle.spec_live.specs.Objects.{Entry}
 use Rattle.spec_live.specs.Output.{output_taken}
 use Rattle.spec_live.specs.Connections.{Connection, is_connection, changed_in}
@@ -12,8 +12,9 @@ use Rattle.spec_live.specs.Lives.{on_board}
 use Rattle.spec_commands.specs.Talk.{welcome}
 use Rattle.muck_board.proofs.Outputs.{taken_rest}
 use Rattle.muck_library.specs.Library.{Library}
-use Rattle.muck_queue.specs.Queues.{Queue, empty_queue, claimed, released}
+use Rattle.muck_queue.specs.Queues.{Queue, empty_queue, claimed, released, without_process}
 use Rattle.spec_events.specs.World.{World, Dumps, no_dumps, world_booted, on_live, on_queue}
+use Rattle.spec_events.specs.Slices.{ended_one}
 use Rattle.spec_events.specs.Steps.{happened}
 
 -- the board of a state that is seen as w is changed so
@@ -32,6 +33,10 @@ claimed_so pid party w v q is seen = ap (λ (x : Queue). record w { queue = x })
 
 pub lost_so : (pid : ℤ) (party : ℕ) (w v : World) (q : Queue) → q ≡ released pid w.queue → w ≡ v → record w { queue = q } ≡ happened v party (Lost pid)
 lost_so pid party w v q is seen = ap (λ (x : Queue). record w { queue = x }) is ∙ ap (on_queue (released pid)) seen
+
+-- and so is what starved, which ends first
+pub starved_so : (pid : ℤ) (party : ℕ) (w v : World) (p q : Queue) → p ≡ without_process pid w.queue → q ≡ released pid p → w ≡ v → record w { queue = q } ≡ happened v party (Starved pid)
+starved_so pid party w v p q gone is seen = ap (λ (x : Queue). record w { queue = x }) (is ∙ ap (released pid) gone) ∙ ap (λ (x : World). on_queue (released pid) (ended_one pid x)) seen
 
 -- how it begins, by its parts
 pub booted_so : (objects : List Entry) (tune : Tune) (moment start : ℕ) (board : Board) (library : Library) (queue : Queue) (dumps : Dumps) → board ≡ early_board start tune → library ≡ [] → queue ≡ empty_queue → dumps ≡ no_dumps moment →

@@ -29,7 +29,7 @@ use Rattle.muck_queue.proofs.Changed.{process_changed}
 use Rattle.spec_events.specs.declared.starting.Agent.{Agent}
 use Rattle.spec_events.specs.World.{World}
 use Rattle.spec_events.specs.Slices.{acting, callers, agent_of, seat_of, seat, slice_most, process_awake}
-use Rattle.spec_events.specs.Steps.{is_lawful, is_process_there, effect, happened}
+use Rattle.spec_events.specs.Steps.{has_claim, is_lawful, is_process_there, effect, happened}
 use Rattle.spec_events.specs.Histories.{History, after, now, AllLawful}
 use Rattle.spec_events.specs.inner.Stints.{allowed}
 use Rattle.spec_events.proofs.Endings.{IsTold}
@@ -39,8 +39,8 @@ use Rattle.spec_events.proofs.Turns.{told_effect}
 use Rattle.spec_events.proofs.Walked.{every, goes_after}
 use Rattle.spec_claims.specs.inner.Claims.{IsSole, AreOthers}
 use Rattle.spec_claims.specs.inner.Standing.{StandsAs, StaysAs}
-use Rattle.spec_claims.specs.Loans.{Loan, loan_of, loan_most, woken_seat, claimed_world, HasRun, ran, OfClaim, RanFrom, is_kept}
-use Rattle.spec_claims.proofs.Staying.{allowed as allowed_event, claim_entered}
+use Rattle.spec_claims.specs.Loans.{Phase, Loan, loan_of, loan_most, woken_seat, claimed_world, HasRun, ran, OfClaim, RanFrom, is_kept}
+use Rattle.spec_claims.proofs.Staying.{allowed as allowed_event, claim_entered, claim_stays}
 use Rattle.spec_claims.proofs.Standing.{stays_begun, stays_others, stands_now, one_due}
 
 -- Behind any entries nothing is to be told, and the numbers rise.
@@ -56,6 +56,12 @@ numbered_after w (e ∷ es) h = numbered_after (effect w e) es (numbered_effect 
 lawful_back : (w : World) (a b : List Entry) → AllLawful w (a ++ b) → AllLawful (after w a) b
 lawful_back w [] b l = l
 lawful_back w (e ∷ es) b l = lawful_back (effect w e) es b l.1
+
+-- The claim is this party's still.
+pub claimed_now : (party : ℕ) (pid : ℤ) (That : ℕ → Source → Phase → Type 0) (l : Loan) (h : History) → OfClaim party pid That l h → AllLawful h.start h.entries → has_claim party pid (now h) ≡ true
+unfolding now
+claimed_now party pid That l h o lawful =
+    ap (λ (es : List Entry). has_claim party pid (after h.start es)) o.whole ∙ claim_stays h.start o.front party pid o.others (subst (AllLawful h.start) o.whole lawful) o.apart
 
 -- What wakes.
 

@@ -7,7 +7,7 @@ use Rattle.std.specs.Ordering.{int_eq}
 use Rattle.std.proofs.lemmas.Bool.{cond-false, or_right, eq-eqb}
 use Rattle.std.proofs.lemmas.Cmp.{int_eq_equiv}
 use Rattle.muck_laws.proofs.Truths.{due_of, lost_gone, slice_there}
-use Rattle.muck_model.specs.declared.event.Event.TheVariants.{Claim, Slice, Lost}
+use Rattle.muck_model.specs.declared.event.Event.TheVariants.{Claim, Slice, Commit, Starved, Lost}
 use Rattle.muck_queue.specs.declared.claim.Claim.{Claim as Claimed}
 use Rattle.muck_queue.specs.declared.process.Process.{Process}
 use Rattle.muck_queue.specs.Queues.{Queue, has_pid, is_process_due, is_on, is_before, earlier, earliest, next_due, claimed}
@@ -110,3 +110,12 @@ slice_lawful w party pid a c t = slice_there w.dead (is_process_there pid w) (ha
 pub lost_lawful : (w : World) (party : ℕ) (pid : ℤ) → w.dead ≡ false → has_claim party pid w ≡ true → is_process_there pid w ≡ false → is_lawful w (record { party = party; event = Lost pid }) ≡ true
 unfolding is_lawful
 lost_lawful w party pid a c t = lost_gone w.dead (is_process_there pid w) (has_claim party pid w) a c t
+
+-- or taken over, or it ends since it wanted memory outside
+pub commit_lawful : (w : World) (party : ℕ) (pid : ℤ) → w.dead ≡ false → has_claim party pid w ≡ true → is_process_there pid w ≡ true → is_lawful w (record { party = party; event = Commit pid }) ≡ true
+unfolding is_lawful
+commit_lawful w party pid a c t = slice_there w.dead (is_process_there pid w) (has_claim party pid w) a c t
+
+pub starved_lawful : (w : World) (party : ℕ) (pid : ℤ) → w.dead ≡ false → has_claim party pid w ≡ true → is_process_there pid w ≡ true → is_lawful w (record { party = party; event = Starved pid }) ≡ true
+unfolding is_lawful
+starved_lawful w party pid a c t = slice_there w.dead (is_process_there pid w) (has_claim party pid w) a c t

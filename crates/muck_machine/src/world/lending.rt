@@ -4,7 +4,7 @@ ghost use Rattle.muck_model.specs.declared.event.Event.{Event};
 ghost use Rattle.spec_events.specs.Histories.{now, entered, EntryLicensed};
 ghost use Rattle.spec_events.specs.Sections.{IsWhole};
 ghost use Rattle.spec_events.specs.Slices.{process_awake, units_of};
-ghost use Rattle.spec_events.specs.Steps.{is_process_there};
+ghost use Rattle.spec_events.specs.Steps.{has_claim, is_process_there};
 ghost use Rattle.spec_claims.specs.Loans.{LentAs, OfClaim, HasRun, WasRefused};
 ghost use Rattle.muck_machine.specs.declared.world.Sliced.TheVariants.{Ran, Lost};
 ghost use Rattle.muck_machine.specs.inner.Claims.{commit_event, starved_event, Metered};
@@ -40,6 +40,7 @@ impl World {
     // It is learned that the process has ended.
     fn loses(&mut self, party: u8, pid: i32)
         requires alive { (now self.old).dead ≡ false }
+        requires claim { has_claim party pid (now self.old) ≡ true }
         requires ended { is_process_there pid (now self.old) ≡ false }
         ensures { self.new ≡ entered self.old (record { party = party; event = Event.Lost pid }) }
     {
