@@ -56,16 +56,16 @@ keeps_told p state next e k alive may other is =
       lives = λ h. is ∙ ap (λ w. effect w e) (k.lives alive) ∙ sym whole;
       told = k.told;
       still = k.still;
-      numbered = k.numbered;
+      numbered = k.numbered; own = k.own;
     }
 
 -- a note changes nothing of what is kept
 pub keeps_noted : (p : Past) (note : Note) (state : World) → note.entries ≡ length p.tale.entries → Keeps p state → Keeps (remarked note p) state
-keeps_noted p note state at k = record { grows = refl; lawful = k.lawful; placed = placed_noted (history p) note at k.placed; dies = k.dies; sound = k.sound; lives = k.lives; told = k.told; still = k.still; numbered = k.numbered }
+keeps_noted p note state at k = record { grows = refl; lawful = k.lawful; placed = placed_noted (history p) note at k.placed; dies = k.dies; sound = k.sound; lives = k.lives; told = k.told; still = k.still; numbered = k.numbered; own = k.own }
 
 -- nor does that of the links
 pub keeps_linked : (p : Past) (cs : List Count) (state : World) → Keeps p state → Keeps (counted_at_end cs p) state
-keeps_linked p cs state k = record { grows = refl; lawful = k.lawful; placed = placed_linked (history p) cs k.placed; dies = k.dies; sound = k.sound; lives = k.lives; told = k.told; still = k.still; numbered = k.numbered }
+keeps_linked p cs state k = record { grows = refl; lawful = k.lawful; placed = placed_linked (history p) cs k.placed; dies = k.dies; sound = k.sound; lives = k.lives; told = k.told; still = k.still; numbered = k.numbered; own = k.own }
 
 -- memory was wanted, whatever stood before
 pub keeps_lost : (p : Past) (party : ℕ) (state next : World) → Keeps p state → Keeps (lost party p) next
@@ -79,7 +79,7 @@ keeps_lost p party state next k = record {
   lives = λ h. cc;
   told = k.told;
   still = k.still;
-  numbered = k.numbered;
+  numbered = k.numbered; own = k.own;
 }
 
 -- whether the world as it is now is dead
@@ -257,4 +257,4 @@ alive_if_found w d e = alive w.dead _ e where
 
 -- nothing happened, and the state is as it was
 pub keeps_same : (p : Past) (state next : World) → Keeps p state → next ≡ state → Keeps p next
-keeps_same p state next k e = record { grows = k.grows; lawful = k.lawful; placed = k.placed; dies = k.dies; sound = k.sound; lives = λ h. e ∙ k.lives h; told = k.told; still = k.still; numbered = k.numbered }
+keeps_same p state next k e = record { grows = k.grows; lawful = k.lawful; placed = k.placed; dies = k.dies; sound = k.sound; lives = λ h. e ∙ k.lives h; told = k.told; still = k.still; numbered = k.numbered; own = k.own }

@@ -1,5 +1,5 @@
 -- What a party may give back, and what it has claimed.
-use Rattle.std.proofs.Common.{◌≡◌, ℕ, ℤ, Bool, true, false, ◌==◌, List, [], ◌∷◌, ◌++◌, Option, refl, sym, ◌∙◌, ap, subst, arith, append_assoc}
+use Rattle.std.proofs.Common.{◌≡◌, ℕ, ℤ, Bool, true, false, ◌==◌, List, [], ◌∷◌, ◌++◌, Option, Some, refl, sym, ◌∙◌, ap, subst, arith, append_assoc}
 use Rattle.std.proofs.lemmas.Bool.Decides.{nat_tests}
 use Rattle.turn_lock.specs.Histories.{entry_kept, own_of}
 use Rattle.turn_lock.specs.declared.view.Place.TheVariants.{Idle}
@@ -22,7 +22,8 @@ use Rattle.muck_model.specs.declared.note.Counted.{Counted}
 use Rattle.muf_model.specs.Source.{Source}
 use Rattle.spec_events.specs.World.{World}
 use Rattle.spec_events.specs.Logged.{loose_notes, loose_count}
-use Rattle.spec_claims.specs.Loans.{Phase, Loan, loan_of, woken_seat, claimed_world, OfClaim}
+use Rattle.spec_events.specs.declared.starting.Agent.{Agent}
+use Rattle.spec_claims.specs.Loans.{Phase, fresh, Loan, LentAs, IsFresh, loan_of, woken_seat, claimed_world, OfClaim}
 use Rattle.muck_machine.specs.inner.Beginnings.{begun}
 use Rattle.muck_work.specs.inner.Claims.{Holds}
 use Rattle.muck_work.specs.inner.Holds.{HasTurn, HasEntered, HasGiven, HasClaimed}
@@ -100,6 +101,37 @@ claim_held whose pid me me' h t claimed =
     ∙ claim_stays h.start (entries_of claimed.0) whose pid (entries_of rest) (subst (AllLawful h.start) whole t.lawful)
     (others_are whose rest (others_none whose me.0.seen rest (others_since whose me me' h t)))
 
+-- a seat knows how its world began
+same_world : (w v : World) (mounting : Note) (notes : List Note) (counted : Option Counted) → begun w mounting ∷ [] ≡ record { world = v; notes = notes; counted = counted } ∷ [] → w ≡ v
+same_world w v mounting notes counted e = cc
+
+-- What was lent behind a claim is known of that seat once it rests again.
+pub known_lent : (whose : ℕ) (pid : ℤ) (l : Loan) (me me' now_me : Chair) (h k : History) (t : HasTurn whose me me' h) → k ≡ entered h (by whose (Claim pid)) → LentAs whose pid (now k) (Some l) →
+    HasGiven whose me now_me t.waited.0.0 (bare_item (by whose (Claim pid))) → Holds whose pid IsFresh l now_me.0
+unfolding now
+known_lent whose pid l me me' now_me h k t is lent g =
+    let front : List Logged = me.0.seen ++ t.waited.0.0 in
+    let item : Logged = bare_item (by whose (Claim pid)) in
+    let at : Agent × Source = lent.1.0 in
+    let entries_are : entries_of now_me.0.seen ≡ k.entries =
+    ap entries_of g.seen ∙ entries_append front (item ∷ []) ∙ ap (λ (es : List Entry). es ++ by whose (Claim pid) ∷ []) (sym (entries_since whose me me' h t)) ∙ sym (ap (λ (x : History). x.entries) is)
+    in
+    let start_is : t.rests.begun.world ≡ k.start = same_world t.rests.begun.world h.start t.rests.begun.mounting (loose_notes h) (loose_count h) (sym t.rests.begun.is ∙ sym t.waited.5 ∙ sym t.root) ∙ sym (ap (λ (x : History). x.start) is) in
+    let there : after t.rests.begun.world (entries_of now_me.0.seen) ≡ after k.start k.entries = ap (λ (w : World). after w (entries_of now_me.0.seen)) start_is ∙ ap (after k.start) entries_are in
+    record {
+      front = front;
+      item = item;
+      seen = g.seen;
+      entry = refl;
+      start = t.rests.begun.world;
+      mounting = t.rests.begun.mounting;
+      root = g.lists.0 ∙ t.rests.begun.is;
+      at = at;
+      stood = ap (woken_seat pid) there ∙ lent.1.1;
+      loan = lent.1.2 ∙ ap (λ (w : World). loan_of whose pid w (fresh at.1) at) (sym there) ∙ ap (λ (p : Phase). loan_of whose pid (after t.rests.begun.world (entries_of now_me.0.seen)) p at) (sym (ap (λ (x : Loan). x.phase) lent.1.2));
+      that = subst (IsFresh l.most at.1) (sym (ap (λ (x : Loan). x.phase) lent.1.2)) refl;
+    }
+
 -- What was lent behind the claim is of it still.
 pub claim_open : (whose : ℕ) (pid : ℤ) (That : ℕ → Source → Phase → Type 0) (l : Loan) (me me' : Chair) (h : History) → HasTurn whose me me' h → Holds whose pid That l me.0 → OfClaim whose pid That l h
 claim_open whose pid That l me me' h t k =
@@ -122,6 +154,3 @@ claim_open whose pid That l me me' h t k =
       loan = k.loan ∙ ap (λ (w : World). loan_of whose pid w l.phase k.at) there;
       that = k.that;
     }
-  where
-    same_world : (w v : World) (mounting : Note) (notes : List Note) (counted : Option Counted) → begun w mounting ∷ [] ≡ record { world = v; notes = notes; counted = counted } ∷ [] → w ≡ v
-    same_world w v mounting notes counted e = cc

@@ -2,8 +2,7 @@
 ghost use Rattle.std.specs.Prelude.{◌≡◌, ◌<◌, ℕ, None, true, false};
 ghost use Rattle.muck_model.specs.declared.event.Event.{Event};
 ghost use Rattle.spec_events.specs.Histories.{now, entered};
-ghost use Rattle.spec_events.specs.Steps.{has_claim, next_ready, next_process};
-ghost use Rattle.spec_claims.specs.Loans.{woken_seat};
+ghost use Rattle.spec_events.specs.Steps.{has_claim, is_process_there, next_ready, next_process};
 ghost use Rattle.muck_work.specs.inner.Jobs.{by, IsLent, JobAs};
 
 use muck_machine::{Lent, World};
@@ -41,7 +40,7 @@ fn idles(world: &mut World, party: u8)
 fn lends(world: &World, party: u8, pid: i32) -> Job
     requires alive { (now world.now).dead ≡ false }
     requires claim { has_claim party pid (now world.now) ≡ true }
-    requires there { woken_seat pid (now world.now) ≡ None → ⊥ }
+    requires there { is_process_there pid (now world.now) ≡ true }
     ensures as { JobAs result (Event.Claim pid) }
     ensures lent { IsLent party result (now world.now) }
 {

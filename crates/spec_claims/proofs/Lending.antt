@@ -96,7 +96,7 @@ woken_section m p = by_wait p.wait p.events refl refl
     by_wait ForLine events e f = rw e refl
 
 -- the seat of a process that is there and wakes
-woken_at : (pid : ℤ) (w : World) → woken_seat pid w ≡ option_and_then seat_of (option_map (woken w.moment) (process pid w.queue))
+pub woken_at : (pid : ℤ) (w : World) → woken_seat pid w ≡ option_and_then seat_of (option_map (woken w.moment) (process pid w.queue))
 woken_at pid w = ap (option_and_then seat_of) (process_changed pid (woken w.moment) (λ p. refl) w.queue)
 
 -- so it is there, and stands so

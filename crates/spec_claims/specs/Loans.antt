@@ -11,7 +11,7 @@ use Rattle.muf_running.specs.inner.Stints.{RanAlike, AskedAt}
 use Rattle.spec_events.specs.declared.starting.Agent.{Agent}
 use Rattle.spec_events.specs.World.{World}
 use Rattle.spec_events.specs.Slices.{acting, seat, slice_most, process_awake, units_of}
-use Rattle.spec_events.specs.Steps.{has_claim}
+use Rattle.spec_events.specs.Steps.{has_claim, is_process_there}
 use Rattle.spec_events.specs.Histories.{History, after}
 use Rattle.spec_events.specs.inner.Stints.{allowed}
 use Rattle.spec_claims.specs.inner.Claims.{AreOthers}
@@ -44,7 +44,7 @@ loan_of party pid w phase (x, s) = record { party = party; pid = pid; epoch = w.
 
 -- What is lent: nothing where the party hasn't claimed the process or it has ended, and else it as it stands once it is awake.
 abbrev pub LentAs : ℕ → ℤ → World → Option Loan → Type 0
-LentAs party pid w None = (has_claim party pid w ≡ false) ⊎ (woken_seat pid w ≡ None)
+LentAs party pid w None = (has_claim party pid w ≡ false) ⊎ (is_process_there pid w ≡ false)
 LentAs party pid w (Some l) = (has_claim party pid w ≡ true) × ((at : Agent × Source) × (woken_seat pid w ≡ Some at) × (l ≡ loan_of party pid w (fresh at.1) at))
 
 -- How far it is, from the state at which it was lent, with so many units at most.

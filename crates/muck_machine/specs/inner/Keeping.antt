@@ -12,6 +12,7 @@ use Rattle.spec_events.specs.World.{World}
 use Rattle.spec_events.specs.Histories.{History, after, AllLawful}
 use Rattle.spec_events.specs.Logged.{IsPlaced}
 use Rattle.spec_events.specs.inner.Sound.{IsSound}
+use Rattle.spec_origins.specs.Origins.{AreOwn}
 use Rattle.muck_turns.specs.inner.Hooks.{AreTold}
 use Rattle.muck_machine.specs.declared.past.Past.{Past}
 
@@ -20,7 +21,7 @@ history p = record { start = p.origin; entries = p.tale.entries; notes = p.tale.
 
 -- The tale may grow, each entry of it is lawful where it stands, and each note has its place. The world after it is dead or not as is kept, and as
 -- long as it isn't it is sound, and it is the state that is kept. It began with objects of which nothing was to be told and none of which had moved,
--- and with processes whose numbers rise.
+-- and with processes whose numbers rise, each of which stood at a state of its own program.
 pub record Keeps (p : Past) (state : World) : Type 0 where
   pub grows : p.tale.open_ended ≡ true
   pub lawful : AllLawful p.origin p.tale.entries
@@ -31,6 +32,7 @@ pub record Keeps (p : Past) (state : World) : Type 0 where
   pub told : AreTold p.origin.live.objects
   pub still : IsStill p.origin.live.objects
   pub numbered : IsNumbered p.origin.queue
+  pub own : AreOwn p.origin
 
 -- longer by an entry
 abbrev pub told : Entry → Past → Past
