@@ -31,6 +31,8 @@ use Rattle.spec_events.proofs.Turns.{told_effect}
 use Rattle.spec_events.proofs.Logging.{placed_entered, placed_noted, placed_linked}
 use Rattle.muck_turns.specs.inner.Hooks.{AreTold}
 use Rattle.muck_machine.specs.declared.past.Past.{Past}
+use Rattle.spec_origins.specs.Origins.{AreOwn}
+use Rattle.muck_queue.specs.Queues.{empty_queue}
 use Rattle.muck_machine.specs.inner.Keeping.{Keeps, history, told, remarked, counted_at_end, lost, Concludes}
 
 one_more : (start : World) (entries : List Entry) (e : Entry) → after start (entries ++ e ∷ []) ≡ effect (after start entries) e
@@ -176,9 +178,14 @@ still_first zero = refl
 still_first (suc zero) = refl
 still_first (suc (suc n)) = refl
 
+-- nothing runs as a world is booted
+pub own_begun : (objects : List Kept) (tune : Tune) (moment start : ℕ) → AreOwn (world_booted objects tune moment start)
+unfolding world_booted empty_queue
+own_begun objects tune moment start = tt
+
 -- a world begins, in which nothing has happened yet
-pub keeps_begun : (p : Past) (state : World) → p.tale ≡ record { entries = []; notes = []; counted = None; open_ended = true } → p.dead ≡ false → IsSound p.origin → AreTold p.origin.live.objects → IsStill p.origin.live.objects → IsNumbered p.origin.queue → state ≡ p.origin → Keeps p state
-keeps_begun p state t alive sound told still numbered is =
+pub keeps_begun : (p : Past) (state : World) → p.tale ≡ record { entries = []; notes = []; counted = None; open_ended = true } → p.dead ≡ false → IsSound p.origin → AreTold p.origin.live.objects → IsStill p.origin.live.objects → IsNumbered p.origin.queue → AreOwn p.origin → state ≡ p.origin → Keeps p state
+keeps_begun p state t alive sound told still numbered own is =
     let none : p.tale.entries ≡ [] = ap (λ (x : Told). x.entries) t in
     let unnoted : p.tale.notes ≡ [] = ap (λ (x : Told). x.notes) t in
     let uncounted : p.tale.counted ≡ None = ap (λ (x : Told). x.counted) t in
@@ -192,6 +199,7 @@ keeps_begun p state t alive sound told still numbered is =
       told = told;
       still = still;
       numbered = numbered;
+      own = own;
     }
 
 -- where it isn't, it is the state that is kept

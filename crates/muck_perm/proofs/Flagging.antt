@@ -1,5 +1,5 @@
 -- Setting and clearing one flag.
-use Rattle.std.proofs.Common.{◌≡◌, ℕ, ◌<◌, ◌≤◌, ◌^◌, ◌+◌, ◌/◌, ◌%◌, true, false, List, Option, Some, None, Result, Ok, Err, refl, sym, ◌∙◌, ap, arith}
+use Rattle.std.proofs.Common.{◌≡◌, ℕ, ◌<◌, ◌≤◌, ◌^◌, ◌+◌, ◌/◌, ◌%◌, Bool, true, false, not, List, Option, Some, None, Result, Ok, Err, refl, sym, ◌∙◌, ap, arith}
 use Rattle.muck_laws.proofs.Numbers.{even, odd}
 use Rattle.spec_rights.proofs.Bits.{Each, picked}
 use Rattle.std.specs.List.{slice_get, slice_set}
@@ -10,12 +10,13 @@ use Rattle.spec_live.specs.declared.object.Object.{Object}
 use Rattle.spec_live.specs.declared.fault.DbFault.{DbFault}
 use Rattle.spec_live.specs.Flags.{has_flag, no_flags, with_flag, without_flag}
 use Rattle.spec_live.specs.Objects.{Entry, object_in, object_at, number_in, changed_at, on_object}
+use Rattle.spec_live.specs.Boards.{Board, turned}
 use Rattle.spec_live.specs.Moving.{Does}
 use Rattle.spec_live.specs.Setting.{set_at, with_flags, flags_check}
-use Rattle.spec_rights.specs.Changing.{flag_values, is_flag, set_object, flag_set, flag_cleared}
+use Rattle.spec_rights.specs.Changing.{object_turned, flag_values, is_flag, set_object, flag_set, flag_cleared}
 use Rattle.muck_perm.specs.declared.guard.Guard.{Guard}
 use Rattle.muck_perm.specs.inner.Guards.{objects_of, Makes, flags_at}
-use Rattle.muck_perm.proofs.Guarding.{with_objects, written, checked_number, at_found}
+use Rattle.muck_perm.proofs.Guarding.{with_both, makes_refused, with_objects, written, checked_number, at_found}
 
 -- The value of a flag.
 
@@ -100,29 +101,44 @@ read_at : (x : Dbref) (es : List Entry) (n : ℕ) → number_in es x ≡ Some n 
 unfolding object_at
 read_at x es n e = sym (ap (λ (q : Option ℕ). option_map_or (λ (o : Object). o.flags) (option_and_then (object_in es) q) no_flags) e)
 
-flagged : (h : Flags → Flags) (x : Dbref) (g : Guard) (es : List Entry) (result : Result (Unit {0}) DbFault)
-    → Does (set_at (with_flags (h (flags_at x (objects_of g))))) (flags_check x (h (flags_at x (objects_of g))) (objects_of g)) (objects_of g) es result
-    → Makes (set_object (λ o. with_flags (h o.flags) o) x) (flags_check x (h (flags_at x (objects_of g))) (objects_of g)) g (with_objects es g) result
+-- one flag is changed, and the epoch goes on where that differs
+flagged : (differs : Object → Bool) (h : Flags → Flags) (x : Dbref) (g : Guard) (es : List Entry) (board : Board)
+    → Does (set_at (with_flags (h (flags_at x (objects_of g))))) (flags_check x (h (flags_at x (objects_of g))) (objects_of g)) (objects_of g) es (Ok tt)
+    → board ≡ turned (option_map_or differs (object_at x (objects_of g)) false) g.board.now
+    → Makes (object_turned differs (λ o. with_flags (h o.flags) o) x) (flags_check x (h (flags_at x (objects_of g))) (objects_of g)) g (with_both es board g) (Ok tt)
 unfolding flags_check
-flagged h x g es result d = by_cases (flags_check x (h (flags_at x (objects_of g))) (objects_of g)) refl d
+flagged differs h x g es board d b = by_cases (flags_check x (h (flags_at x (objects_of g))) (objects_of g)) refl d
   where
-    by_cases : (check : Result ℕ DbFault) → flags_check x (h (flags_at x (objects_of g))) (objects_of g) ≡ check → Does (set_at (with_flags (h (flags_at x (objects_of g))))) check (objects_of g) es result
-        → Makes (set_object (λ o. with_flags (h o.flags) o) x) check g (with_objects es g) result
+    by_cases : (check : Result ℕ DbFault) → flags_check x (h (flags_at x (objects_of g))) (objects_of g) ≡ check → Does (set_at (with_flags (h (flags_at x (objects_of g))))) check (objects_of g) es (Ok tt)
+        → Makes (object_turned differs (λ o. with_flags (h o.flags) o) x) check g (with_both es board g) (Ok tt)
     by_cases (Ok n) e d =
         let number : number_in (objects_of g) x ≡ Some n = checked_number _ x (objects_of g) n e in
         let read : set_at (with_flags (h (flags_at x (objects_of g)))) n (objects_of g) ≡ set_at (λ o. with_flags (h o.flags) o) n (objects_of g)
         = set_read n (objects_of g) h _ (ap h (read_at x (objects_of g) n number)) in
-        (d.0, written g es _ (d.1 ∙ (read ∙ at_found (set_at (λ o. with_flags (h o.flags) o)) x (objects_of g) n number)))
-    by_cases (Err fault) e d = (d.0, ap (λ z. with_objects z g) d.1)
+        let objects_are = d.1 ∙ (read ∙ at_found (set_at (λ o. with_flags (h o.flags) o)) x (objects_of g) n number) in
+        (refl, (λ i. record { objects = objects_are i; board = b i }, (refl, (refl, refl))))
+    by_cases (Err fault) e d = absurd (let f : ◌≡◌ {A = Result (Unit {0}) DbFault} (Ok tt) (Err fault) = d.0 in cc)
 
-pub makes_flag_set : (x : Dbref) (flag : Flags) (g : Guard) (es : List Entry) (result : Result (Unit {0}) DbFault)
-    → Does (set_at (with_flags (with_flag flag.0 (flags_at x (objects_of g))))) (flags_check x (with_flag flag.0 (flags_at x (objects_of g))) (objects_of g)) (objects_of g) es result
-    → Makes (flag_set x flag) (flags_check x (with_flag flag.0 (flags_at x (objects_of g))) (objects_of g)) g (with_objects es g) result
+pub makes_flag_set : (x : Dbref) (flag : Flags) (g : Guard) (es : List Entry) (board : Board)
+    → Does (set_at (with_flags (with_flag flag.0 (flags_at x (objects_of g))))) (flags_check x (with_flag flag.0 (flags_at x (objects_of g))) (objects_of g)) (objects_of g) es (Ok tt)
+    → board ≡ turned (option_map_or (λ o. not (has_flag flag.0 o.flags)) (object_at x (objects_of g)) false) g.board.now
+    → Makes (flag_set x flag) (flags_check x (with_flag flag.0 (flags_at x (objects_of g))) (objects_of g)) g (with_both es board g) (Ok tt)
 unfolding flag_set
-makes_flag_set x flag g es result d = flagged (with_flag flag.0) x g es result d
+makes_flag_set x flag g es board d b = flagged (λ o. not (has_flag flag.0 o.flags)) (with_flag flag.0) x g es board d b
 
-pub makes_flag_cleared : (x : Dbref) (flag : Flags) (g : Guard) (es : List Entry) (result : Result (Unit {0}) DbFault)
-    → Does (set_at (with_flags (without_flag flag.0 (flags_at x (objects_of g))))) (flags_check x (without_flag flag.0 (flags_at x (objects_of g))) (objects_of g)) (objects_of g) es result
-    → Makes (flag_cleared x flag) (flags_check x (without_flag flag.0 (flags_at x (objects_of g))) (objects_of g)) g (with_objects es g) result
+pub refuses_flag_set : (x : Dbref) (flag : Flags) (g : Guard) (es : List Entry) (found : DbFault)
+    → Does (set_at (with_flags (with_flag flag.0 (flags_at x (objects_of g))))) (flags_check x (with_flag flag.0 (flags_at x (objects_of g))) (objects_of g)) (objects_of g) es (Err found)
+    → Makes (flag_set x flag) (flags_check x (with_flag flag.0 (flags_at x (objects_of g))) (objects_of g)) g (with_objects es g) (Err found)
+refuses_flag_set x flag g es found d = makes_refused (flag_set x flag) (set_at (with_flags (with_flag flag.0 (flags_at x (objects_of g))))) _ g es found d
+
+pub makes_flag_cleared : (x : Dbref) (flag : Flags) (g : Guard) (es : List Entry) (board : Board)
+    → Does (set_at (with_flags (without_flag flag.0 (flags_at x (objects_of g))))) (flags_check x (without_flag flag.0 (flags_at x (objects_of g))) (objects_of g)) (objects_of g) es (Ok tt)
+    → board ≡ turned (option_map_or (λ o. has_flag flag.0 o.flags) (object_at x (objects_of g)) false) g.board.now
+    → Makes (flag_cleared x flag) (flags_check x (without_flag flag.0 (flags_at x (objects_of g))) (objects_of g)) g (with_both es board g) (Ok tt)
 unfolding flag_cleared
-makes_flag_cleared x flag g es result d = flagged (without_flag flag.0) x g es result d
+makes_flag_cleared x flag g es board d b = flagged (λ o. has_flag flag.0 o.flags) (without_flag flag.0) x g es board d b
+
+pub refuses_flag_cleared : (x : Dbref) (flag : Flags) (g : Guard) (es : List Entry) (found : DbFault)
+    → Does (set_at (with_flags (without_flag flag.0 (flags_at x (objects_of g))))) (flags_check x (without_flag flag.0 (flags_at x (objects_of g))) (objects_of g)) (objects_of g) es (Err found)
+    → Makes (flag_cleared x flag) (flags_check x (without_flag flag.0 (flags_at x (objects_of g))) (objects_of g)) g (with_objects es g) (Err found)
+refuses_flag_cleared x flag g es found d = makes_refused (flag_cleared x flag) (set_at (with_flags (without_flag flag.0 (flags_at x (objects_of g))))) _ g es found d

@@ -1,18 +1,21 @@
 -- What a change of the objects makes of the world of a guard.
-use Rattle.std.proofs.Common.{◌≡◌, ℕ, ◌==◌, Bool, true, false, cond, Option, Some, None, Result, Ok, Err, refl, sym, ◌∙◌, ap, List}
+use Rattle.std.proofs.Common.{◌≡◌, ℕ, ◌==◌, Bool, true, false, not, ◌||◌, cond, Option, Some, None, Result, Ok, Err, refl, sym, ◌∙◌, ap, List}
+use Rattle.std.specs.Prelude.{is_some}
 use Rattle.std.specs.Option.{option_map_or}
 use Rattle.muck_model.specs.declared.dbref.Dbref.{Dbref}
 use Rattle.muck_prop.specs.declared.value.PropValue.{PropValue}
 use Rattle.spec_live.specs.declared.fault.DbFault.{DbFault}
 use Rattle.spec_live.specs.declared.fault.DbFault.TheVariants.{NoSuchObject, WouldLoop, WrongKind}
 use Rattle.spec_live.specs.Chain.{has}
-use Rattle.spec_live.specs.Objects.{Entry, nothing, home, same, is_exit, kind_in, fits_in, places_from, number_in}
+use Rattle.spec_live.specs.Objects.{Entry, nothing, home, same, is_exit, is_player, object_at, kind_in, fits_in, places_from, number_in}
 use Rattle.spec_live.specs.Moving.{Does, Moves, move_judged, moved, move_check}
 use Rattle.spec_live.specs.Setting as setting
 use Rattle.spec_live.specs.Setting.{every_number, checked, checked_both, has_link, may_link, owner_check, link_check, home_check, level_check, lines_check, password_check, set_at, lines_set, with_name, with_owner, with_link, with_home, with_level, with_prop, without_prop, with_password}
 use Rattle.spec_live.specs.Recycling.{recycled, recycle_check}
-use Rattle.spec_live.specs.Lives.{on_objects}
-use Rattle.spec_rights.specs.Changing.{at_number, moved_at, moved_to, name_given, object_owned_by, linked, homed, leveled, lines_kept, property_stored, unstored, recycled_now, password_kept}
+use Rattle.spec_live.specs.declared.object.Object.{Object}
+use Rattle.spec_live.specs.Boards.{Board, turned}
+use Rattle.spec_live.specs.Lives.{Live, Change, on_objects}
+use Rattle.spec_rights.specs.Changing.{object_turned, at_number, moved_at, moved_to, name_given, object_owned_by, linked, homed, leveled, lines_kept, property_stored, unstored, recycled_now, password_kept}
 use Rattle.muck_perm.specs.declared.guard.Guard.{Guard}
 use Rattle.muck_perm.specs.inner.Guards.{objects_of, world_of, Kept, Makes, Tries}
 
@@ -91,6 +94,23 @@ pub makes_one : (f : ℕ → List Entry → List Entry) (x : Dbref) (check : Res
 makes_one f x (Ok n) g es result number d = (d.0, written g es _ (d.1 ∙ at_found f x (objects_of g) n (number n refl)))
 makes_one f x (Err fault) g es result number d = (d.0, ap (λ z. with_objects z g) d.1)
 
+-- Where the epoch goes on with it.
+
+abbrev pub with_both : List Entry → Board → Guard → Guard
+with_both es board g = record g { db = record g.db { now = es }; board = record g.board { now = board } }
+
+pub makes_turned : (differs : Object → Bool) (f : Object → Object) (x : Dbref) (check : Result ℕ DbFault) (g : Guard) (es : List Entry) (board : Board) → ((n : ℕ) → check ≡ Ok n → number_in (objects_of g) x ≡ Some n) →
+    Does (set_at f) check (objects_of g) es (Ok tt) → board ≡ turned (option_map_or differs (object_at x (objects_of g)) false) g.board.now → Makes (object_turned differs f x) check g (with_both es board g) (Ok tt)
+makes_turned differs f x (Ok n) g es board number d b =
+    let objects_are : es ≡ at_number (set_at f) x (objects_of g) = d.1 ∙ at_found (set_at f) x (objects_of g) n (number n refl) in
+    (refl, (λ i. record { objects = objects_are i; board = b i }, (refl, (refl, refl))))
+makes_turned differs f x (Err fault) g es board number d b = absurd (let e : ◌≡◌ {A = Result (Unit {0}) DbFault} (Ok tt) (Err fault) = d.0 in cc)
+
+-- where it is refused, nothing changes
+pub makes_refused : (change : Change) (f : ℕ → List Entry → List Entry) (check : Result ℕ DbFault) (g : Guard) (es : List Entry) (found : DbFault) → Does f check (objects_of g) es (Err found) → Makes change check g (with_objects es g) (Err found)
+makes_refused change f (Ok n) g es found d = absurd (let e : ◌≡◌ {A = Result (Unit {0}) DbFault} (Err found) (Ok tt) = d.0 in cc)
+makes_refused change f (Err fault) g es found d = (d.0, ap (λ z. with_objects z g) d.1)
+
 pub tries_one : (f : ℕ → List Entry → List Entry) (x : Dbref) (check : Result ℕ DbFault) (g : Guard) (es : List Entry) (result : Result (Unit {0}) DbFault)
     → ((n : ℕ) → check ≡ Ok n → number_in (objects_of g) x ≡ Some n) → setting.Tries f check (objects_of g) es result → Tries (on_objects (at_number f x)) check g (with_objects es g) result
 tries_one f x (Ok n) g es (Ok u) number d = written g es _ (d ∙ at_found f x (objects_of g) n (number n refl))
@@ -112,10 +132,13 @@ pub makes_named : (x : Dbref) (name : List ℕ) (g : Guard) (es : List Entry) (r
 unfolding name_given
 makes_named x name g es result d = makes_one (set_at (with_name name)) x _ g es result (λ n e. checked_number _ x (objects_of g) n e) d
 
-pub makes_owned : (x owner : Dbref) (g : Guard) (es : List Entry) (result : Result (Unit {0}) DbFault)
-    → Does (set_at (with_owner owner)) (owner_check x owner (objects_of g)) (objects_of g) es result → Makes (object_owned_by x owner) (owner_check x owner (objects_of g)) g (with_objects es g) result
+pub makes_owned : (x owner : Dbref) (g : Guard) (es : List Entry) (board : Board) → Does (set_at (with_owner owner)) (owner_check x owner (objects_of g)) (objects_of g) es (Ok tt) →
+    board ≡ turned (option_map_or (λ o. not (same o.owner owner)) (object_at x (objects_of g)) false) g.board.now → Makes (object_owned_by x owner) (owner_check x owner (objects_of g)) g (with_both es board g) (Ok tt)
 unfolding object_owned_by owner_check
-makes_owned x owner g es result d = makes_one (set_at (with_owner owner)) x _ g es result (λ n e. both_number _ x owner (objects_of g) n e) d
+makes_owned x owner g es board d b = makes_turned (λ o. not (same o.owner owner)) (with_owner owner) x _ g es board (λ n e. both_number _ x owner (objects_of g) n e) d b
+
+pub refuses_owned : (x owner : Dbref) (g : Guard) (es : List Entry) (found : DbFault) → Does (set_at (with_owner owner)) (owner_check x owner (objects_of g)) (objects_of g) es (Err found) → Makes (object_owned_by x owner) (owner_check x owner (objects_of g)) g (with_objects es g) (Err found)
+refuses_owned x owner g es found d = makes_refused (object_owned_by x owner) (set_at (with_owner owner)) _ g es found d
 
 pub makes_linked : (x to : Dbref) (g : Guard) (es : List Entry) (result : Result (Unit {0}) DbFault)
     → Does (set_at (with_link to)) (link_check x to (objects_of g)) (objects_of g) es result → Makes (linked x to) (link_check x to (objects_of g)) g (with_objects es g) result
@@ -127,20 +150,34 @@ pub makes_homed : (x to : Dbref) (g : Guard) (es : List Entry) (result : Result 
 unfolding homed home_check
 makes_homed x to g es result d = makes_one (set_at (with_home to)) x _ g es result (λ n e. both_number _ x to (objects_of g) n e) d
 
-pub makes_leveled : (x : Dbref) (level : ℕ) (g : Guard) (es : List Entry) (result : Result (Unit {0}) DbFault)
-    → Does (set_at (with_level level)) (level_check x level (objects_of g)) (objects_of g) es result → Makes (leveled x level) (level_check x level (objects_of g)) g (with_objects es g) result
+pub makes_leveled : (x : Dbref) (level : ℕ) (g : Guard) (es : List Entry) (board : Board) → Does (set_at (with_level level)) (level_check x level (objects_of g)) (objects_of g) es (Ok tt) →
+    board ≡ turned (option_map_or (λ o. not (o.level == level)) (object_at x (objects_of g)) false) g.board.now → Makes (leveled x level) (level_check x level (objects_of g)) g (with_both es board g) (Ok tt)
 unfolding leveled level_check
-makes_leveled x level g es result d = makes_one (set_at (with_level level)) x _ g es result (λ n e. checked_number _ x (objects_of g) n e) d
+makes_leveled x level g es board d b = makes_turned (λ o. not (o.level == level)) (with_level level) x _ g es board (λ n e. checked_number _ x (objects_of g) n e) d b
+
+pub refuses_leveled : (x : Dbref) (level : ℕ) (g : Guard) (es : List Entry) (found : DbFault) → Does (set_at (with_level level)) (level_check x level (objects_of g)) (objects_of g) es (Err found) → Makes (leveled x level) (level_check x level (objects_of g)) g (with_objects es g) (Err found)
+refuses_leveled x level g es found d = makes_refused (leveled x level) (set_at (with_level level)) _ g es found d
 
 pub makes_lines : (x : Dbref) (lines : List (List ℕ)) (g : Guard) (es : List Entry) (result : Result (Unit {0}) DbFault)
     → Does (lines_set lines) (lines_check x (objects_of g)) (objects_of g) es result → Makes (lines_kept x lines) (lines_check x (objects_of g)) g (with_objects es g) result
 unfolding lines_kept lines_check
 makes_lines x lines g es result d = makes_one (lines_set lines) x _ g es result (λ n e. checked_number _ x (objects_of g) n e) d
 
-pub makes_recycled : (x : Dbref) (g : Guard) (es : List Entry) (result : Result (Unit {0}) DbFault)
-    → Does recycled (recycle_check x (objects_of g)) (objects_of g) es result → Makes (recycled_now x) (recycle_check x (objects_of g)) g (with_objects es g) result
+pub makes_recycled : (x : Dbref) (g : Guard) (es : List Entry) (board : Board) → Does recycled (recycle_check x (objects_of g)) (objects_of g) es (Ok tt) → board ≡ turned true g.board.now → Makes (recycled_now x) (recycle_check x (objects_of g)) g (with_both es board g) (Ok tt)
 unfolding recycled_now recycle_check
-makes_recycled x g es result d = makes_one recycled x _ g es result (λ n e. checked_number _ x (objects_of g) n e) d
+makes_recycled x g es board d b = by_check (checked (λ n. not (n == 0 || is_player (kind_in (objects_of g) n))) x (objects_of g)) refl d
+  where
+    by_check : (check : Result ℕ DbFault) → checked (λ n. not (n == 0 || is_player (kind_in (objects_of g) n))) x (objects_of g) ≡ check → Does recycled check (objects_of g) es (Ok tt) →
+        Makes (λ (w : Live). record { objects = at_number recycled x w.objects; board = turned (is_some (number_in w.objects x)) w.board }) check g (with_both es board g) (Ok tt)
+    by_check (Ok n) e d =
+        let number : number_in (objects_of g) x ≡ Some n = checked_number _ x (objects_of g) n e in
+        let objects_are : es ≡ at_number recycled x (objects_of g) = d.1 ∙ at_found recycled x (objects_of g) n number in
+        let board_is : board ≡ turned (is_some (number_in (objects_of g) x)) g.board.now = b ∙ ap (λ (q : Option ℕ). turned (is_some q) g.board.now) (sym number) in
+        (refl, (λ i. record { objects = objects_are i; board = board_is i }, (refl, (refl, refl))))
+    by_check (Err fault) e d = absurd (let f : ◌≡◌ {A = Result (Unit {0}) DbFault} (Ok tt) (Err fault) = d.0 in cc)
+
+pub refuses_recycled : (x : Dbref) (g : Guard) (es : List Entry) (found : DbFault) → Does recycled (recycle_check x (objects_of g)) (objects_of g) es (Err found) → Makes (recycled_now x) (recycle_check x (objects_of g)) g (with_objects es g) (Err found)
+refuses_recycled x g es found d = makes_refused (recycled_now x) recycled _ g es found d
 
 pub makes_unstored : (x : Dbref) (path : List (List ℕ)) (g : Guard) (es : List Entry) (result : Result (Unit {0}) DbFault)
     → Does (set_at (without_prop path)) (checked every_number x (objects_of g)) (objects_of g) es result → Makes (unstored x path) (checked every_number x (objects_of g)) g (with_objects es g) result

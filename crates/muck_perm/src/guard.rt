@@ -244,7 +244,7 @@ impl<'a> Guard<'a> {
 
     /// Gives an object to an owner. `NoSuchObject` comes where one of both isn't there, `WrongKind` where the object is a
     /// player or the owner isn't one; nothing has changed then.
-    #[tactic(auto, using(crate::proofs::Guarding::makes_owned))]
+    #[tactic(auto, using(crate::proofs::Guarding::makes_owned, crate::proofs::Guarding::refuses_owned))]
     pub fn set_owner(&mut self, pass: Pass, object: Dbref, owner: Dbref) -> Result<(), DbFault>
         requires leave { IsLeave pass (Act.SetOwner object owner) self.old }
         ensures { Makes (object_owned_by object owner) (owner_check object owner (objects_of self.old)) self.old self.new result }
@@ -290,7 +290,7 @@ impl<'a> Guard<'a> {
     }
 
     /// Sets a flag. `NoSuchObject` comes exactly where the object isn't there; nothing has changed then.
-    #[tactic(auto, using(crate::proofs::Flagging::makes_flag_set))]
+    #[tactic(auto, using(crate::proofs::Flagging::makes_flag_set, crate::proofs::Flagging::refuses_flag_set))]
     pub fn set_flag(&mut self, pass: Pass, object: Dbref, flag: Flags) -> Result<(), DbFault>
         requires leave { IsLeave pass (Act.SetFlag object flag) self.old }
         requires one { is_flag flag ≡ true }
@@ -306,7 +306,7 @@ impl<'a> Guard<'a> {
 
     /// Clears a flag. `NoSuchObject` comes where the object isn't there, `WrongKind` where a thing would lose V while a
     /// player is in it; nothing has changed then.
-    #[tactic(auto, using(crate::proofs::Flagging::makes_flag_cleared))]
+    #[tactic(auto, using(crate::proofs::Flagging::makes_flag_cleared, crate::proofs::Flagging::refuses_flag_cleared))]
     pub fn clear_flag(&mut self, pass: Pass, object: Dbref, flag: Flags) -> Result<(), DbFault>
         requires leave { IsLeave pass (Act.SetFlag object flag) self.old }
         requires one { is_flag flag ≡ true }
@@ -322,7 +322,7 @@ impl<'a> Guard<'a> {
 
     /// Gives a program or a player a level. `NoSuchObject` comes where it isn't there, `WrongKind` for another kind and
     /// for a level above 3; nothing has changed then.
-    #[tactic(auto, using(crate::proofs::Guarding::makes_leveled))]
+    #[tactic(auto, using(crate::proofs::Guarding::makes_leveled, crate::proofs::Guarding::refuses_leveled))]
     pub fn set_level(&mut self, pass: Pass, object: Dbref, level: u8) -> Result<(), DbFault>
         requires leave { IsLeave pass (Act.SetLevel object level) self.old }
         ensures { Makes (leveled object level) (level_check object level (objects_of self.old)) self.old self.new result }
@@ -348,7 +348,7 @@ impl<'a> Guard<'a> {
 
     /// Recycles an object. `NoSuchObject` comes where it isn't there, `WrongKind` for `#0` and for a player; nothing has
     /// changed then. It takes no memory.
-    #[tactic(auto, using(crate::proofs::Guarding::makes_recycled))]
+    #[tactic(auto, using(crate::proofs::Guarding::makes_recycled, crate::proofs::Guarding::refuses_recycled))]
     pub fn recycle(&mut self, pass: Pass, object: Dbref) -> Result<(), DbFault>
         requires leave { IsLeave pass (Act.Recycle object) self.old }
         ensures { Makes (recycled_now object) (recycle_check object (objects_of self.old)) self.old self.new result }

@@ -5,8 +5,9 @@ use Rattle.spec_events.specs.World.{World}
 use Rattle.spec_events.specs.inner.Sound.{IsSound}
 use Rattle.spec_events.proofs.Numbers.{rising_booted}
 use Rattle.spec_events.proofs.Reached.{sound-booted}
+use Rattle.spec_origins.specs.Origins.{AreOwn}
 use Rattle.muck_turns.specs.inner.Hooks.{AreTold}
-use Rattle.muck_machine.proofs.Keepings.{told_begun, still_begun, keeps_begun}
+use Rattle.muck_machine.proofs.Keepings.{told_begun, still_begun, own_begun, keeps_begun}
 use Rattle.muck_machine.proofs.Taken.{booted_so}
 use Rattle.muck_machine.proofs.world.World.boot.Goals as goal
 
@@ -17,4 +18,5 @@ invariant_of-result c =
     (subst (λ (w : World). AreTold w.live.objects) begins (told_begun _ _ _ _ c.requires.told))
     (subst (λ (w : World). IsStill w.live.objects) begins (still_begun _ _ _ _ c.requires.still))
     (subst (λ (w : World). IsNumbered w.queue) begins (rising_booted _ _ _ _))
+    (subst AreOwn begins (own_begun _ _ _ _))
     (booted_so c.args.from.db c.args.from.tune c.args.moment c.args.start _ _ _ _ c.new-3.ensures c.new-4.ensures c.new-5.ensures c.new-6.ensures ∙ begins)
