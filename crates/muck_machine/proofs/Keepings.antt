@@ -58,7 +58,8 @@ keeps_told p state next e k alive may other is =
       lives = λ h. is ∙ ap (λ w. effect w e) (k.lives alive) ∙ sym whole;
       told = k.told;
       still = k.still;
-      numbered = k.numbered; own = k.own;
+      numbered = k.numbered;
+      own = k.own;
     }
 
 -- a note changes nothing of what is kept
@@ -81,7 +82,8 @@ keeps_lost p party state next k = record {
   lives = λ h. cc;
   told = k.told;
   still = k.still;
-  numbered = k.numbered; own = k.own;
+  numbered = k.numbered;
+  own = k.own;
 }
 
 -- whether the world as it is now is dead

@@ -25,13 +25,7 @@ pub enum Ending {
 }
 
 /// What was lent runs, while the party hasn't the turn; answers how the claim is to end.
-pub fn runs<G: Gate>(
-    seat: &TurnSeat<World>,
-    party: u8,
-    pid: i32,
-    lent: Lent,
-    gate: &G,
-) -> Ending
+pub fn runs<G: Gate>(seat: &TurnSeat<World>, party: u8, pid: i32, lent: Lent, gate: &G) -> Ending
     requires rests { Rests party seat.now.me }
     requires claim { Holds party pid IsFresh lent seat.now.me.0 }
     ensures pid { pid_of result ≡ pid }

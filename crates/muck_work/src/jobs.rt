@@ -41,7 +41,7 @@ fn lends(world: &World, party: u8, pid: i32) -> Job
     requires alive { (now world.now).dead ≡ false }
     requires claim { has_claim party pid (now world.now) ≡ true }
     requires there { is_process_there pid (now world.now) ≡ true }
-    ensures as { JobAs result (Event.Claim pid) }
+    ensures job { JobAs result (Event.Claim pid) }
     ensures lent { IsLent party result (now world.now) }
 {
     match world.lend(party, pid) {

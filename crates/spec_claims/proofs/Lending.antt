@@ -147,8 +147,10 @@ module _ (party : ℕ) (pid : ℤ) (l : Loan) (h : History) (o : OfClaim party p
   abbrev claim : Entry
   claim = record { party = party; event = Claim pid }
 
-  abbrev before behind : World
+  abbrev before : World
   before = after h.start o.front
+
+  abbrev behind : World
   behind = claimed_world h.start o.front party pid
 
   behind_is : behind ≡ effect before claim
@@ -211,7 +213,7 @@ module _ (party : ℕ) (pid : ℤ) (l : Loan) (h : History) (o : OfClaim party p
           let most : l.most ≡ loan_most behind o.at.0 o.at.1 = ap (λ (k : Loan). k.most) o.loan in
           let level = level_of_acting o.at.0 x o.at.1 behind (now h) a.0 in
           let may : allowed (now h).live.board.tune (acting x o.at.1 (now h).live.objects).level (slice_most (now h).live.board.tune) x
-              ≡ allowed behind.live.board.tune (acting o.at.0 o.at.1 behind.live.objects).level (slice_most behind.live.board.tune) o.at.0
+          ≡ allowed behind.live.board.tune (acting o.at.0 o.at.1 behind.live.objects).level (slice_most behind.live.board.tune) o.at.0
           = ap (λ n. allowed (now h).live.board.tune n (slice_most (now h).live.board.tune) x) level
           ∙ ap (λ t. allowed t (acting o.at.0 o.at.1 behind.live.objects).level (slice_most t) x) a.1
           ∙ allowed_as behind.live.board.tune (acting o.at.0 o.at.1 behind.live.objects).level (slice_most behind.live.board.tune) o.at.0 x (same_mode s ∙ ap (λ (y : Agent). y.mode) woke.agent) (same_units s ∙ ap (λ (y : Agent). y.units) woke.agent) (same_section ∙ ap (λ (y : Agent). y.section) woke.agent)

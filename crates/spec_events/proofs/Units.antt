@@ -305,8 +305,9 @@ module _ (tune : Tune) (pid : ℤ) (level : ℕ) where
   run_on n m x s w stuck e h = refl
   run_on n m x s w (faulted f) e h = refl
   run_on n m x s w (asks p t) e h =
-      let left : n ≡ suc n - 1 = omega arith in ap (λ r. after_turn tune r pid (after_deed pid x.player t (deed pid x p t (out (deed pid x p t (out pid (one_counted pid w))))) left ∙ sym (plus_zero (resumed tune pid x 0 (suc n) s.program.number (asks p t) w))
- : (n m : ℕ) (x : Agent) (s : Source) (w : World) → seat pid w ≡ Some (x, s) → level_in w.live.objects (programs_of s) ≡ level → May tune level (suc n) (suc m) x →
+      let left : n ≡ suc n - 1 = omega arith in ap (λ r. after_turn tune r pid (after_deed pid x.player t (deed pid x p t (out pid (one_counted pid w))))) left ∙ sym (plus_zero (resumed tune pid x 0 (suc n) s.program.number (asks p t) w))
+
+  run_next : (n m : ℕ) (x : Agent) (s : Source) (w : World) → seat pid w ≡ Some (x, s) → level_in w.live.objects (programs_of s) ≡ level → May tune level (suc n) (suc m) x →
       ((t : Source) → unit s ≡ goes 0 t → finish tune n pid (process_stands_at pid t (one_counted pid w)) ≡ plus (taken m t) (resumed tune pid x (suc (taken m t)) (suc n) s.program.number (units m t) w)) →
       finish tune (suc n) pid w ≡ plus (taken (suc m) s) (resumed tune pid x (taken (suc m) s) (suc n) s.program.number (units (suc m) s) w)
   run_next n m x s w at is may h =

@@ -111,7 +111,12 @@ impl State {
     }
 
     /// The slice of a process of which a run outside left this, where there is one that counts; and else all of it from its own state.
-    pub fn take_over(&mut self, pid: i32, ran: Option<Stint>, meter: &mut Meter) -> Result<(), NoMemory>
+    pub fn take_over(
+        &mut self,
+        pid: i32,
+        ran: Option<Stint>,
+        meter: &mut Meter,
+    ) -> Result<(), NoMemory>
         requires told { AreTold self.old.live.objects }
         requires still { IsStill self.old.live.objects }
         requires room { meter.old < 2 ^ 62 }

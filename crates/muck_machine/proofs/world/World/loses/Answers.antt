@@ -14,4 +14,3 @@ invariant_of-self c =
     let may = ap (λ pid. is_lawful (now c.args.self.now) (record { party = c.args.party; event = Lost pid })) back ∙ lost_lawful (now c.args.self.now) c.args.party c.args.pid c.requires.alive c.requires.claim c.requires.ended in
     keeps_entered c.self.inside.past _ _ _ _ _ c.self.invariant c.self.view_is may refl c.enter.ensures
     (lost_so (to_z w32 (of_z w32 c.args.pid)) c.args.party (state.the_view c.state.inside) _ _ c.release.ensures c.state.view_is)
-
