@@ -1,5 +1,5 @@
 // The objects that a cause meets: a place or a player and its places upward, or a place and what is in it.
-ghost use Rattle.std.specs.Prelude.{◌≡◌, ◌++◌, ◌∷◌, [], false, not, MatchOption, IfOk, OnOk};
+ghost use Rattle.std.specs.Prelude.{◌≡◌, ◌++◌, ◌∷◌, [], false, not, codes, MatchOption, IfOk, OnOk};
 ghost use Rattle.std.specs.List.{filter, flat_map};
 ghost use Rattle.spec_live.specs.Seen.{listed_in, places_of};
 ghost use Rattle.spec_rights.specs.Levels.{is_player_at};
@@ -91,7 +91,7 @@ fn things_in(alloc: Global, db: &Db, place: Dbref) -> Result<Vec<Dbref>, NoMemor
     Ok(things)
 }
 
-// By a place and by what is in it but players.
+// By a place and by what is in it but players. Where nothing in it listens it looks at the place alone.
 pub fn around(
     alloc: Global,
     db: &Db,
@@ -100,10 +100,14 @@ pub fn around(
     place: Dbref,
     fires: &mut Vec<Fire>,
 ) -> Result<(), NoMemory>
-    requires { dir.now ≡ directory cause.now }
+    requires dir { dir.now ≡ directory cause.now }
+    requires listen { directory cause.now ≡ codes "_listen" ∷ [] }
     ensures { OnOk result (fires.new.items ≡ fires.old.items ++ flat_map (fired_by db.now cause.now) (place ∷ filter (λ d. not (is_player_at db.now d)) (listed_in false place db.now))) }
 {
-    let things = things_in(alloc, db, place)?;
     push_fires(alloc, db, cause, dir, place, fires)?;
+    if !db.is_heard_in(place) {
+        return Ok(());
+    }
+    let things = things_in(alloc, db, place)?;
     push_others(alloc, db, cause, dir, &things, fires)
 }

@@ -1,6 +1,6 @@
 use Rattle.std.proofs.Common.{◌∙◌}
 use Rattle.muck_laws.proofs.Results.{on_ok_as}
-use Rattle.muck_hook.proofs.Listed.{fired_around}
+use Rattle.muck_hook.proofs.Listed.{fired_around, around_unheard}
 use Rattle.muck_hook.proofs.carriers.around.Goals as goal
 
 pub returns : goal.returns
