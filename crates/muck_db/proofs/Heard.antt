@@ -44,7 +44,7 @@ heard_written h slots k w last known = record {
   path = known.path;
   noted = λ j s at heard. elim (cases_eq j k) [
     | inl e ↦ inl (last ∙ ap Some (sym e))
-    | inr ne ↦ known.noted j s (sym (get_elsewhere slots j k w ne) ∙ at) heard
+    | inr ne ↦ known.noted j s (sym (get_elsewhere slots k j w ne) ∙ at) heard
   ];
 }
 
@@ -56,6 +56,12 @@ heard_pushed h slots k w last many known = record {
     | inr ne ↦ known.noted j s (sym (get_more slots w j ne) ∙ at) heard
   ];
 }
+
+pub heard_grown : (h : Hearers) (old new : List Slot) (k : ℕ) (w : Slot) → new ≡ old ++ w ∷ [] → h.last ≡ Some k → k ≡ length old → AreHeard h old → AreHeard h new
+heard_grown h old new k w is last many known = subst (AreHeard h) (sym is) (heard_pushed h old k w last many known)
+
+pub heard_same : (h : Hearers) (old new : List Slot) → new ≡ old → AreHeard h old → AreHeard h new
+heard_same h old new is known = subst (AreHeard h) (sym is) known
 
 pub heard_elsewhere : (h : Hearers) (slots : List Slot) (p : ℕ) → (Notes h.places p → ⊥)
     → ((j : ℕ) (s : Slot) → h.last ≡ Some j → slice_get slots j ≡ Some s → is_dir h.listen (shown s).props ≡ true → index_of (shown s).place ≡ Some p → ⊥) → AreHeard h slots → IsUnheard p slots
@@ -104,5 +110,5 @@ unheard_in slots es place p is order number none =
     subst (λ (z : List Entry). list_any (listens z) (listed_in false place z) ≡ false) is
     (ap (λ (l : List Dbref). list_any (listens (entries_of slots)) l) (listed_some false (entries_of slots) place p number)
     ∙ none_heard (listens (entries_of slots)) (list_in false (entries_of slots) p) (λ n m.
-        let stands : StandsIn (entries_of slots) false p n = order.stands false p n m in
-        unheard_at slots p n (sym (place_in-entries_of slots n) ∙ stands.place) none))
+    let stands : StandsIn (entries_of slots) false p n = order.stands false p n m in
+    unheard_at slots p n (sym (place_in-entries_of slots n) ∙ stands.place) none))

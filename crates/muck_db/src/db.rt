@@ -228,7 +228,13 @@ impl Db {
     fn any_listens(&self, place: Dbref) -> bool
         ensures { result ≡ list_any (listens self.now) (listed_in false place self.now) }
     {
-        self.contents(place).any(|d| self.listens(d))
+        let mut left = self.contents(place);
+        while let Some(d) = left.next() {
+            if self.listens(d) {
+                return true;
+            }
+        }
+        false
     }
 
     // Whether it is known that nothing listens in a place.
