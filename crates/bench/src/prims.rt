@@ -1,11 +1,11 @@
 // Runs a MUF program that reads and writes properties, and moves and names an object, over a world in which Room Zero has many
 // properties.
 use crate::props::path_of;
-use crate::talk::{TUNE, make};
+use crate::talk::make;
 use crate::units::{begin, compiled, empty_frame};
 use muck_board::Board;
 use muck_db::Db;
-use muck_model::{Dbref, Kind};
+use muck_model::{Dbref, Kind, Tune};
 use muck_perm::Guard;
 use muck_prop::PropValue;
 use muf_frame::{Frame, PrimFault};
@@ -116,7 +116,7 @@ fn turns(
 // One runs the code in a world.
 fn ran(alloc: Global, code: &Code, frame: &mut Frame, db: &mut Db, most: u32) -> Option<()> {
     begin(alloc, code, frame)?;
-    let mut board = Board::new(alloc, 0, TUNE);
+    let mut board = Board::new(alloc, 0, Tune::first());
     let actor = Actor {
         level: 4,
         user: ONE,

@@ -11,18 +11,6 @@ const ROOM_ZERO: Dbref = Dbref(0);
 
 const ONE: Dbref = Dbref(1);
 
-/// What a wizard tunes, as it is at first.
-pub(crate) const TUNE: Tune = Tune {
-    instr_slice: 2000,
-    preempt_units: 20_000,
-    m1_units: 20_000,
-    m2_units: 80_000,
-    process_limit: 400,
-    player_processes: 32,
-    mpi_commands: 2048,
-    dump_interval: 900,
-};
-
 /// So many more objects of a kind in Room Zero.
 pub(crate) fn make(db: &mut Db, alloc: Global, kind: Kind, count: u32) -> Option<()> {
     for _ in 0..count {
@@ -100,6 +88,6 @@ fn fill(alloc: Global, db: &mut Db, things: u32) -> Option<()> {
 pub fn run(alloc: Global, things: u32, said: u32, looks: u32) -> Option<String> {
     let mut db = Db::starting(alloc).ok()?;
     fill(alloc, &mut db, things)?;
-    let mut board = Board::new(alloc, 0, TUNE);
+    let mut board = Board::new(alloc, 0, Tune::first());
     talked(alloc, &mut db, &mut board, said, looks)
 }

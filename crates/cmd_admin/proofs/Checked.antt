@@ -8,7 +8,7 @@ use Rattle.spec_live.specs.declared.fault.DbFault.{DbFault}
 use Rattle.spec_live.specs.declared.fault.DbFault.TheVariants.{NoSuchObject, WrongKind}
 use Rattle.spec_live.specs.declared.object.Object.{Object}
 use Rattle.spec_live.specs.Objects.{Entry, dbref_of, is_player, is_garbage, kind_in, object_in, number_in, object_at}
-use Rattle.spec_live.specs.Making.{grown, created, create_check}
+use Rattle.spec_live.specs.Making.{objects_grown, created, create_check}
 use Rattle.spec_live.specs.Setting.{set_at, checked, password_check}
 use Rattle.spec_live.proofs.Readers.{kind_changed, kind_moved}
 use Rattle.spec_live.proofs.CreationLaws.{may_create, Begins, begins, named_kind}
@@ -46,7 +46,7 @@ new_kind : (name : List ℕ) (owner place : Dbref) (es : List Entry) (p : ℕ ×
 unfolding created
 new_kind name owner place es p h =
     let b : Begins es Player owner p.0 p.1 = begins es Player owner p.0 p.1 (may_create Player owner place es p h) in
-    kind_changed p.0 p.0 (λ o. o) (created p.0 Player name owner p.1 es) (λ o. refl) ∙ (kind_moved _ p.0 p.1 p.0 ∙ named_kind (grown p.0 es) p.0 Player name owner b.known)
+    kind_changed p.0 p.0 (λ o. o) (created p.0 Player name owner p.1 es) (λ o. refl) ∙ (kind_moved _ p.0 p.1 p.0 ∙ named_kind (objects_grown p.0 es) p.0 Player name owner b.known)
 
 -- a player that was made is there
 pub made_checked : (name : List ℕ) (owner place : Dbref) (es : List Entry) (p : ℕ × ℕ) → create_check Player owner place es ≡ Ok p →

@@ -2,7 +2,7 @@
 use Rattle.std.proofs.Common.{◌≡◌, ℕ, true, List, None, Result, Ok, Err, sym, ◌∙◌, ap, subst}
 use Rattle.muck_model.specs.declared.memory.NoMemory.{NoMemory}
 use Rattle.muck_model.specs.declared.dbref.Dbref.{Dbref}
-use Rattle.spec_live.specs.Lives.{Live, draw, random_word, reading, followed}
+use Rattle.spec_live.specs.Lives.{Live, draw, random_word, reading, change_followed}
 use Rattle.spec_live.specs.Setting.{password_check}
 use Rattle.spec_rights.specs.declared.act.Act.{Act}
 use Rattle.spec_rights.specs.declared.act.Actor.{Actor}
@@ -33,7 +33,7 @@ allowed_drawn x a b may s = ap (λ es. allowed (password_check x es)) (objects_d
 -- a password under a salt that was drawn
 pub password_given : (x : Dbref) (word : List ℕ) (first second : ℕ) (a b c new : Guard) (r : Result (Unit {0}) NoMemory) → first ≡ random_word (world_of a) → Done draw a b → second ≡ random_word (world_of b) → Done draw b c →
     Did (password_kept x (salt_of first second) word) c new r → Did (password_drawn x word) a new r
-unfolding password_drawn reading followed
+unfolding password_drawn reading change_followed
 password_given x word first second a b c new (Ok u) one s two t kept =
     let drawn : world_of c ≡ draw (draw (world_of a)) = t.0 ∙ ap draw s.0 in
     let next : second ≡ random_word (draw (world_of a)) = two ∙ ap random_word s.0 in (

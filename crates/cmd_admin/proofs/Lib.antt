@@ -5,7 +5,6 @@ pub mod Drawn
 pub mod Made
 pub mod Changed
 pub mod Ends
-pub mod Named
 pub mod Killed
 pub mod Tuned
 pub mod Open

@@ -2,10 +2,11 @@
 use Rattle.std.proofs.Common.{◌≡◌, ℕ, ◌+◌, ◌<◌, ◌≤◌, Bool, true, false, List, [], ◌∷◌, length, drop, get_or, Result, Ok, Err, inl, inr, refl, sym, ◌∙◌, ap, subst, arith}
 use Rattle.std.proofs.lemmas.List.{drop_all}
 use Rattle.std.specs.List.{filter}
+use Rattle.muck_laws.proofs.Places.{split_here}
 use Rattle.muck_model.specs.declared.memory.NoMemory.{NoMemory}
-use Rattle.spec_live.specs.Lives.{Live, Change, ◌▸◌, followed, reading, unchanged, tell}
+use Rattle.spec_live.specs.Lives.{Live, Change, ◌▸◌, change_followed, reading, unchanged, tell}
 use Rattle.spec_rights.specs.declared.act.Actor.{Actor}
-use Rattle.spec_commands.specs.Finding.{each}
+use Rattle.spec_commands.specs.Finding.{for_each}
 use Rattle.muck_queue.specs.declared.process.Process.{Process}
 use Rattle.muck_queue.specs.Queues.{Queue}
 use Rattle.spec_admin.specs.Replies.{processes_count}
@@ -14,11 +15,10 @@ use Rattle.muck_perm.specs.declared.guard.Guard.{Guard}
 use Rattle.muck_perm.specs.inner.Guards.{Did, Done, objects_of, world_of}
 use Rattle.muck_perm.proofs.Worlds.{did_both}
 use Rattle.cmd_admin.specs.inner.Shown.{IsShown}
-use Rattle.cmd_admin.proofs.Each.{split_here}
 
 -- these are shown, and how many they and those before them are
 abbrev pub shown_on : ℕ → List Process → ℕ → Change
-shown_on d ps n = each (process_shown d) ps ▸ tell d (processes_count (n + length ps))
+shown_on d ps n = for_each (process_shown d) ps ▸ tell d (processes_count (n + length ps))
 
 -- those from the place i on that may be ended in the world w
 abbrev pub rest_shown : ℕ → Actor → Live → List Process → ℕ → ℕ → Change
@@ -34,11 +34,11 @@ objects_stay d p w = refl
 
 shown_more : (d : ℕ) (p : Process) (ps : List Process) (n : ℕ) (a b new : Guard) (r : Result (Unit {0}) NoMemory) →
     Done (process_shown d p) a b → Did (shown_on d ps (n + 1)) b new r → Did (shown_on d (p ∷ ps) n) a new r
-unfolding each followed process_shown tell
+unfolding for_each change_followed process_shown tell
 shown_more d p ps n a b new r s t =
     let count : (n + 1) + length ps ≡ n + length (p ∷ ps) = omega arith in
-    let P : ℕ → Type 0 = λ m. Did (each (process_shown d) ps ▸ tell d (processes_count m)) b new r in
-    did_both (process_shown d p) (each (process_shown d) ps ▸ tell d (processes_count (n + length (p ∷ ps)))) a b new r s (subst P count t)
+    let P : ℕ → Type 0 = λ m. Did (for_each (process_shown d) ps ▸ tell d (processes_count m)) b new r in
+    did_both (process_shown d p) (for_each (process_shown d) ps ▸ tell d (processes_count (n + length (p ∷ ps)))) a b new r s (subst P count t)
 
 -- one that may be ended is shown
 pub listed_here : (d : ℕ) (x : Actor) (w : Live) (ps : List Process) (i n : ℕ) (p : Process) (a b new : Guard) (r : Result (Unit {0}) NoMemory) →
@@ -56,15 +56,15 @@ passed_over d x w ps i n p a new r h is may t =
     let P : List Process → Type 0 = λ qs. Did (shown_on d qs n) a new r in
     subst P (sym left) t
 
-none_shown : (d : ℕ) (n : ℕ) (a new : Guard) (r : Result (Unit {0}) NoMemory) → Did (tell d (processes_count n)) a new r → Did (each (process_shown d) [] ▸ tell d (processes_count n)) a new r
-unfolding each followed unchanged
+none_shown : (d : ℕ) (n : ℕ) (a new : Guard) (r : Result (Unit {0}) NoMemory) → Did (tell d (processes_count n)) a new r → Did (for_each (process_shown d) [] ▸ tell d (processes_count n)) a new r
+unfolding for_each change_followed unchanged
 none_shown d n a new (Ok u) t = t
 none_shown d n a new (Err e) t = t
 
 told_last : (d : ℕ) (n : ℕ) (a new : Guard) (r : Result (Unit {0}) NoMemory) → Did (tell d (processes_count n)) a new r → Did (shown_on d [] n) a new r
 told_last d n a new r t =
     let count : n + 0 ≡ n = omega arith in
-    let P : ℕ → Type 0 = λ m. Did (each (process_shown d) [] ▸ tell d (processes_count m)) a new r in
+    let P : ℕ → Type 0 = λ m. Did (for_each (process_shown d) [] ▸ tell d (processes_count m)) a new r in
     subst P (sym count) (none_shown d n a new r t)
 
 -- behind the last one their count is told
@@ -76,7 +76,7 @@ listed_all d x w ps i n a new r h t =
     subst P (sym none) (told_last d n a new r t)
 
 all_shown : (d : ℕ) (q : Queue) (a new : Guard) (r : Result (Unit {0}) NoMemory) →
-    Did (each (process_shown d) (filter (may_end a.actor (world_of a)) q.processes) ▸ tell d (processes_count (length (filter (may_end a.actor (world_of a)) q.processes)))) a new r →
+    Did (for_each (process_shown d) (filter (may_end a.actor (world_of a)) q.processes) ▸ tell d (processes_count (length (filter (may_end a.actor (world_of a)) q.processes)))) a new r →
     Did (processes_shown d a.actor q) a new r
 unfolding processes_shown reading
 all_shown d q a new (Ok u) t = t
@@ -89,7 +89,7 @@ lists_all d q ps a new r e t =
     let own : List Process = filter (may_end a.actor (world_of a)) q.processes in
     let count : 0 + length own ≡ length own = omega arith in
     let P : List Process → Type 0 = λ xs. Did (rest_shown d a.actor (world_of a) xs 0 0) a new r in
-    let Q : ℕ → Type 0 = λ m. Did (each (process_shown d) own ▸ tell d (processes_count m)) a new r in
+    let Q : ℕ → Type 0 = λ m. Did (for_each (process_shown d) own ▸ tell d (processes_count m)) a new r in
     all_shown d q a new r (subst Q count (subst P e t))
 
 -- One after another.

@@ -14,7 +14,7 @@ use Rattle.spec_live.specs.Lives.{Live, Change, ◌▸◌, reading, tell}
 use Rattle.spec_rights.specs.declared.act.Actor.{Actor}
 use Rattle.spec_rights.specs.declared.act.Act.TheVariants.{Wizard, Password}
 use Rattle.spec_rights.specs.Changing.{created_so}
-use Rattle.spec_rights.specs.Levels.{number_of}
+use Rattle.spec_rights.specs.Levels.{dbref_number}
 use Rattle.spec_rights.specs.Verdict.{verdict}
 use Rattle.spec_rights.proofs.Allowed.{wizard_allowed}
 use Rattle.spec_commands.specs.Building.{allowed, made_at, created_shown}
@@ -70,10 +70,10 @@ put_read d a name word old new (Ok u) h = h
 put_read d a name word old new (Err e) h = h
 
 pub player_made : (d : ℕ) (a : Actor) (name word : List ℕ) (old mid new : Guard) (x : Dbref) (result : Result (Unit {0}) NoMemory) →
-    Founds (player_check a old) (maker name a) old mid (Ok x) → Did (password_drawn x word ▸ created_shown d (number_of x)) mid new result → Did (player_put d a name word) old new result
+    Founds (player_check a old) (maker name a) old mid (Ok x) → Did (password_drawn x word ▸ created_shown d (dbref_number x)) mid new result → Did (player_put d a name word) old new result
 player_made d a name word old mid new x result f t =
     let s : Founded (player_check a old) (maker name a) old mid x = founded (player_check a old) (maker name a) old mid x f in
-    let P : Dbref → Type 0 = λ y. Did (password_drawn y word ▸ created_shown d (number_of y)) mid new result in
+    let P : Dbref → Type 0 = λ y. Did (password_drawn y word ▸ created_shown d (dbref_number y)) mid new result in
     let Q : Result (ℕ × ℕ) DbFault → Type 0 = λ check. Did (made_at check (puts d a name word) (tell d cant_be_done)) old new result in
     let both : Did (puts d a name word s.at.0 s.at.1) old new result = did_both (maker name a s.at.0 s.at.1) _ old mid new result s.done (subst P s.is t) in
     put_read d a name word old new result (subst Q (sym s.found) both)

@@ -3,7 +3,7 @@ ghost use Rattle.std.specs.Prelude.{◌≡◌, map, OnOk, OnErr};
 ghost use Rattle.std.specs.Option.{option_map_or};
 ghost use Rattle.spec_rights.specs.Licence.{Licensed, nobody};
 ghost use Rattle.spec_commands.specs.Reading.{with_arguments};
-ghost use Rattle.muck_queue.specs.Queues.{without};
+ghost use Rattle.muck_queue.specs.Queues.{without_process};
 ghost use Rattle.spec_admin.specs.Lines.{admin_words, admin_shape, admin_done, admin_line, ended_by, after_line};
 ghost use Rattle.muck_perm.specs.inner.Guards.{world_of};
 ghost use Rattle.cmd_common.specs.inner.Plays.{Plays};
@@ -69,7 +69,7 @@ fn perform(
     args: Arguments,
 ) -> Result<Outcome, NoMemory>
     ensures plays { Plays (admin_done queue.old d guard.old.actor command args) guard.old guard.new result }
-    ensures queue { OnOk result (queue.new ≡ option_map_or (λ p. without p.number queue.old) (ended_by guard.old.actor queue.old args.first.text (world_of guard.old) (Some command)) queue.old) }
+    ensures queue { OnOk result (queue.new ≡ option_map_or (λ p. without_process p.number queue.old) (ended_by guard.old.actor queue.old args.first.text (world_of guard.old) (Some command)) queue.old) }
     ensures kept { OnErr result (queue.new ≡ queue.old) }
 {
     let x = args.first.object;
@@ -99,7 +99,7 @@ fn do_command(
     text: &Line,
 ) -> Result<Outcome, NoMemory>
     ensures plays { Plays (with_arguments d guard.old.actor word.now (admin_shape command) text.now (admin_done queue.old d guard.old.actor command)) guard.old guard.new result }
-    ensures queue { OnOk result (queue.new ≡ option_map_or (λ p. without p.number queue.old) (ended_by guard.old.actor queue.old text.now (world_of guard.old) (Some command)) queue.old) }
+    ensures queue { OnOk result (queue.new ≡ option_map_or (λ p. without_process p.number queue.old) (ended_by guard.old.actor queue.old text.now (world_of guard.old) (Some command)) queue.old) }
     ensures kept { OnErr result (queue.new ≡ queue.old) }
 {
     match arguments(guard, d, word, shape_of(command), text)? {

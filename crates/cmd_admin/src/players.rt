@@ -4,7 +4,7 @@ ghost use Rattle.spec_live.specs.Setting.{password_check};
 ghost use Rattle.spec_live.specs.Lives.{◌▸◌};
 ghost use Rattle.spec_rights.specs.declared.act.Act.{Act};
 ghost use Rattle.spec_rights.specs.Changing.{password_kept};
-ghost use Rattle.spec_rights.specs.Levels.{number_of};
+ghost use Rattle.spec_rights.specs.Levels.{dbref_number};
 ghost use Rattle.spec_rights.specs.Verdict.{verdict};
 ghost use Rattle.spec_commands.specs.Building.{allowed, created_shown, done_where};
 ghost use Rattle.spec_admin.specs.Players.{is_password, salt_of, password_drawn, player_put, player_made, password_changed};
@@ -80,11 +80,11 @@ fn give_password(guard: &mut Guard, pass: Pass, x: Dbref, word: &Line) -> Result
 }
 
 // A new player gets its password, and the connection is told what was made.
-#[tactic(auto, unfolding(spec_live::specs::Lives::followed))]
+#[tactic(auto, unfolding(spec_live::specs::Lives::change_followed))]
 fn complete(guard: &mut Guard, d: u32, x: Dbref, word: &Line) -> Result<(), NoMemory>
     requires leave { verdict (objects_of guard.old) guard.old.actor (Act.Password x) ≡ None }
     requires player { allowed (password_check x (objects_of guard.old)) ≡ true }
-    ensures { Did (password_drawn x word.now ▸ created_shown d (number_of x)) guard.old guard.new result }
+    ensures { Did (password_drawn x word.now ▸ created_shown d (dbref_number x)) guard.old guard.new result }
 {
     let actor = guard.actor();
     match verdict(guard.db(), &actor, &Act::Password { player: x }) {
@@ -143,7 +143,7 @@ pub fn make_player(guard: &mut Guard, d: u32, name: Line, word: &Line) -> Result
 }
 
 // Gives a player another password by leave, and the connection is told so; or that it can't be done.
-#[tactic(auto, unfolding(spec_commands::specs::Building::done_where, spec_commands::specs::Finding::where_so, spec_admin::specs::Replies::password_reply, spec_live::specs::Lives::reading, spec_live::specs::Lives::either, spec_live::specs::Lives::followed))]
+#[tactic(auto, unfolding(spec_commands::specs::Building::done_where, spec_commands::specs::Finding::where_so, spec_admin::specs::Replies::password_reply, spec_live::specs::Lives::reading, spec_live::specs::Lives::either, spec_live::specs::Lives::change_followed))]
 fn change_by(guard: &mut Guard, d: u32, pass: Pass, x: Dbref, word: &Line) -> Result<(), NoMemory>
     requires { IsLeave pass (Act.Password x) guard.old }
     ensures { Did (done_where d (λ w. allowed (password_check x w.objects)) (password_drawn x word.now) password_reply) guard.old guard.new result }
@@ -156,7 +156,7 @@ fn change_by(guard: &mut Guard, d: u32, pass: Pass, x: Dbref, word: &Line) -> Re
 }
 
 /// `@newpassword`: gives a player another password, which isn't too long.
-#[tactic(auto, unfolding(spec_admin::specs::Players::password_changed, spec_commands::specs::Building::written, spec_live::specs::Lives::either, spec_rights::specs::Asking::asked))]
+#[tactic(auto, unfolding(spec_admin::specs::Players::password_changed, spec_commands::specs::Building::change_by_leave, spec_live::specs::Lives::either, spec_rights::specs::Asking::asked))]
 pub fn change_password(guard: &mut Guard, d: u32, x: Dbref, word: &Line) -> Result<(), NoMemory>
     ensures { Did (password_changed d guard.old.actor x word.now) guard.old guard.new result }
 {

@@ -3,9 +3,9 @@ ghost use Rattle.std.specs.Prelude.{◌≡◌, ◌≤◌, IfOk, OnOk, OnErr};
 ghost use Rattle.std.specs.Option.{option_copied, option_map_or};
 ghost use Rattle.spec_live.specs.Lives.{tell};
 ghost use Rattle.spec_rights.specs.Verdict.{verdict};
-ghost use Rattle.muck_queue.specs.Queues.{without};
+ghost use Rattle.muck_queue.specs.Queues.{without_process};
 ghost use Rattle.spec_admin.specs.Replies.{process_line, processes_count};
-ghost use Rattle.spec_admin.specs.Processes.{ending, process_shown, processes_shown, process_meant, kill_told, killed};
+ghost use Rattle.spec_admin.specs.Processes.{ending_act, process_shown, processes_shown, process_meant, kill_told, process_killed};
 ghost use Rattle.muck_perm.specs.inner.Guards.{Did, objects_of, world_of};
 ghost use Rattle.cmd_admin.specs.inner.Shown.{IsShown};
 
@@ -21,7 +21,7 @@ const NUMBER_MOST: u64 = 2_147_483_647;
 
 // To end it.
 fn ending(process: &Process) -> Act
-    ensures { result ≡ ending process.now }
+    ensures { result ≡ ending_act process.now }
 {
     Act::EndProcess {
         player: process.player,
@@ -31,7 +31,7 @@ fn ending(process: &Process) -> Act
 
 // The denial by which the actor may not end a process.
 fn ending_denial(guard: &Guard, process: &Process) -> Option<Denial>
-    ensures { result ≡ verdict (objects_of guard.now) guard.now.actor (ending process.now) }
+    ensures { result ≡ verdict (objects_of guard.now) guard.now.actor (ending_act process.now) }
 {
     match verdict(guard.db(), &guard.actor(), &ending(process)) {
         Ok(_) => None,
@@ -106,10 +106,10 @@ fn process_meant<'a>(queue: &'a Queue, text: &[u8]) -> Option<&'a Process>
 }
 
 /// `@kill`: ends the process whose number a text writes, where the actor may end it.
-#[tactic(auto, unfolding(spec_admin::specs::Processes::kill_told, spec_admin::specs::Replies::no_process, spec_admin::specs::Replies::killed_reply, spec_rights::specs::Asking::asked))]
+#[tactic(auto, unfolding(spec_admin::specs::Processes::kill_told, spec_admin::specs::Replies::no_process_reply, spec_admin::specs::Replies::killed_reply, spec_rights::specs::Asking::asked))]
 pub fn kill(guard: &mut Guard, queue: &mut Queue, d: u32, text: &Line) -> Result<(), NoMemory>
     ensures told { Did (kill_told d guard.old.actor queue.old text.now) guard.old guard.new result }
-    ensures queue { OnOk result (queue.new ≡ option_map_or (λ p. without p.number queue.old) (killed guard.old.actor queue.old text.now (world_of guard.old)) queue.old) }
+    ensures queue { OnOk result (queue.new ≡ option_map_or (λ p. without_process p.number queue.old) (process_killed guard.old.actor queue.old text.now (world_of guard.old)) queue.old) }
     ensures kept { OnErr result (queue.new ≡ queue.old) }
 {
     let Some(process) = process_meant(queue, text.as_slice()) else {

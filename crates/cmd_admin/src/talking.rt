@@ -4,7 +4,7 @@ ghost use Rattle.spec_live.specs.Lives.{name_at, tell_all, reading};
 ghost use Rattle.spec_commands.specs.declared.outcome.Outcome.{Outcome};
 ghost use Rattle.spec_commands.specs.Going.{ended};
 ghost use Rattle.spec_live.specs.Lives.{tell};
-ghost use Rattle.spec_admin.specs.Replies.{shouts, dumping, going_down};
+ghost use Rattle.spec_admin.specs.Replies.{shouts, dumping_reply, going_down};
 ghost use Rattle.spec_admin.specs.Lines.{by_wizard, player_booted, shouted};
 ghost use Rattle.muck_perm.specs.inner.Guards.{Did, world_of};
 ghost use Rattle.cmd_common.specs.inner.Plays.{Plays};
@@ -17,7 +17,7 @@ use spec_commands::Outcome;
 use spec_rights::Act;
 
 /// `@boot`: the connections of a player are to leave.
-#[tactic(auto, unfolding(spec_admin::specs::Lines::player_booted, spec_admin::specs::Replies::booted_reply, spec_commands::specs::Going::ended, spec_live::specs::Lives::followed, spec_rights::specs::Asking::asked))]
+#[tactic(auto, unfolding(spec_admin::specs::Lines::player_booted, spec_admin::specs::Replies::booted_reply, spec_commands::specs::Going::ended, spec_live::specs::Lives::change_followed, spec_rights::specs::Asking::asked))]
 pub fn boot(guard: &mut Guard, d: u32, player: Dbref) -> Result<Outcome, NoMemory>
     ensures { Plays (player_booted d guard.old.actor player) guard.old guard.new result }
 {
@@ -56,9 +56,9 @@ pub fn wall(guard: &mut Guard, d: u32, text: &Line) -> Result<Outcome, NoMemory>
 }
 
 /// `@dump`: a dump is asked.
-#[tactic(auto, unfolding(spec_admin::specs::Replies::dumping, spec_commands::specs::Going::ended, spec_rights::specs::Asking::asked))]
+#[tactic(auto, unfolding(spec_admin::specs::Replies::dumping_reply, spec_commands::specs::Going::ended, spec_rights::specs::Asking::asked))]
 pub fn dump(guard: &mut Guard, d: u32) -> Result<Outcome, NoMemory>
-    ensures { Plays (by_wizard d guard.old.actor (ended Outcome.Dump (tell d dumping))) guard.old guard.new result }
+    ensures { Plays (by_wizard d guard.old.actor (ended Outcome.Dump (tell d dumping_reply))) guard.old guard.new result }
 {
     if let Some(denial) = wizard_denial(guard) {
         return deny(guard, d, denial);

@@ -10,14 +10,14 @@ use Rattle.spec_live.specs.Making.{create_check}
 use Rattle.spec_live.specs.Setting.{with_level}
 use Rattle.spec_live.specs.Lives.{Change, ◌▸◌, reading, tell}
 use Rattle.spec_rights.specs.declared.act.Actor.{Actor}
-use Rattle.spec_rights.specs.Levels.{number_of}
+use Rattle.spec_rights.specs.Levels.{dbref_number}
 use Rattle.spec_rights.specs.Changing.{created_so}
 use Rattle.spec_commands.specs.declared.outcome.Outcome.{Outcome}
 use Rattle.spec_commands.specs.declared.outcome.Outcome.TheVariants.{Edit}
 use Rattle.spec_commands.specs.Replies.{cant_be_done, entering_editor}
 use Rattle.spec_commands.specs.Going.{Play, ended}
 use Rattle.spec_commands.specs.Building.{created_shown}
-use Rattle.spec_commands.specs.Programming.{over, first_level, program_put, program_at, program_new}
+use Rattle.spec_commands.specs.Programming.{command_over, first_level, program_put, program_at, program_new}
 use Rattle.muck_perm.specs.declared.guard.Guard.{Guard}
 use Rattle.muck_perm.specs.inner.Guards.{Done, Founds, objects_of, world_of}
 use Rattle.muck_perm.proofs.Worlds.{same_as, same_after, done_both}
@@ -36,9 +36,9 @@ both f g outcome old mid new (Ok found) e t = (done_both f g old mid new e t.0, 
 both f g outcome old mid new (Err x) e t = same_after old mid new e.1.1 t
 
 -- that the world refused it
-refused : (d : ℕ) (old mid new : Guard) (fault : DbFault) (result : Result Outcome NoMemory) → mid ≡ old → IsEntered d (Err fault) mid new result → Plays (over d cant_be_done) old new result
-refused d old mid new WantsMemory result e t = wanted (over d cant_be_done) old mid new result e t
-refused d old mid new _ result e t = let P : Guard → Type 0 = λ g. Plays (over d cant_be_done) g new result in subst P e t
+refused : (d : ℕ) (old mid new : Guard) (fault : DbFault) (result : Result Outcome NoMemory) → mid ≡ old → IsEntered d (Err fault) mid new result → Plays (command_over d cant_be_done) old new result
+refused d old mid new WantsMemory result e t = wanted (command_over d cant_be_done) old mid new result e t
+refused d old mid new _ result e t = let P : Guard → Type 0 = λ g. Plays (command_over d cant_be_done) g new result in subst P e t
 
 abbrev made_by : Actor → List ℕ → ℕ → ℕ → ℕ → Change
 made_by a name level n to = created_so n Program name a.user to (with_level level)
@@ -47,7 +47,7 @@ entered : (check : Result (ℕ × ℕ) DbFault) (d : ℕ) (a : Actor) (name : Li
     → Founds check (made_by a name level) old mid made → IsEntered d made mid new result → Plays (program_at d a name level check) old new result
 unfolding program_put
 entered (Ok p) d a name level old mid new (Ok x) result f t =
-    let P : Dbref → Type 0 = λ z. Plays (ended (Edit z) (created_shown d (number_of z) ▸ tell d entering_editor)) mid new result in
+    let P : Dbref → Type 0 = λ z. Plays (ended (Edit z) (created_shown d (dbref_number z) ▸ tell d entering_editor)) mid new result in
     both (made_by a name level p.0 p.1) (created_shown d p.0 ▸ tell d entering_editor) _ old mid new result f.1 (subst P f.0 t)
 entered (Ok p) d a name level old mid new (Err fault) result f t =
     let P : DbFault → Type 0 = λ z. IsEntered d (Err z) mid new result in

@@ -3,3 +3,4 @@ pub mod Open
 pub mod Owned
 pub mod Entered
 mod Assigned
+pub mod Words

@@ -9,7 +9,7 @@ use Rattle.spec_live.specs.declared.object.Object.{Object}
 use Rattle.spec_live.specs.Making.{create_check}
 use Rattle.spec_live.specs.Lives.{Change, ◌▸◌, reading, tell}
 use Rattle.spec_rights.specs.declared.act.Actor.{Actor}
-use Rattle.spec_rights.specs.Levels.{number_of}
+use Rattle.spec_rights.specs.Levels.{dbref_number}
 use Rattle.spec_rights.specs.Changing.{created_so}
 use Rattle.spec_commands.specs.Replies.{cant_be_done}
 use Rattle.spec_commands.specs.Building.{made_at, created_shown, making}
@@ -27,7 +27,7 @@ refused d old mid new _ result e t = let P : Guard → Type 0 = λ g. Did (tell 
 told : (change : ℕ → ℕ → Change) (check : Result (ℕ × ℕ) DbFault) (d : ℕ) (old mid new : Guard) (made : Result Dbref DbFault) (result : Result (Unit {0}) NoMemory)
     → Founds check change old mid made → IsTold d made mid new result → Did (made_at check (λ n to. change n to ▸ created_shown d n) (tell d cant_be_done)) old new result
 told change (Ok p) d old mid new (Ok x) result f t =
-    let P : Dbref → Type 0 = λ z. Did (created_shown d (number_of z)) mid new result in
+    let P : Dbref → Type 0 = λ z. Did (created_shown d (dbref_number z)) mid new result in
     did_both (change p.0 p.1) (created_shown d p.0) old mid new result f.1 (subst P f.0 t)
 told change (Ok p) d old mid new (Err fault) result f t =
     let P : DbFault → Type 0 = λ z. IsTold d (Err z) mid new result in

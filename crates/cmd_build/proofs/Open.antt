@@ -11,7 +11,7 @@ use Rattle.spec_commands.specs.declared.outcome.Outcome.TheVariants.{NotMine}
 use Rattle.spec_commands.specs.declared.word.BuildWord.{BuildWord}
 use Rattle.spec_commands.specs.Texts.{first_word, trimmed}
 use Rattle.spec_commands.specs.Free.{clears_word, clears}
-use Rattle.spec_commands.specs.Reading.{looked_up, by_command, by_table}
+use Rattle.spec_commands.specs.Reading.{looked_up, with_command_word, by_table}
 use Rattle.spec_commands.specs.Commands.{build_words, build_shape, build_done, build_line}
 use Rattle.spec_commands.proofs.Gone.{world_of as left, whole_ended}
 use Rattle.spec_commands.proofs.Lawful.{lawful_with}
@@ -21,7 +21,7 @@ use Rattle.muck_perm.specs.inner.Guards.{world_of}
 use Rattle.cmd_common.specs.inner.Plays.{Plays}
 
 -- whatever the table has for its first word
-word_open : (a : Actor) (d : ℕ) (line word text : List ℕ) (found : Option BuildWord) → Whole left a None (λ es. clearing (clears_word found) nobody) Always (by_command build_shape (build_done d a line) d a word text found)
+word_open : (a : Actor) (d : ℕ) (line word text : List ℕ) (found : Option BuildWord) → Whole left a None (λ es. clearing (clears_word found) nobody) Always (with_command_word build_shape (build_done d a line) d a word text found)
 word_open a d line word text None = whole_ended a None _ Always NotMine unchanged (whole_quiet a None _ Always unchanged quiet_unchanged)
 word_open a d line word text (Some command) = (lawful_with a None (λ es. clearing (clears_word (Some command)) nobody) d word (build_shape command) text (build_done d a line command) (build_lawful a None (λ es. nobody) d line command)).licence
 

@@ -5,12 +5,12 @@ use Rattle.std.proofs.lemmas.List.{drop_all}
 use Rattle.std.proofs.lemmas.Option.{get_or_from_slice_get}
 use Rattle.std.specs.List.{slice_get}
 use Rattle.std.specs.Option.{option_map_or, option_and_then}
+use Rattle.muck_laws.proofs.Places.{some_at}
 use Rattle.muck_model.specs.declared.dbref.Dbref.{Dbref}
 use Rattle.muck_model.specs.declared.dbref.Kind.{Kind}
 use Rattle.muck_model.specs.declared.dbref.Kind.TheVariants.{Room, Thing, Exit, Player, Program, Garbage}
 use Rattle.spec_live.specs.declared.object.Object.{Object}
 use Rattle.spec_live.specs.Objects.{Entry, dbref_of, is_garbage, kind_in, object_in, number_in, object_at}
-use Rattle.spec_live.proofs.Lists.{some_at}
 use Rattle.spec_commands.specs.Building.{owned_named}
 use Rattle.cmd_build.specs.inner.Owned.{is_wanted, wanted_at}
 

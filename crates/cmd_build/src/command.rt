@@ -1,9 +1,11 @@
 // A line of a builder.
-ghost use Rattle.std.specs.Prelude.{◌≡◌, map, OnOk};
+ghost use Rattle.std.specs.Prelude.{◌≡◌, find, map, OnOk};
+ghost use Rattle.spec_live.specs.Messages.{row_of, messages};
 ghost use Rattle.spec_rights.specs.Licence.{Licensed, clearing, nobody};
 ghost use Rattle.spec_commands.specs.Free.{clears};
-ghost use Rattle.spec_commands.specs.Reading.{shaped, with_arguments};
-ghost use Rattle.spec_commands.specs.Commands.{build_words, build_shape, build_done, build_line};
+ghost use Rattle.spec_commands.specs.Texts.{is_alike};
+ghost use Rattle.spec_commands.specs.Reading.{looked_up, shaped, with_arguments};
+ghost use Rattle.spec_commands.specs.Commands.{build_own, build_words, build_shape, build_done, build_line};
 ghost use Rattle.muck_perm.specs.inner.Guards.{world_of};
 ghost use Rattle.cmd_common.specs.inner.Plays.{Plays};
 ghost use Rattle.cmd_common.specs.inner.Takes.{word_row, AreJudged};
@@ -19,11 +21,10 @@ use cmd_common::{Write, after_word, arguments, done, looked_up, try_write};
 use muck_model::{Dbref, Line, NoMemory};
 use muck_perm::Guard;
 use muck_queue::Queue;
-use spec_commands::{
-    Arguments, BuildWord, Form, Message, New, Outcome, Shape, Want, cut_word, trim,
-};
+use spec_commands::{Arguments, BuildWord, Form, New, Outcome, Shape, Want, alike, cut_word, trim};
+use spec_live::Message;
 
-static WORDS: [(&[u8], BuildWord); 25] = [
+static WORDS: [(&[u8], BuildWord); 18] = [
     (b"@dig", BuildWord::Dig),
     (b"@create", BuildWord::Create),
     (b"@open", BuildWord::Open),
@@ -31,13 +32,6 @@ static WORDS: [(&[u8], BuildWord); 25] = [
     (b"@link", BuildWord::Link),
     (b"@unlink", BuildWord::Unlink),
     (b"@name", BuildWord::Name),
-    (b"@describe", BuildWord::Set(Message::Describe)),
-    (b"@success", BuildWord::Set(Message::Success)),
-    (b"@osuccess", BuildWord::Set(Message::OthersSuccess)),
-    (b"@fail", BuildWord::Set(Message::Fail)),
-    (b"@ofail", BuildWord::Set(Message::OthersFail)),
-    (b"@drop", BuildWord::Set(Message::Drop)),
-    (b"@odrop", BuildWord::Set(Message::OthersDrop)),
     (b"@lock", BuildWord::Lock),
     (b"@unlock", BuildWord::Unlock),
     (b"@teleport", BuildWord::Teleport),
@@ -51,12 +45,36 @@ static WORDS: [(&[u8], BuildWord); 25] = [
     (b"@run", BuildWord::Run),
 ];
 
-// The words of builders.
-#[tactic(auto, unfolding(spec_commands::specs::Commands::build_words))]
+// The words of builders but for messages.
+#[tactic(auto, unfolding(spec_commands::specs::Commands::build_own))]
 fn words() -> &'static [(&'static [u8], BuildWord)]
-    ensures { map word_row result.now ≡ build_words }
+    ensures { map word_row result.now ≡ build_own }
 {
     &WORDS
+}
+
+// The message that a word sets, in any case of letters.
+fn message_set(word: &[u8]) -> Option<Message>
+    ensures { result ≡ find (λ m. is_alike word.now (row_of m).word) messages }
+{
+    Message::all()
+        .iter()
+        .copied()
+        .find(|message| alike(word, message.row().word))
+}
+
+// The command of a word, in any case of letters.
+#[tactic(auto, using(crate::proofs::Words::own_found, crate::proofs::Words::message_found, crate::proofs::Words::none_found))]
+fn command_of(word: &[u8]) -> Option<BuildWord>
+    ensures { result ≡ looked_up build_words word.now }
+{
+    match looked_up(words(), word) {
+        Some(command) => Some(command),
+        None => match message_set(word) {
+            Some(message) => Some(BuildWord::Set(message)),
+            None => None,
+        },
+    }
 }
 
 // How a command takes the text behind its word.
@@ -87,7 +105,7 @@ fn shape_of(command: BuildWord) -> Shape
 }
 
 // Does what a command asks, with its arguments.
-#[tactic(auto, using(cmd_common::proofs::Doing::plays_done), unfolding(spec_commands::specs::Going::ended, spec_commands::specs::Commands::build_done, spec_commands::specs::Building::teleported, spec_commands::specs::Building::recycled, spec_commands::specs::Building::chowned, spec_commands::specs::Replies::teleported_reply, spec_commands::specs::Replies::recycled_reply, spec_commands::specs::Replies::chowned_reply))]
+#[tactic(auto, using(cmd_common::proofs::Doing::plays_done), unfolding(spec_commands::specs::Going::ended, spec_commands::specs::Commands::build_done, spec_commands::specs::Building::teleported, spec_commands::specs::Building::recycled_by_command, spec_commands::specs::Building::chowned, spec_commands::specs::Replies::teleported_reply, spec_commands::specs::Replies::recycled_reply, spec_commands::specs::Replies::chowned_reply))]
 fn perform(
     guard: &mut Guard,
     d: u32,
@@ -149,7 +167,7 @@ fn play(guard: &mut Guard, d: u32, line: &Line) -> Result<Outcome, NoMemory>
     ensures { Plays (build_line d guard.old.actor line.now) guard.old guard.new result }
 {
     let (word, _) = cut_word(trim(line.as_slice()));
-    let Some(command) = looked_up(words(), word) else {
+    let Some(command) = command_of(word) else {
         return Ok(Outcome::NotMine);
     };
     let text = after_word(guard.alloc(), line)?;

@@ -3,7 +3,7 @@ ghost use Rattle.std.specs.Prelude.{◌≡◌, IfOk, None, [], codes};
 ghost use Rattle.spec_live.specs.Lives.{reading};
 ghost use Rattle.spec_rights.specs.declared.act.Act.{Act};
 ghost use Rattle.spec_commands.specs.Replies.{unlocked_reply};
-ghost use Rattle.spec_commands.specs.Building.{key_read, lock_kept, lock_set, kept};
+ghost use Rattle.spec_commands.specs.Building.{key_read, lock_kept, lock_set, text_kept};
 ghost use Rattle.muck_perm.specs.inner.Guards.{Did, IsLeave, world_of};
 
 use crate::messages::keep;
@@ -50,9 +50,9 @@ pub fn lock(guard: &mut Guard, d: u32, x: Dbref, key: &Line) -> Result<(), NoMem
 }
 
 /// `@unlock`: does away with the lock of an object.
-#[tactic(auto, unfolding(spec_commands::specs::Building::kept, spec_commands::specs::Replies::unlocked_reply))]
+#[tactic(auto, unfolding(spec_commands::specs::Building::text_kept, spec_commands::specs::Replies::unlocked_reply))]
 pub fn unlock(guard: &mut Guard, d: u32, x: Dbref) -> Result<(), NoMemory>
-    ensures { Did (kept d guard.old.actor x (codes "lok") [] unlocked_reply) guard.old guard.new result }
+    ensures { Did (text_kept d guard.old.actor x (codes "lok") [] unlocked_reply) guard.old guard.new result }
 {
     let none = Line::of_text(guard.alloc(), b"")?;
     let path = guard.db().paths().lock.copy(guard.alloc())?;

@@ -2,7 +2,7 @@
 ghost use Rattle.std.specs.Prelude.{◌≡◌, ◌≤◌, true, length};
 ghost use Rattle.spec_live.specs.Lives.{tell};
 ghost use Rattle.spec_commands.specs.Replies.{cant_be_done};
-ghost use Rattle.spec_commands.specs.Building.{making, kind_of, as_new, may_be, act_in, made, thing_made, exit_opened};
+ghost use Rattle.spec_commands.specs.Building.{making, kind_made, as_new, may_be, act_in, object_made, thing_made, exit_opened};
 ghost use Rattle.muck_perm.specs.inner.Guards.{Did, IsLeave, world_of};
 ghost use Rattle.cmd_build.specs.inner.Told.{IsTold};
 
@@ -39,18 +39,18 @@ fn make_by(
     requires some { 1 ≤ length name }
     requires short { length name ≤ 80 }
     requires fits { may_be new (world_of guard.old) ≡ true }
-    ensures { Did (making d guard.old.actor (kind_of new) name place (as_new new)) guard.old guard.new result }
+    ensures { Did (making d guard.old.actor (kind_made new) name place (as_new new)) guard.old guard.new result }
 {
     let made = create(guard, pass, new, name, place);
     tell_made(guard, d, made)
 }
 
 /// Makes it in a place, where neither a rule nor the world denies it; the connection is told what was made, or why nothing.
-#[tactic(auto, unfolding(spec_commands::specs::Building::made, spec_commands::specs::Finding::where_so, spec_live::specs::Lives::reading, spec_live::specs::Lives::either, spec_rights::specs::Asking::asked))]
+#[tactic(auto, unfolding(spec_commands::specs::Building::object_made, spec_commands::specs::Finding::where_so, spec_live::specs::Lives::reading, spec_live::specs::Lives::either, spec_rights::specs::Asking::asked))]
 pub fn make(guard: &mut Guard, d: u32, new: New, name: Line, place: Dbref) -> Result<(), NoMemory>
     requires some { 1 ≤ length name }
     requires short { length name ≤ 80 }
-    ensures { Did (made d guard.old.actor new name place) guard.old guard.new result }
+    ensures { Did (object_made d guard.old.actor new name place) guard.old guard.new result }
 {
     let actor = guard.actor();
     let act = act_in(place, new);

@@ -4,8 +4,8 @@ ghost use Rattle.muck_prop.specs.declared.value.PropValue.TheVariants.{Text};
 ghost use Rattle.muck_prop.specs.Paths.{class_of};
 ghost use Rattle.spec_rights.specs.declared.act.Act.{Act};
 ghost use Rattle.spec_rights.specs.Verdict.{is_guarded};
-ghost use Rattle.spec_rights.specs.Changing.{stored};
-ghost use Rattle.spec_commands.specs.Building.{is_there, written, kept};
+ghost use Rattle.spec_rights.specs.Changing.{property_stored};
+ghost use Rattle.spec_commands.specs.Building.{is_still_there, change_by_leave, text_kept};
 ghost use Rattle.spec_commands.specs.Commands.{message_name};
 ghost use Rattle.spec_commands.specs.Replies.{set_reply};
 ghost use Rattle.muck_perm.specs.inner.Guards.{Did};
@@ -14,7 +14,7 @@ use cmd_common::{Write, message_path, try_write};
 use muck_model::{Dbref, Line, NoMemory};
 use muck_perm::Guard;
 use muck_prop::Path;
-use spec_commands::Message;
+use spec_live::Message;
 
 /// Keeps a message or a lock of an object, where neither a rule nor the world denies it; an empty text clears it.
 pub fn keep(
@@ -26,13 +26,13 @@ pub fn keep(
     reply: &[u8],
 ) -> Result<(), NoMemory>
     requires { is_guarded (class_of path) ≡ true }
-    ensures { Did (written d guard.old.actor (Act.Change x) (is_there x) (stored x path (Text text)) reply.now) guard.old guard.new result }
+    ensures { Did (change_by_leave d guard.old.actor (Act.Change x) (is_still_there x) (property_stored x path (Text text)) reply.now) guard.old guard.new result }
 {
     try_write(guard, d, Write::Keep(x, path, text), reply)
 }
 
 /// Sets a message of an object; an empty text clears it.
-#[tactic(auto, unfolding(spec_commands::specs::Building::kept, spec_commands::specs::Replies::set_reply))]
+#[tactic(auto, unfolding(spec_commands::specs::Building::text_kept, spec_commands::specs::Replies::set_reply))]
 pub fn set_message(
     guard: &mut Guard,
     d: u32,
@@ -40,7 +40,7 @@ pub fn set_message(
     message: Message,
     text: Line,
 ) -> Result<(), NoMemory>
-    ensures { Did (kept d guard.old.actor x (message_name message) text set_reply) guard.old guard.new result }
+    ensures { Did (text_kept d guard.old.actor x (message_name message) text set_reply) guard.old guard.new result }
 {
     let path = message_path(guard.db().paths(), message).copy(guard.alloc())?;
     keep(guard, d, x, path, text, b"Set.")

@@ -25,7 +25,7 @@ fn tell_entering(guard: &mut Guard, d: u32) -> Result<(), NoMemory>
 }
 
 // Tells the connection what came of making a program, whose editor is to be opened.
-#[tactic(auto, unfolding(spec_commands::specs::Going::ended, spec_live::specs::Lives::followed))]
+#[tactic(auto, unfolding(spec_commands::specs::Going::ended, spec_live::specs::Lives::change_followed))]
 fn enter_made(guard: &mut Guard, d: u32, made: Result<Dbref, DbFault>) -> Result<Outcome, NoMemory>
     ensures { IsEntered d made guard.old guard.new result }
 {

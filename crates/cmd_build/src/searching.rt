@@ -3,7 +3,7 @@ ghost use Rattle.std.specs.Prelude.{◌≡◌, ◌&&◌, map, IfOk, codes, decim
 ghost use Rattle.std.specs.Char.{to_ascii_lowercase};
 ghost use Rattle.spec_live.specs.Objects.{same};
 ghost use Rattle.spec_live.specs.Lives.{tell};
-ghost use Rattle.spec_commands.specs.Building.{begins, holds_name, owned_named, find_shown};
+ghost use Rattle.spec_commands.specs.Building.{text_begins, holds_name, owned_named, find_shown};
 ghost use Rattle.spec_commands.specs.Replies.{found_count};
 ghost use Rattle.muck_perm.specs.inner.Guards.{Did};
 ghost use Rattle.cmd_build.specs.inner.Owned.{is_wanted, wanted_at};
@@ -17,7 +17,7 @@ use std::alloc::Global;
 
 // Whether a text begins with this, without regard to case.
 fn begins(part: &[u8], text: &[u8]) -> bool
-    ensures { result ≡ begins (map to_ascii_lowercase part.now) (map to_ascii_lowercase text.now) }
+    ensures { result ≡ text_begins (map to_ascii_lowercase part.now) (map to_ascii_lowercase text.now) }
 {
     let mut wanted = part;
     let mut rest = text;
@@ -93,7 +93,7 @@ fn found_count(guard: &mut Guard, d: u32, count: usize) -> Result<(), NoMemory>
 }
 
 /// `@find`: shows the user's objects whose name holds a text, by number, and then how many they are.
-#[tactic(auto, unfolding(spec_commands::specs::Building::find_shown, spec_live::specs::Lives::reading, spec_live::specs::Lives::followed))]
+#[tactic(auto, unfolding(spec_commands::specs::Building::find_shown, spec_live::specs::Lives::reading, spec_live::specs::Lives::change_followed))]
 pub fn find(guard: &mut Guard, d: u32, part: &Line) -> Result<(), NoMemory>
     ensures { Did (find_shown d guard.old.actor part.now) guard.old guard.new result }
 {

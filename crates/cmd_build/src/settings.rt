@@ -4,9 +4,9 @@ ghost use Rattle.std.specs.List.{list_any};
 ghost use Rattle.muck_prop.specs.declared.value.PropValue.TheVariants.{Text};
 ghost use Rattle.muck_prop.specs.Paths.{path_fault, segments_of};
 ghost use Rattle.spec_rights.specs.declared.act.Act.{Act};
-ghost use Rattle.spec_rights.specs.Changing.{stored};
+ghost use Rattle.spec_rights.specs.Changing.{property_stored};
 ghost use Rattle.spec_commands.specs.Replies.{property_reply};
-ghost use Rattle.spec_commands.specs.Building.{is_there, done_where, written};
+ghost use Rattle.spec_commands.specs.Building.{is_still_there, done_where, change_by_leave};
 ghost use Rattle.spec_commands.specs.Settings.{setting_asked, has_colon, word_set, property_set, assigned};
 ghost use Rattle.muck_perm.specs.inner.Guards.{Did, IsLeave};
 
@@ -19,7 +19,7 @@ use spec_live::DbFault;
 use spec_rights::Act;
 
 // Stores a text by leave, and the connection is told so; or that it can't be done.
-#[tactic(auto, unfolding(spec_commands::specs::Building::done_where, spec_commands::specs::Finding::where_so, spec_commands::specs::Replies::property_reply, spec_live::specs::Lives::reading, spec_live::specs::Lives::either, spec_live::specs::Lives::followed))]
+#[tactic(auto, unfolding(spec_commands::specs::Building::done_where, spec_commands::specs::Finding::where_so, spec_commands::specs::Replies::property_reply, spec_live::specs::Lives::reading, spec_live::specs::Lives::either, spec_live::specs::Lives::change_followed))]
 fn store_by_leave(
     guard: &mut Guard,
     pass: Pass,
@@ -29,7 +29,7 @@ fn store_by_leave(
     value: Line,
 ) -> Result<(), NoMemory>
     requires { IsLeave pass (Act.Write x path) guard.old }
-    ensures { Did (done_where d (is_there x) (stored x path (Text value)) property_reply) guard.old guard.new result }
+    ensures { Did (done_where d (is_still_there x) (property_stored x path (Text value)) property_reply) guard.old guard.new result }
 {
     match guard.store(pass, x, path, PropValue::Text(value)) {
         Ok(()) => guard.tell(d, b"Property set."),
@@ -39,9 +39,9 @@ fn store_by_leave(
 }
 
 // Stores a text at a path, where neither a rule nor the world denies it; the empty text removes what is there.
-#[tactic(auto, unfolding(spec_commands::specs::Building::written, spec_rights::specs::Asking::asked))]
+#[tactic(auto, unfolding(spec_commands::specs::Building::change_by_leave, spec_rights::specs::Asking::asked))]
 fn store(guard: &mut Guard, d: u32, x: Dbref, path: Path, value: Line) -> Result<(), NoMemory>
-    ensures { Did (written d guard.old.actor (Act.Write x path) (is_there x) (stored x path (Text value)) property_reply) guard.old guard.new result }
+    ensures { Did (change_by_leave d guard.old.actor (Act.Write x path) (is_still_there x) (property_stored x path (Text value)) property_reply) guard.old guard.new result }
 {
     let actor = guard.actor();
     let act = Act::Write {

@@ -8,7 +8,7 @@ use muck_model::{Dbref, Kind, Line, NoMemory};
 use muck_perm::Guard;
 
 // Whether an object has a link or a home.
-#[tactic(auto, unfolding(spec_commands::specs::Finding::is_so))]
+#[tactic(auto, unfolding(spec_commands::specs::Finding::is_object_so))]
 fn is_linkable(guard: &Guard, x: Dbref) -> bool
     ensures { result ≡ is_linkable x (world_of guard.now) }
 {

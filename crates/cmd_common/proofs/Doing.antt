@@ -6,7 +6,7 @@ use Rattle.muck_model.specs.declared.dbref.Dbref.{Dbref}
 use Rattle.muck_model.specs.declared.memory.NoMemory.{NoMemory}
 use Rattle.spec_live.specs.Lives.{Change, unchanged, reading, tell}
 use Rattle.spec_rights.specs.Levels.{name_shown}
-use Rattle.spec_commands.specs.Finding.{listed}
+use Rattle.spec_commands.specs.Finding.{names_listed}
 use Rattle.spec_commands.specs.declared.outcome.Outcome.{Outcome}
 use Rattle.spec_commands.specs.declared.outcome.Outcome.TheVariants.{Done as Finished}
 use Rattle.spec_commands.specs.Going.{ended}
@@ -20,17 +20,17 @@ unfolding unchanged
 did_nothing a = (refl, kept_itself a)
 
 pub listed_one : {X : Type 0} (d : ℕ) (player : Dbref) (xs : List Dbref) (i : ℕ) (e : Dbref) (a b new : Guard) (r : Result X NoMemory) → i < length xs →
-    Done (reading (name_shown player (get_or xs i e)) (tell d)) a b → Did (listed d player (drop (i + 1) xs)) b new r → Did (listed d player (drop i xs)) a new r
-unfolding listed
+    Done (reading (name_shown player (get_or xs i e)) (tell d)) a b → Did (names_listed d player (drop (i + 1) xs)) b new r → Did (names_listed d player (drop i xs)) a new r
+unfolding names_listed
 listed_one d player xs i e a b new r h s t =
-    let P : List Dbref → Type 0 = λ ys. Did (listed d player ys) a new r in
+    let P : List Dbref → Type 0 = λ ys. Did (names_listed d player ys) a new r in
     let more : drop i xs ≡ get_or xs i e ∷ drop (i + 1) xs = rw (add-one, drop-cons xs i e) refl in
     subst P (sym more) (did_both _ _ a b new r s t)
 
-pub listed_none : (d : ℕ) (player : Dbref) (xs : List Dbref) (i : ℕ) (a : Guard) → length xs ≤ i → Done (listed d player (drop i xs)) a a
-unfolding listed
+pub listed_none : (d : ℕ) (player : Dbref) (xs : List Dbref) (i : ℕ) (a : Guard) → length xs ≤ i → Done (names_listed d player (drop i xs)) a a
+unfolding names_listed
 listed_none d player xs i a h =
-    let P : List Dbref → Type 0 = λ ys. Done (listed d player ys) a a in
+    let P : List Dbref → Type 0 = λ ys. Done (names_listed d player ys) a a in
     let e : drop i xs ≡ [] = drop_all i xs h in
     subst P (sym e) (did_nothing a)
 

@@ -2,10 +2,10 @@
 ghost use Rattle.std.specs.Prelude.{◌≡◌, ◌++◌, IfOk, IfSome, codes, true};
 ghost use Rattle.spec_live.specs.Seen.{scenery_of};
 ghost use Rattle.spec_live.specs.Lives.{tell};
-ghost use Rattle.muck_match.specs.Naming.{found, player_named};
+ghost use Rattle.muck_match.specs.Naming.{thing_found, player_named};
 ghost use Rattle.spec_commands.specs.Replies.{not_understood, not_known};
 ghost use Rattle.spec_commands.specs.Finding.{finding, finding_player, finding_object, is_object};
-ghost use Rattle.spec_commands.specs.Going.{is_program_at};
+ghost use Rattle.spec_commands.specs.Going.{is_program_there};
 ghost use Rattle.muck_perm.specs.inner.Guards.{Did, world_of};
 ghost use Rattle.cmd_common.specs.inner.Plays.{Finds};
 
@@ -78,7 +78,7 @@ pub fn find_player(guard: &mut Guard, d: u32, name: &Line) -> Result<Option<Dbre
 }
 
 /// Whether an object is there.
-#[tactic(auto, unfolding(spec_commands::specs::Finding::is_so))]
+#[tactic(auto, unfolding(spec_commands::specs::Finding::is_object_so))]
 pub fn is_object(guard: &Guard, x: Dbref) -> bool
     ensures { result ≡ is_object x (world_of guard.now) }
 {
@@ -103,9 +103,9 @@ pub fn find_object(guard: &mut Guard, d: u32, name: &Line) -> Result<Option<Dbre
 }
 
 /// Whether an object is a program.
-#[tactic(auto, unfolding(spec_commands::specs::Finding::is_so))]
+#[tactic(auto, unfolding(spec_commands::specs::Finding::is_object_so))]
 pub fn is_program(guard: &Guard, x: Dbref) -> bool
-    ensures { result ≡ is_program_at x (world_of guard.now) }
+    ensures { result ≡ is_program_there x (world_of guard.now) }
 {
     match guard.db().get(x) {
         Some(object) => matches!(object.kind(), Kind::Program),

@@ -22,7 +22,7 @@ struct KeyNames<'a> {
 impl<'a> Finder for KeyNames<'a> {
     ghost use Rattle.std.specs.Prelude.{false};
     ghost use Rattle.std.specs.Option.{option_map_or};
-    ghost use Rattle.muck_match.specs.Naming.{found as meant};
+    ghost use Rattle.muck_match.specs.Naming.{thing_found as meant};
     ghost use Rattle.spec_live.specs.Objects.{is_program, object_at};
     ghost use Rattle.spec_live.specs.Seen.{scenery_of};
     ghost use Rattle.spec_commands.specs.Building.{found_one};

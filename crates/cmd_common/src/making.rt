@@ -3,7 +3,7 @@ ghost use Rattle.std.specs.Prelude.{◌≡◌, ◌≤◌, true, length};
 ghost use Rattle.spec_live.specs.Making.{create_check};
 ghost use Rattle.spec_rights.specs.Changing.{created_so};
 ghost use Rattle.spec_commands.specs.Going.{home_at};
-ghost use Rattle.spec_commands.specs.Building.{may_house, may_lead, kind_of, as_new, may_be, act_in};
+ghost use Rattle.spec_commands.specs.Building.{may_house, may_lead, kind_made, as_new, may_be, act_in};
 ghost use Rattle.muck_perm.specs.inner.Guards.{Founds, IsLeave, objects_of, world_of};
 
 use muck_model::{Dbref, Kind, Line};
@@ -17,7 +17,7 @@ const NOTHING: Dbref = Dbref(-1);
 const HOME: Dbref = Dbref(-3);
 
 // Whether a thing may have its home there.
-#[tactic(auto, unfolding(spec_commands::specs::Finding::is_so))]
+#[tactic(auto, unfolding(spec_commands::specs::Finding::is_object_so))]
 fn may_house(guard: &Guard, to: Dbref) -> bool
     ensures { result ≡ may_house to (world_of guard.now) }
 {
@@ -28,7 +28,7 @@ fn may_house(guard: &Guard, to: Dbref) -> bool
 }
 
 // Whether an exit may lead there.
-#[tactic(auto, unfolding(spec_commands::specs::Finding::is_so))]
+#[tactic(auto, unfolding(spec_commands::specs::Finding::is_object_so))]
 fn may_lead(guard: &Guard, to: Dbref) -> bool
     ensures { result ≡ may_lead to (world_of guard.now) }
 {
@@ -64,7 +64,7 @@ pub fn act_in(place: Dbref, new: New) -> Act
 }
 
 /// Makes it by leave, where the world allows it.
-#[tactic(auto, unfolding(spec_commands::specs::Finding::is_so))]
+#[tactic(auto, unfolding(spec_commands::specs::Finding::is_object_so))]
 pub fn create(
     guard: &mut Guard,
     pass: Pass,
@@ -76,7 +76,7 @@ pub fn create(
     requires some { 1 ≤ length name }
     requires short { length name ≤ 80 }
     requires fits { may_be new (world_of guard.old) ≡ true }
-    ensures { Founds (create_check (kind_of new) guard.old.actor.user place (objects_of guard.old)) (λ n to. created_so n (kind_of new) name guard.old.actor.user to (as_new new)) guard.old guard.new result }
+    ensures { Founds (create_check (kind_made new) guard.old.actor.user place (objects_of guard.old)) (λ n to. created_so n (kind_made new) name guard.old.actor.user to (as_new new)) guard.old guard.new result }
 {
     match new {
         New::Room => guard.create_room(pass, name, place),

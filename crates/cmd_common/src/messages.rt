@@ -6,20 +6,13 @@ ghost use Rattle.spec_commands.specs.Messages.{message_path, message_name};
 
 use muck_db::KnownPaths;
 use muck_prop::Path;
-use spec_commands::Message;
+use spec_live::Message;
 
 /// The path of a message.
+#[tactic(auto, using(spec_commands::proofs::Permitted::message_guarded))]
 pub fn message_path(paths: &KnownPaths, message: Message) -> &Path
     ensures path { result.now ≡ message_path (message_name message) }
     ensures guarded { is_guarded (class_of result.now) ≡ true }
 {
-    match message {
-        Message::Describe => &paths.describe,
-        Message::Success => &paths.success,
-        Message::OthersSuccess => &paths.others_success,
-        Message::Fail => &paths.fail,
-        Message::OthersFail => &paths.others_fail,
-        Message::Drop => &paths.drop,
-        Message::OthersDrop => &paths.others_drop,
-    }
+    paths.message(message)
 }

@@ -2,7 +2,7 @@
 ghost use Rattle.std.specs.Prelude.{◌≡◌, ◌≤◌, true, ◌==◌, length};
 ghost use Rattle.std.specs.List.{list_any};
 ghost use Rattle.spec_live.specs.Objects.{is_player};
-ghost use Rattle.spec_commands.specs.Finding.{is_so};
+ghost use Rattle.spec_commands.specs.Finding.{is_object_so};
 ghost use Rattle.spec_commands.specs.Building.{is_reserved, bad_start, is_name, is_player_name, may_be_called};
 ghost use Rattle.muck_perm.specs.inner.Guards.{world_of};
 
@@ -60,9 +60,9 @@ pub fn is_player_name(db: &Db, name: &[u8]) -> bool
 }
 
 // Whether an object is there and is a player.
-#[tactic(auto, unfolding(spec_commands::specs::Finding::is_so))]
+#[tactic(auto, unfolding(spec_commands::specs::Finding::is_object_so))]
 fn is_player(guard: &Guard, x: Dbref) -> bool
-    ensures { result ≡ is_so (λ o. is_player o.kind) x (world_of guard.now) }
+    ensures { result ≡ is_object_so (λ o. is_player o.kind) x (world_of guard.now) }
 {
     match guard.db().get(x) {
         Some(object) => matches!(object.kind(), Kind::Player),

@@ -2,7 +2,7 @@
 ghost use Rattle.std.specs.Prelude.{◌≡◌, ◌≤◌, IfOk, length, drop};
 ghost use Rattle.std.specs.List.{position, position_or_len, before_first, after_first, list_any};
 ghost use Rattle.spec_commands.specs.Texts.{first_word, other_words, trimmed};
-ghost use Rattle.spec_commands.specs.Reading.{is_equals, has_equals, is_whole, left_in, right_in};
+ghost use Rattle.spec_commands.specs.Reading.{is_equals, has_equals, has_all_parts, left_in, right_in};
 ghost use Rattle.cmd_common.specs.inner.Takes.{IsCut};
 
 use muck_model::{Line, NoMemory};
@@ -76,7 +76,7 @@ fn cut_equals(text: &[u8]) -> (&[u8], &[u8])
 
 // Whether no part of a text is missing.
 fn is_whole(form: Form, text: &[u8]) -> bool
-    ensures { result ≡ is_whole form text.now }
+    ensures { result ≡ has_all_parts form text.now }
 {
     let (left, right) = cut_equals(text);
     match form {

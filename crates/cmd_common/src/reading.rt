@@ -1,7 +1,7 @@
 // Reading a line: its command by a table, and the arguments of that command.
 ghost use Rattle.std.specs.Prelude.{◌≡◌, ◌&&◌, ◌||◌, map, IfOk, IfSome};
-ghost use Rattle.spec_commands.specs.Reading.{looked_up, sought, meant, is_fit, are_fit, with_fit, with_parts, with_arguments};
-ghost use Rattle.spec_commands.specs.Programming.{over};
+ghost use Rattle.spec_commands.specs.Reading.{looked_up, object_sought, part_meant, is_fit, are_fit, with_fit, with_parts, with_arguments};
+ghost use Rattle.spec_commands.specs.Programming.{command_over};
 ghost use Rattle.spec_commands.specs.Finding.{finding, finding_player};
 ghost use Rattle.muck_perm.specs.inner.Guards.{world_of};
 ghost use Rattle.cmd_common.specs.inner.Plays.{FindsFor};
@@ -31,9 +31,9 @@ pub fn looked_up<C: Copy>(rows: &[(&'static [u8], C)], word: &[u8]) -> Option<C>
 }
 
 // What the player means by a part; `None` exactly where the connection was told that it is nothing.
-#[tactic(auto, unfolding(spec_commands::specs::Reading::sought, spec_commands::specs::Finding::finding, spec_commands::specs::Going::ended, spec_live::specs::Lives::reading, spec_live::specs::Lives::either))]
+#[tactic(auto, unfolding(spec_commands::specs::Reading::object_sought, spec_commands::specs::Finding::finding, spec_commands::specs::Going::ended, spec_live::specs::Lives::reading, spec_live::specs::Lives::either))]
 fn seek(guard: &mut Guard, d: u32, text: &Line) -> Result<Option<Dbref>, NoMemory>
-    ensures { FindsFor (sought d guard.old.actor text.now) guard.old guard.new result }
+    ensures { FindsFor (object_sought d guard.old.actor text.now) guard.old guard.new result }
 {
     if text.as_slice().is_empty() {
         return Ok(Some(NOTHING));
@@ -49,7 +49,7 @@ fn seek(guard: &mut Guard, d: u32, text: &Line) -> Result<Option<Dbref>, NoMemor
 // The player of a name; `None` exactly where the connection was told that there is none.
 #[tactic(auto, unfolding(spec_commands::specs::Finding::finding_player, spec_commands::specs::Going::ended, spec_live::specs::Lives::reading))]
 fn seek_player(guard: &mut Guard, d: u32, name: &Line) -> Result<Option<Dbref>, NoMemory>
-    ensures { FindsFor (finding_player (over d) name.now) guard.old guard.new result }
+    ensures { FindsFor (finding_player (command_over d) name.now) guard.old guard.new result }
 {
     if let Some(x) = guard.db().player_named(name.as_slice()) {
         return Ok(Some(x));
@@ -59,9 +59,9 @@ fn seek_player(guard: &mut Guard, d: u32, name: &Line) -> Result<Option<Dbref>, 
 }
 
 // A part as it is wanted; `None` exactly where the connection was told why it isn't.
-#[tactic(auto, unfolding(spec_commands::specs::Reading::judged, spec_commands::specs::Going::ended, spec_live::specs::Lives::either))]
+#[tactic(auto, unfolding(spec_commands::specs::Reading::name_judged, spec_commands::specs::Going::ended, spec_live::specs::Lives::either))]
 fn mean(guard: &mut Guard, d: u32, want: Want, text: &Line) -> Result<Option<Dbref>, NoMemory>
-    ensures means { FindsFor (meant d guard.old.actor want text.now) guard.old guard.new result }
+    ensures means { FindsFor (part_meant d guard.old.actor want text.now) guard.old guard.new result }
     ensures judged { IfOk result (λ found. IfSome found (λ x. IsJudged want text.now)) }
 {
     match want {

@@ -4,8 +4,8 @@ ghost use Rattle.std.specs.Option.{option_map_or};
 ghost use Rattle.spec_live.specs.Objects.{dbref_of, object_at};
 ghost use Rattle.spec_live.specs.Seen.{long_form};
 ghost use Rattle.spec_live.specs.Lives.{tell, reading, place_at, name_at};
-ghost use Rattle.spec_rights.specs.Levels.{name_shown, number_of};
-ghost use Rattle.spec_commands.specs.Finding.{shown_others, listed};
+ghost use Rattle.spec_rights.specs.Levels.{name_shown, dbref_number};
+ghost use Rattle.spec_commands.specs.Finding.{shown_others, names_listed};
 ghost use Rattle.spec_commands.specs.Building.{created_shown};
 ghost use Rattle.spec_commands.specs.Programming.{lines_shown};
 ghost use Rattle.muck_perm.specs.inner.Guards.{Did, objects_of, world_of};
@@ -68,7 +68,7 @@ pub fn show_name(guard: &mut Guard, d: u32, player: Dbref, x: Dbref) -> Result<(
 
 /// The connection sees the names of these objects, one a line.
 pub fn list(guard: &mut Guard, d: u32, player: Dbref, xs: &[Dbref]) -> Result<(), NoMemory>
-    ensures { Did (listed d player xs.now) guard.old guard.new result }
+    ensures { Did (names_listed d player xs.now) guard.old guard.new result }
 {
     for x in xs {
         show_name(guard, d, player, *x)?;
@@ -95,7 +95,7 @@ pub fn show_lines(guard: &mut Guard, d: u32, lines: &[Line]) -> Result<(), NoMem
 
 /// The number of an object that is there.
 pub fn number_of(x: Dbref) -> u32
-    ensures number { result ≡ number_of x }
+    ensures number { result ≡ dbref_number x }
     ensures most { result < 2 ^ 31 }
 {
     if x.0 < 0 { 0 } else { x.0 as u32 }

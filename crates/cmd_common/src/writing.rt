@@ -1,7 +1,7 @@
 // Writing what a rule or the world may refuse.
 ghost use Rattle.std.specs.Prelude.{◌≡◌, ◌||◌, true};
 ghost use Rattle.spec_live.specs.Objects.{nothing, is_thing, is_player};
-ghost use Rattle.spec_commands.specs.Building.{has_home, done_where, written};
+ghost use Rattle.spec_commands.specs.Building.{object_has_home, done_where, change_by_leave};
 ghost use Rattle.spec_commands.specs.Settings.{setting_act, is_setting};
 ghost use Rattle.muck_perm.specs.inner.Guards.{Did, IsLeave, world_of};
 ghost use Rattle.cmd_common.specs.inner.Writes.{act_of, may, change_of, IsFit, IsDone};
@@ -68,9 +68,9 @@ pub fn act_of(write: &Write) -> Act
 }
 
 // Whether an object has a home in place of a link.
-#[tactic(auto, unfolding(spec_commands::specs::Finding::is_so))]
+#[tactic(auto, unfolding(spec_commands::specs::Finding::is_object_so))]
 fn has_home(guard: &Guard, x: Dbref) -> bool
-    ensures { result ≡ has_home x (world_of guard.now) }
+    ensures { result ≡ object_has_home x (world_of guard.now) }
 {
     match guard.db().get(x) {
         Some(object) => matches!(object.kind(), Kind::Thing | Kind::Player),
@@ -105,7 +105,7 @@ fn untie(guard: &mut Guard, pass: Pass, x: Dbref) -> Result<(), DbFault>
 }
 
 // Moves an object; home is its own.
-#[tactic(auto, using(crate::proofs::Written::makes_done), unfolding(spec_commands::specs::Building::placed, spec_live::specs::Lives::reading))]
+#[tactic(auto, using(crate::proofs::Written::makes_done), unfolding(spec_commands::specs::Building::object_placed, spec_live::specs::Lives::reading))]
 fn place(guard: &mut Guard, pass: Pass, x: Dbref, to: Dbref) -> Result<(), DbFault>
     requires leave { IsLeave pass (Act.Move x to) guard.old }
     ensures { IsDone (may (Write.Place x to) (world_of guard.old)) (change_of (Write.Place x to)) guard.old guard.new result }
@@ -152,7 +152,7 @@ pub fn put(guard: &mut Guard, pass: Pass, write: Write) -> Result<(), DbFault>
 
 /// Writes by leave: where the world allows it, it is done and the connection sees the reply; else it is told that it can't
 /// be done, and nothing has changed.
-#[tactic(auto, unfolding(spec_commands::specs::Building::done_where, spec_commands::specs::Finding::where_so, spec_live::specs::Lives::reading, spec_live::specs::Lives::either, spec_live::specs::Lives::followed))]
+#[tactic(auto, unfolding(spec_commands::specs::Building::done_where, spec_commands::specs::Finding::where_so, spec_live::specs::Lives::reading, spec_live::specs::Lives::either, spec_live::specs::Lives::change_followed))]
 pub fn write_by_leave(
     guard: &mut Guard,
     pass: Pass,
@@ -173,10 +173,10 @@ pub fn write_by_leave(
 
 /// Writes, where neither a rule nor the world denies it; the connection sees the reply, or why not, and then nothing has
 /// changed.
-#[tactic(auto, unfolding(spec_commands::specs::Building::written, spec_rights::specs::Asking::asked))]
+#[tactic(auto, unfolding(spec_commands::specs::Building::change_by_leave, spec_rights::specs::Asking::asked))]
 pub fn try_write(guard: &mut Guard, d: u32, write: Write, reply: &[u8]) -> Result<(), NoMemory>
     requires { IsFit write }
-    ensures { Did (written d guard.old.actor (act_of write) (may write) (change_of write) reply.now) guard.old guard.new result }
+    ensures { Did (change_by_leave d guard.old.actor (act_of write) (may write) (change_of write) reply.now) guard.old guard.new result }
 {
     let actor = guard.actor();
     let act = act_of(&write);

@@ -8,7 +8,7 @@ use Rattle.spec_rights.specs.declared.act.Actor.{Actor}
 use Rattle.spec_rights.specs.Licence.{Freedom, Licensed, oneself}
 use Rattle.spec_rights.proofs.Licences.{Whole, Always, whole_ends, licensed}
 use Rattle.spec_commands.specs.declared.outcome.Outcome.{Outcome}
-use Rattle.spec_commands.specs.Going.{Play, walked}
+use Rattle.spec_commands.specs.Going.{Play, exit_walked}
 use Rattle.spec_commands.specs.Free.{free_play}
 use Rattle.spec_commands.specs.Commands.{play_line}
 use Rattle.spec_commands.proofs.Gone.{walked_open}
@@ -27,9 +27,9 @@ plays_licensed p a free old new (Ok outcome) e s =
 plays_licensed p a free old new (Err error) e s = tt
 
 pub walk_licensed : (d : ℕ) (hit : ExitHit) (line : List ℕ) (old new : Guard) (r : Result Outcome NoMemory) →
-    Plays (walked d old.actor hit line) old new r → OnOk r (Licensed old.actor (oneself old.actor) (world_of old) (world_of new))
+    Plays (exit_walked d old.actor hit line) old new r → OnOk r (Licensed old.actor (oneself old.actor) (world_of old) (world_of new))
 walk_licensed d hit line old new r =
-    plays_licensed (walked d old.actor hit line) old.actor (λ es. oneself old.actor) old new r
+    plays_licensed (exit_walked d old.actor hit line) old.actor (λ es. oneself old.actor) old new r
     (whole_ends gone.world_of old.actor None (λ es. oneself old.actor) Always _ (λ w h. walked_open old.actor (oneself old.actor) d hit line (self_free old.actor)))
 
 pub line_licensed : (d : ℕ) (line : List ℕ) (old new : Guard) (r : Result Outcome NoMemory) →

@@ -1,6 +1,7 @@
 -- What a move does that was allowed, and what showing keeps.
-use Rattle.std.proofs.Common.{◌≡◌, ℕ, Bool, true, false, List, refl, sym, ap, ◌∙◌, Option, Some, None, Result, Ok, Err, OnOk, ◌&&◌, ◌||◌}
+use Rattle.std.proofs.Common.{◌≡◌, ℕ, true, false, List, refl, sym, ap, ◌∙◌, Option, Some, None, Result, Ok, Err, OnOk, ◌&&◌, ◌||◌}
 use Rattle.std.specs.Option.{option_map_or}
+use Rattle.muck_laws.proofs.Truths.{hand_by}
 use Rattle.muck_model.specs.declared.dbref.Dbref.{Dbref}
 use Rattle.muck_model.specs.declared.memory.NoMemory.{NoMemory}
 use Rattle.spec_live.specs.declared.fault.DbFault.{DbFault}
@@ -9,12 +10,12 @@ use Rattle.spec_live.specs.Objects.{Entry, same, is_thing, is_program, object_at
 use Rattle.spec_live.specs.Lives.{Live, Change}
 use Rattle.spec_rights.specs.declared.act.Actor.{Actor}
 use Rattle.spec_rights.specs.declared.act.Act.{Act}
-use Rattle.spec_rights.specs.Verdict.{place_of, verdict}
+use Rattle.spec_rights.specs.Verdict.{place_or_nothing, verdict}
 use Rattle.spec_rights.specs.Licence.{at_hand, at_hand_kind}
 use Rattle.spec_rights.proofs.Licences.{Quiet}
-use Rattle.spec_commands.specs.Finding.{is_so, shown_others}
+use Rattle.spec_commands.specs.Finding.{is_object_so, shown_others}
 use Rattle.spec_commands.specs.declared.typed.Typed.{Typed}
-use Rattle.spec_commands.specs.declared.word.Message.{Message}
+use Rattle.spec_live.specs.declared.message.Message.{Message}
 use Rattle.spec_commands.specs.Going.{may_move, is_carried, both_shown}
 use Rattle.spec_commands.proofs.Showing.{quiet_shown_others}
 use Rattle.std.specs.Prelude.{map}
@@ -66,23 +67,18 @@ pub here_kept : (pass : Pass) (d : ℕ) (a : Actor) (typed : Typed) (mine theirs
 here_kept pass d a typed mine theirs x y old new leave e =
     let notes = (notes_both_shown d a typed mine theirs x).law (world_of old) in
     let objects : map without_props (objects_of new) ≡ map without_props (objects_of old) = ap (λ (w : Live). map without_props w.objects) e.0 ∙ notes.objects in
-    let mine : place_of (objects_of new) y ≡ place_of (objects_of old) y = place_same (objects_of old) (objects_of new) objects y in
-    let theirs : place_of (objects_of new) new.actor.player ≡ place_of (objects_of old) old.actor.player =
-    place_same (objects_of old) (objects_of new) objects new.actor.player ∙ ap (λ (b : Actor). place_of (objects_of old) b.player) e.1.0 in
-    ap (λ (p : Dbref). same p (place_of (objects_of new) new.actor.player)) mine ∙ ap (λ (p : Dbref). same (place_of (objects_of old) y) p) theirs ∙ take_allowed (objects_of old) old.actor y leave.2
+    let mine : place_or_nothing (objects_of new) y ≡ place_or_nothing (objects_of old) y = place_same (objects_of old) (objects_of new) objects y in
+    let theirs : place_or_nothing (objects_of new) new.actor.player ≡ place_or_nothing (objects_of old) old.actor.player =
+    place_same (objects_of old) (objects_of new) objects new.actor.player ∙ ap (λ (b : Actor). place_or_nothing (objects_of old) b.player) e.1.0 in
+    ap (λ (p : Dbref). same p (place_or_nothing (objects_of new) new.actor.player)) mine ∙ ap (λ (p : Dbref). same (place_or_nothing (objects_of old) y) p) theirs ∙ take_allowed (objects_of old) old.actor y leave.2
 
 -- What is carried is at hand.
 
-hand_by : (kind item carried here : Bool) → (item ≡ true → kind ≡ true) → (item && carried) ≡ true → (kind && (carried || here)) ≡ true
-hand_by kind true true here f e = rw (f refl) refl
-hand_by kind true false here f e = cc
-hand_by kind false carried here f e = cc
-
 carried_by : (es : List Entry) (a : Actor) (o : Option Object) → option_map_or (λ (k : Object). (is_thing k.kind || is_program k.kind) && same k.place a.player) o false ≡ true →
-    option_map_or (λ (k : Object). at_hand_kind k.kind && (same k.place a.player || same k.place (place_of es a.player))) o false ≡ true
+    option_map_or (λ (k : Object). at_hand_kind k.kind && (same k.place a.player || same k.place (place_or_nothing es a.player))) o false ≡ true
 carried_by es a None e = cc
-carried_by es a (Some o) e = hand_by (at_hand_kind o.kind) (is_thing o.kind || is_program o.kind) (same o.place a.player) (same o.place (place_of es a.player)) (item_kind o.kind) e
+carried_by es a (Some o) e = hand_by (at_hand_kind o.kind) (is_thing o.kind || is_program o.kind) (same o.place a.player) (same o.place (place_or_nothing es a.player)) (item_kind o.kind) e
 
 pub carried_at_hand : (w : Live) (a : Actor) (x : Dbref) → is_carried a.player x w ≡ true → at_hand w.objects a x ≡ true
-unfolding is_so
+unfolding is_object_so
 carried_at_hand w a x e = carried_by w.objects a (object_at x w.objects) e

@@ -5,19 +5,19 @@ use Rattle.muck_model.specs.declared.memory.NoMemory.{NoMemory}
 use Rattle.spec_live.specs.Lives.{Change}
 use Rattle.spec_rights.specs.declared.act.Actor.{Actor}
 use Rattle.spec_commands.specs.declared.typed.Typed.{Typed}
-use Rattle.spec_commands.specs.declared.word.Message.{Message}
+use Rattle.spec_live.specs.declared.message.Message.{Message}
 use Rattle.std.specs.Prelude.{IfOk}
 use Rattle.std.proofs.Common.{◌≡◌, ap}
-use Rattle.spec_mpi.specs.Messages.{spoken as said_of}
-use Rattle.spec_commands.specs.Messages.{spoken, with_message}
+use Rattle.spec_mpi.specs.Messages.{message_spoken as said_of}
+use Rattle.spec_commands.specs.Messages.{text_spoken, with_message}
 use Rattle.muck_perm.specs.declared.guard.Guard.{Guard}
 use Rattle.muck_perm.specs.inner.Guards.{Same, Did, Done, world_of}
 use Rattle.muck_perm.proofs.Worlds.{kept_after, same_after}
 use Rattle.cmd_play.specs.inner.Speaking.{Speaks, Says}
 
 pub was_said : (a : Actor) (x : Dbref) (how : List ℕ) (typed : Typed) (text : List ℕ) (old new : Guard) (r : Result (List ℕ) NoMemory) →
-    IfOk r (λ line. line ≡ (said_of a x how typed.word typed.rest text (world_of old)).0) → Did (λ w. (said_of a x how typed.word typed.rest text w).1) old new r → Speaks (spoken a x how typed text) old new r
-unfolding spoken
+    IfOk r (λ line. line ≡ (said_of a x how typed.word typed.rest text (world_of old)).0) → Did (λ w. (said_of a x how typed.word typed.rest text w).1) old new r → Speaks (text_spoken a x how typed text) old new r
+unfolding text_spoken
 was_said a x how typed text old new (Ok line) e h = (h.1, λ go. ap (λ t. go t (said_of a x how typed.word typed.rest text (world_of old)).1) (sym e) ∙ ap (go line) (sym h.0))
 was_said a x how typed text old new (Err fault) e h = h
 

@@ -4,13 +4,14 @@ ghost use Rattle.muck_model.specs.Bytes.{text_fault};
 ghost use Rattle.spec_live.specs.Lives.{tell, either};
 ghost use Rattle.spec_rights.specs.Licence.{Licensed};
 ghost use Rattle.spec_commands.specs.Replies.{goodbye};
-ghost use Rattle.spec_commands.specs.Finding.{looked, look_shown};
+ghost use Rattle.spec_commands.specs.Finding.{place_looked_at, look_shown};
 ghost use Rattle.spec_commands.specs.Reading.{is_empty, by_table};
 ghost use Rattle.spec_commands.specs.Free.{free_play};
-ghost use Rattle.spec_commands.specs.Commands.{play_words, play_shape, line_typed, play_done, signed, play_line};
+ghost use Rattle.spec_commands.specs.Commands.{play_words, play_shape, line_typed, play_done, said_by_sign, play_line};
 ghost use Rattle.muck_perm.specs.inner.Guards.{Did, objects_of, world_of};
 ghost use Rattle.cmd_common.specs.inner.Plays.{Plays};
 ghost use Rattle.cmd_common.specs.inner.Takes.{word_row};
+ghost use Rattle.cmd_play.specs.inner.Saying.{SaysSo};
 
 use crate::going::{go, go_home};
 use crate::looking::{examine, inventory, look, look_at};
@@ -24,6 +25,7 @@ use muck_queue::Queue;
 use spec_commands::{
     Argument, Arguments, Form, Outcome, PlayWord, Shape, Typed, Want, cut_word, trim,
 };
+use std::alloc::Global;
 
 // The words of players.
 #[tactic(auto, unfolding(spec_commands::specs::Commands::play_words))]
@@ -74,7 +76,7 @@ fn shape_of(command: PlayWord) -> Shape
 // The player looks where it is, or at what it has named.
 #[tactic(auto, unfolding(spec_live::specs::Lives::either))]
 fn look_around(guard: &mut Guard, d: u32, typed: &Typed, named: &Argument) -> Result<(), NoMemory>
-    ensures { Did (either (is_empty named.now.text) (looked d guard.old.actor typed.now) (look_shown d guard.old.actor typed.now named.now.object)) guard.old guard.new result }
+    ensures { Did (either (is_empty named.now.text) (place_looked_at d guard.old.actor typed.now) (look_shown d guard.old.actor typed.now named.now.object)) guard.old guard.new result }
 {
     if named.text.as_slice().is_empty() {
         look(guard, d, typed)
@@ -98,8 +100,22 @@ fn done(shown: Result<(), NoMemory>) -> Result<Outcome, NoMemory>
     Ok(Outcome::Done)
 }
 
+// It was said or posed.
+fn said(
+    shown: Result<(), NoMemory>,
+    alloc: Global,
+    pose: bool,
+    text: &Line,
+) -> Result<Outcome, NoMemory>
+    ensures { SaysSo shown pose text.now result }
+{
+    shown?;
+    let text = text.copy(alloc)?;
+    Ok(Outcome::Said { pose, text })
+}
+
 // What each does. What was typed is kept for those alone that show a message.
-#[tactic(auto, using(cmd_common::proofs::Doing::plays_done), unfolding(spec_commands::specs::Going::ended, spec_commands::specs::Commands::play_done))]
+#[tactic(auto, using(cmd_common::proofs::Doing::plays_done, crate::proofs::Saying::plays_said), unfolding(spec_commands::specs::Going::ended, spec_commands::specs::Commands::play_done))]
 fn perform(
     guard: &mut Guard,
     d: u32,
@@ -117,8 +133,8 @@ fn perform(
     let text = &args.second.text;
     match command {
         PlayWord::Look => done(look_around(guard, d, &typed_of(alloc, word, rest)?, first)),
-        PlayWord::Say => done(say(guard, d, &first.text)),
-        PlayWord::Pose => done(pose(guard, d, &first.text)),
+        PlayWord::Say => said(say(guard, d, &first.text), alloc, false, &first.text),
+        PlayWord::Pose => said(pose(guard, d, &first.text), alloc, true, &first.text),
         PlayWord::Page => done(page(guard, d, first.object, text)),
         PlayWord::Whisper => done(whisper(guard, d, first.object, text)),
         PlayWord::Go => go(guard, d, &first.text),
@@ -136,7 +152,7 @@ fn perform(
 }
 
 // A command with the text behind its word.
-#[tactic(auto, unfolding(spec_commands::specs::Commands::signed))]
+#[tactic(auto, unfolding(spec_commands::specs::Commands::said_by_sign))]
 fn do_command(
     guard: &mut Guard,
     d: u32,
@@ -145,7 +161,7 @@ fn do_command(
     text: &Line,
 ) -> Result<Outcome, NoMemory>
     requires { text_fault word.now ≡ None }
-    ensures { Plays (signed d guard.old.actor command word.now text.now) guard.old guard.new result }
+    ensures { Plays (said_by_sign d guard.old.actor command word.now text.now) guard.old guard.new result }
 {
     match arguments(guard, d, word, shape_of(command), text)? {
         Some(args) => perform(guard, d, command, word, text, &args),
@@ -154,7 +170,7 @@ fn do_command(
 }
 
 // A line that doesn't begin with a sign.
-#[tactic(auto, using(cmd_common::proofs::Texts::parts_are_texts), unfolding(spec_live::specs::Lives::unchanged, spec_commands::specs::Going::ended, spec_commands::specs::Reading::by_table, spec_commands::specs::Commands::signed))]
+#[tactic(auto, using(cmd_common::proofs::Texts::parts_are_texts), unfolding(spec_live::specs::Lives::unchanged, spec_commands::specs::Going::ended, spec_commands::specs::Reading::by_table, spec_commands::specs::Commands::said_by_sign))]
 fn do_words(guard: &mut Guard, d: u32, line: &Line) -> Result<Outcome, NoMemory>
     ensures { Plays (by_table play_words play_shape (play_done d guard.old.actor (line_typed line.now)) d guard.old.actor line.now) guard.old guard.new result }
 {
@@ -186,7 +202,7 @@ fn do_line(guard: &mut Guard, d: u32, line: &Line) -> Result<Outcome, NoMemory>
 }
 
 /// Does a line of the player at the connection `d`: what stands behind `"` is said and what stands behind `:` is posed,
-/// and another line does what its first word says. `NotMine` comes exactly where there is no such sign and the first
+/// and another line does what its first word says. `Said` comes for what was said or posed. `NotMine` comes exactly where there is no such sign and the first
 /// word is none of a player's; nothing has happened then. `Leave` comes exactly for `QUIT`, and `Start` where the player
 /// goes through an exit to a program. What differs behind it is open to the actor, and the processes are as they were,
 /// since no command of a player looks at them. After `NoMemory` nothing is said of the world.

@@ -7,8 +7,8 @@ ghost use Rattle.spec_rights.specs.declared.act.Act.{Act};
 ghost use Rattle.spec_rights.specs.Changing.{moved_to};
 ghost use Rattle.spec_rights.specs.Licence.{Licensed, oneself};
 ghost use Rattle.spec_commands.specs.Replies.{cant_go, has_left, has_arrived};
-ghost use Rattle.spec_commands.specs.Finding.{shown_others, looked};
-ghost use Rattle.spec_commands.specs.Going.{home_at, link_at, movable, gone, gone_home, failed, drop_shown, led_place, led, tried, walked, went};
+ghost use Rattle.spec_commands.specs.Finding.{shown_others, place_looked_at};
+ghost use Rattle.spec_commands.specs.Going.{home_at, link_at, movable, player_gone, gone_home, failed, drop_shown, led_place, led, tried, exit_walked, player_went};
 ghost use Rattle.muck_perm.specs.inner.Guards.{Did, Done, IsGiven, objects_of, world_of};
 ghost use Rattle.cmd_common.specs.inner.Plays.{Plays};
 
@@ -20,7 +20,8 @@ use muck_match::{ExitHit, HOME, NOTHING, exit_for};
 use muck_model::{Dbref, Line, NoMemory};
 use muck_perm::{Guard, Pass, verdict};
 use muck_queue::Queue;
-use spec_commands::{Message, Outcome, Typed};
+use spec_commands::{Outcome, Typed};
+use spec_live::Message;
 use spec_rights::Act;
 
 // The home of an object, `#-1` where it isn't there.
@@ -51,7 +52,7 @@ fn movable(guard: &Guard, x: Dbref, to: Dbref) -> bool
 }
 
 /// A player may not do something with an object: the object's messages of failure, and what the player sees without one.
-#[tactic(auto, unfolding(spec_commands::specs::Going::failed, spec_live::specs::Lives::followed))]
+#[tactic(auto, unfolding(spec_commands::specs::Going::failed, spec_live::specs::Lives::change_followed))]
 pub fn fail(
     guard: &mut Guard,
     d: u32,
@@ -111,11 +112,11 @@ fn show_arriving(guard: &mut Guard) -> Result<(), NoMemory>
 }
 
 // The player walks home, where the world allows it.
-#[tactic(auto, unfolding(spec_live::specs::Lives::followed, spec_live::specs::Lives::unchanged))]
+#[tactic(auto, unfolding(spec_live::specs::Lives::change_followed, spec_live::specs::Lives::unchanged))]
 fn walk_home(guard: &mut Guard, d: u32, typed: &Typed, home: Dbref) -> Result<(), NoMemory>
     requires home { home_at guard.old.actor.player (world_of guard.old) ≡ home }
     requires may { movable guard.old.actor.player home (world_of guard.old) ≡ true }
-    ensures { Did (shown_others guard.old.actor.player has_left ▸ moved_to guard.old.actor.player home ▸ shown_others guard.old.actor.player has_arrived ▸ unchanged ▸ looked d guard.old.actor typed.now) guard.old guard.new result }
+    ensures { Did (shown_others guard.old.actor.player has_left ▸ moved_to guard.old.actor.player home ▸ shown_others guard.old.actor.player has_arrived ▸ unchanged ▸ place_looked_at d guard.old.actor typed.now) guard.old guard.new result }
 {
     show_leaving(guard)?;
     step_home(guard, home);
@@ -124,7 +125,7 @@ fn walk_home(guard: &mut Guard, d: u32, typed: &Typed, home: Dbref) -> Result<()
 }
 
 /// The player walks home, which others see, and looks; or the world refuses it.
-#[tactic(auto, unfolding(spec_commands::specs::Going::gone_home, spec_commands::specs::Going::gone, spec_commands::specs::Finding::where_so, spec_live::specs::Lives::reading, spec_live::specs::Lives::either))]
+#[tactic(auto, unfolding(spec_commands::specs::Going::gone_home, spec_commands::specs::Going::player_gone, spec_commands::specs::Finding::where_so, spec_live::specs::Lives::reading, spec_live::specs::Lives::either))]
 pub fn go_home(guard: &mut Guard, d: u32, typed: &Typed) -> Result<(), NoMemory>
     ensures { Did (gone_home d guard.old.actor typed.now) guard.old guard.new result }
 {
@@ -137,7 +138,7 @@ pub fn go_home(guard: &mut Guard, d: u32, typed: &Typed) -> Result<(), NoMemory>
 }
 
 // The player goes through an exit, where the world allows it.
-#[tactic(auto, unfolding(spec_live::specs::Lives::followed))]
+#[tactic(auto, unfolding(spec_live::specs::Lives::change_followed))]
 fn walk_through(
     guard: &mut Guard,
     d: u32,
@@ -148,7 +149,7 @@ fn walk_through(
 ) -> Result<(), NoMemory>
     requires leave { IsGiven pass (Act.Walk exit) guard.old }
     requires may { movable guard.old.actor.player to (world_of guard.old) ≡ true }
-    ensures { Did (shown_others guard.old.actor.player has_left ▸ moved_to guard.old.actor.player to ▸ shown_others guard.old.actor.player has_arrived ▸ drop_shown d guard.old.actor typed.now exit ▸ looked d guard.old.actor typed.now) guard.old guard.new result }
+    ensures { Did (shown_others guard.old.actor.player has_left ▸ moved_to guard.old.actor.player to ▸ shown_others guard.old.actor.player has_arrived ▸ drop_shown d guard.old.actor typed.now exit ▸ place_looked_at d guard.old.actor typed.now) guard.old guard.new result }
 {
     show_leaving(guard)?;
     step_through(guard, pass, exit, to);
@@ -159,7 +160,7 @@ fn walk_through(
 
 // The player goes through an exit to another place, which others see, sees the exit's messages of dropping, and looks;
 // or the world refuses it.
-#[tactic(auto, unfolding(spec_commands::specs::Going::gone, spec_commands::specs::Finding::where_so, spec_live::specs::Lives::reading, spec_live::specs::Lives::either))]
+#[tactic(auto, unfolding(spec_commands::specs::Going::player_gone, spec_commands::specs::Finding::where_so, spec_live::specs::Lives::reading, spec_live::specs::Lives::either))]
 fn go_through(
     guard: &mut Guard,
     d: u32,
@@ -169,7 +170,7 @@ fn go_through(
     to: Dbref,
 ) -> Result<(), NoMemory>
     requires { IsGiven pass (Act.Walk exit) guard.old }
-    ensures { Did (gone d guard.old.actor typed.now to (drop_shown d guard.old.actor typed.now exit)) guard.old guard.new result }
+    ensures { Did (player_gone d guard.old.actor typed.now to (drop_shown d guard.old.actor typed.now exit)) guard.old guard.new result }
 {
     if movable(guard, guard.actor().player, to) {
         walk_through(guard, d, typed, pass, exit, to)
@@ -242,7 +243,7 @@ fn lead(
 }
 
 // The player tries an exit.
-#[tactic(auto, unfolding(spec_commands::specs::Going::tried, spec_commands::specs::Going::ended, spec_rights::specs::Asking::asked, spec_live::specs::Lives::reading, spec_live::specs::Lives::followed, spec_commands::specs::Replies::cant_go))]
+#[tactic(auto, unfolding(spec_commands::specs::Going::tried, spec_commands::specs::Going::ended, spec_rights::specs::Asking::asked, spec_live::specs::Lives::reading, spec_live::specs::Lives::change_followed, spec_commands::specs::Replies::cant_go))]
 fn try_exit(
     guard: &mut Guard,
     d: u32,
@@ -275,9 +276,9 @@ fn try_exit(
 }
 
 // The player walks through an exit that takes the line.
-#[tactic(auto, unfolding(spec_commands::specs::Going::walked, spec_live::specs::Lives::reading))]
+#[tactic(auto, unfolding(spec_commands::specs::Going::exit_walked, spec_live::specs::Lives::reading))]
 fn take_exit(guard: &mut Guard, d: u32, hit: ExitHit, line: &Line) -> Result<Outcome, NoMemory>
-    ensures { Plays (walked d guard.old.actor hit line.now) guard.old guard.new result }
+    ensures { Plays (exit_walked d guard.old.actor hit line.now) guard.old guard.new result }
 {
     let typed = exit_typed(guard, &hit, line)?;
     try_exit(guard, d, &typed, hit.exit, line)
@@ -295,7 +296,7 @@ pub fn walk(
     hit: ExitHit,
     line: &Line,
 ) -> Result<Outcome, NoMemory>
-    ensures plays { Plays (walked d guard.old.actor hit line.now) guard.old guard.new result }
+    ensures plays { Plays (exit_walked d guard.old.actor hit line.now) guard.old guard.new result }
     ensures licensed { OnOk result (Licensed guard.old.actor (oneself guard.old.actor) (world_of guard.old) (world_of guard.new)) }
     ensures queue { queue.new ≡ queue.old }
 {
@@ -304,9 +305,9 @@ pub fn walk(
 }
 
 /// `go` and the words that an exit takes: the player walks through that exit.
-#[tactic(auto, unfolding(spec_commands::specs::Going::went, spec_commands::specs::Going::ended, spec_live::specs::Lives::reading))]
+#[tactic(auto, unfolding(spec_commands::specs::Going::player_went, spec_commands::specs::Going::ended, spec_live::specs::Lives::reading))]
 pub fn go(guard: &mut Guard, d: u32, line: &Line) -> Result<Outcome, NoMemory>
-    ensures { Plays (went d guard.old.actor line.now) guard.old guard.new result }
+    ensures { Plays (player_went d guard.old.actor line.now) guard.old guard.new result }
 {
     match exit_for(guard.db(), guard.actor().player, line) {
         Some(hit) => take_exit(guard, d, hit, line),

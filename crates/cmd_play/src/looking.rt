@@ -6,7 +6,7 @@ ghost use Rattle.spec_rights.specs.Levels.{owner_at, flag_at};
 ghost use Rattle.spec_commands.specs.Replies.{lock_line};
 ghost use Rattle.spec_live.specs.Worth.{lock_text};
 ghost use Rattle.spec_commands.specs.Messages.{look_typed};
-ghost use Rattle.spec_commands.specs.Finding.{listed_under, is_seen, seen_in, room_shown, looked, is_room_at, look_shown, owner_shown, examined};
+ghost use Rattle.spec_commands.specs.Finding.{listed_under, is_seen, seen_in, room_shown, place_looked_at, is_room_at, look_shown, owner_shown, thing_examined};
 ghost use Rattle.spec_commands.specs.Going.{inventory_shown};
 ghost use Rattle.muck_perm.specs.inner.Guards.{Did, objects_of, world_of};
 
@@ -15,11 +15,11 @@ use crate::typed::word_typed;
 use cmd_common::{list, name_and, place_at, show_name};
 use muck_model::{Dbref, Kind, NoMemory};
 use muck_perm::{Guard, command_level, controls_as};
-use spec_commands::{Message, Typed};
-use spec_live::{DARK, has_flag};
+use spec_commands::Typed;
+use spec_live::{DARK, Message, has_flag};
 
 // The connection sees a head and the names of these objects, where there are any.
-#[tactic(auto, unfolding(spec_live::specs::Lives::followed, spec_live::specs::Lives::unchanged, spec_commands::specs::Finding::listed_under))]
+#[tactic(auto, unfolding(spec_live::specs::Lives::change_followed, spec_live::specs::Lives::unchanged, spec_commands::specs::Finding::listed_under))]
 fn list_under(
     guard: &mut Guard,
     d: u32,
@@ -37,7 +37,7 @@ fn list_under(
 }
 
 // The connection sees a head and the names of these objects, or another text where there are none.
-#[tactic(auto, unfolding(spec_live::specs::Lives::followed, spec_commands::specs::Finding::listed_under))]
+#[tactic(auto, unfolding(spec_live::specs::Lives::change_followed, spec_commands::specs::Finding::listed_under))]
 fn list_or(
     guard: &mut Guard,
     d: u32,
@@ -90,7 +90,7 @@ fn seen_in(guard: &Guard, player: Dbref, room: Dbref) -> Result<Vec<Dbref>, NoMe
 }
 
 /// The connection sees a room as the player does: its name, its description, and what is in it.
-#[tactic(auto, unfolding(spec_live::specs::Lives::followed, spec_live::specs::Lives::reading, spec_commands::specs::Finding::room_shown, spec_commands::specs::Replies::contents_head))]
+#[tactic(auto, unfolding(spec_live::specs::Lives::change_followed, spec_live::specs::Lives::reading, spec_commands::specs::Finding::room_shown, spec_commands::specs::Replies::contents_head))]
 pub fn show_room(guard: &mut Guard, d: u32, typed: &Typed, room: Dbref) -> Result<(), NoMemory>
     ensures { Did (room_shown d guard.old.actor typed.now room) guard.old guard.new result }
 {
@@ -102,9 +102,9 @@ pub fn show_room(guard: &mut Guard, d: u32, typed: &Typed, room: Dbref) -> Resul
 }
 
 /// The player looks at where it is.
-#[tactic(auto, unfolding(spec_live::specs::Lives::reading, spec_commands::specs::Finding::looked))]
+#[tactic(auto, unfolding(spec_live::specs::Lives::reading, spec_commands::specs::Finding::place_looked_at))]
 pub fn look(guard: &mut Guard, d: u32, typed: &Typed) -> Result<(), NoMemory>
-    ensures { Did (looked d guard.old.actor typed.now) guard.old guard.new result }
+    ensures { Did (place_looked_at d guard.old.actor typed.now) guard.old guard.new result }
 {
     let room = place_at(guard, guard.actor().player);
     show_room(guard, d, typed, room)
@@ -112,14 +112,14 @@ pub fn look(guard: &mut Guard, d: u32, typed: &Typed) -> Result<(), NoMemory>
 
 /// The player, which has logged in, looks at where it is.
 pub fn look_first(guard: &mut Guard, d: u32) -> Result<(), NoMemory>
-    ensures { Did (looked d guard.old.actor look_typed) guard.old guard.new result }
+    ensures { Did (place_looked_at d guard.old.actor look_typed) guard.old guard.new result }
 {
     let typed = word_typed(guard.alloc(), b"look")?;
     look(guard, d, &typed)
 }
 
 /// Whether it is a room.
-#[tactic(auto, unfolding(spec_commands::specs::Finding::is_so))]
+#[tactic(auto, unfolding(spec_commands::specs::Finding::is_object_so))]
 pub fn is_room(guard: &Guard, x: Dbref) -> bool
     ensures { result ≡ is_room_at x (world_of guard.now) }
 {
@@ -219,9 +219,9 @@ fn show_lock(guard: &mut Guard, d: u32, x: Dbref) -> Result<(), NoMemory>
 }
 
 /// The player sees the name, the owner and the lock of something, and of what it doesn't control the owner alone.
-#[tactic(auto, unfolding(spec_live::specs::Lives::followed, spec_live::specs::Lives::reading, spec_live::specs::Lives::either, spec_commands::specs::Finding::where_so, spec_commands::specs::Finding::examined))]
+#[tactic(auto, unfolding(spec_live::specs::Lives::change_followed, spec_live::specs::Lives::reading, spec_live::specs::Lives::either, spec_commands::specs::Finding::where_so, spec_commands::specs::Finding::thing_examined))]
 pub fn examine(guard: &mut Guard, d: u32, x: Dbref) -> Result<(), NoMemory>
-    ensures { Did (examined d guard.old.actor x) guard.old guard.new result }
+    ensures { Did (thing_examined d guard.old.actor x) guard.old guard.new result }
 {
     let actor = guard.actor();
     if !controls_as(guard.db(), actor.level, actor.user, x) {

@@ -1,7 +1,7 @@
 // The messages of objects, and the one way by which they reach anybody.
 ghost use Rattle.std.specs.Prelude.{◌≡◌, ◌∷◌, None};
 ghost use Rattle.muck_model.specs.Bytes.{text_fault};
-ghost use Rattle.spec_commands.specs.Messages.{message_how, spoken, with_message};
+ghost use Rattle.spec_commands.specs.Messages.{message_how, text_spoken, with_message};
 ghost use Rattle.spec_commands.specs.Finding.{shown_others, message_or, message_shown, message_to_others};
 ghost use Rattle.spec_commands.specs.Going.{both_shown};
 ghost use Rattle.muck_perm.specs.inner.Guards.{Did};
@@ -11,22 +11,15 @@ use crate::texts::joined;
 use cmd_common::{message_path, show_others};
 use muck_model::{Dbref, Line, NoMemory};
 use muck_perm::Guard;
-use spec_commands::{Message, Typed};
+use spec_commands::Typed;
+use spec_live::Message;
 
 // How a message is called where it is spoken.
 fn how_of(message: Message) -> &'static [u8]
     ensures how { result.now ≡ message_how message }
     ensures text { text_fault result.now ≡ None }
 {
-    match message {
-        Message::Describe => b"(@desc)",
-        Message::Success => b"(@succ)",
-        Message::OthersSuccess => b"(@osucc)",
-        Message::Fail => b"(@fail)",
-        Message::OthersFail => b"(@ofail)",
-        Message::Drop => b"(@drop)",
-        Message::OthersDrop => b"(@odrop)",
-    }
+    message.row().how
 }
 
 // A text that an object carries is spoken by the rights of the actor.
@@ -39,7 +32,7 @@ fn spoken(
     text: Line,
 ) -> Result<Line, NoMemory>
     requires { text_fault how.now ≡ None }
-    ensures { Speaks (spoken guard.old.actor x how.now typed.now text) guard.old guard.new result }
+    ensures { Speaks (text_spoken guard.old.actor x how.now typed.now text) guard.old guard.new result }
 {
     muck_mpi::speak(guard, x, how, &typed.word, &typed.rest, text)
 }
@@ -123,7 +116,7 @@ pub fn message_to_others(
 }
 
 /// The player sees one message of an object, and the others where it is another, each where the object has it.
-#[tactic(auto, unfolding(spec_commands::specs::Going::both_shown, spec_live::specs::Lives::followed))]
+#[tactic(auto, unfolding(spec_commands::specs::Going::both_shown, spec_live::specs::Lives::change_followed))]
 pub fn show_both(
     guard: &mut Guard,
     d: u32,

@@ -5,7 +5,7 @@ ghost use Rattle.spec_live.specs.Lives.{◌▸◌, tell};
 ghost use Rattle.spec_rights.specs.declared.act.Act.TheVariants.{Take as TakeIt};
 ghost use Rattle.spec_rights.specs.Asking.{asked, refused};
 ghost use Rattle.spec_commands.specs.Replies.{taken_reply, dropped_reply};
-ghost use Rattle.spec_commands.specs.Going.{moving, succeeded, drop_shown, is_item, not_taken, taken, is_carried, drop_place, dropped};
+ghost use Rattle.spec_commands.specs.Going.{thing_moving, succeeded, drop_shown, is_item, not_taken, thing_taken, is_carried, drop_place, dropped};
 ghost use Rattle.muck_perm.specs.inner.Guards.{Did, IsGiven, is_here, world_of};
 
 use crate::going::{fail, link_at};
@@ -15,11 +15,12 @@ use cmd_common::{cant_be_done, place_at, refuse};
 use muck_match::NOTHING;
 use muck_model::{Dbref, Denial, Kind, NoMemory};
 use muck_perm::{Guard, Pass, verdict};
-use spec_commands::{Message, Typed};
+use spec_commands::Typed;
+use spec_live::Message;
 use spec_rights::Act;
 
 // Whether an object is a thing or a program.
-#[tactic(auto, unfolding(spec_commands::specs::Finding::is_so))]
+#[tactic(auto, unfolding(spec_commands::specs::Finding::is_object_so))]
 fn is_item(guard: &Guard, x: Dbref) -> bool
     ensures { result ≡ is_item x (world_of guard.now) }
 {
@@ -30,7 +31,7 @@ fn is_item(guard: &Guard, x: Dbref) -> bool
 }
 
 // Whether it is one that the player carries.
-#[tactic(auto, unfolding(spec_commands::specs::Finding::is_so))]
+#[tactic(auto, unfolding(spec_commands::specs::Finding::is_object_so))]
 fn is_carried(guard: &Guard, player: Dbref, x: Dbref) -> bool
     ensures { result ≡ is_carried player x (world_of guard.now) }
 {
@@ -61,11 +62,11 @@ fn not_taken(
 }
 
 // The player has leave to take it; the world may refuse it.
-#[tactic(auto, using(crate::proofs::Moves::movings), unfolding(spec_commands::specs::Going::moving, spec_commands::specs::Finding::where_so, spec_live::specs::Lives::reading, spec_live::specs::Lives::either, spec_live::specs::Lives::followed, spec_commands::specs::Replies::taken_reply))]
+#[tactic(auto, using(crate::proofs::Moves::movings), unfolding(spec_commands::specs::Going::thing_moving, spec_commands::specs::Finding::where_so, spec_live::specs::Lives::reading, spec_live::specs::Lives::either, spec_live::specs::Lives::change_followed, spec_commands::specs::Replies::taken_reply))]
 fn pick_up(guard: &mut Guard, d: u32, pass: Pass, x: Dbref) -> Result<(), NoMemory>
     requires given { IsGiven pass (TakeIt x) guard.old }
     requires here { is_here x guard.old ≡ true }
-    ensures { Did (moving d x guard.old.actor.player (tell d taken_reply)) guard.old guard.new result }
+    ensures { Did (thing_moving d x guard.old.actor.player (tell d taken_reply)) guard.old guard.new result }
 {
     match guard.take(pass, x) {
         Ok(()) => guard.tell(d, b"Taken."),
@@ -74,9 +75,9 @@ fn pick_up(guard: &mut Guard, d: u32, pass: Pass, x: Dbref) -> Result<(), NoMemo
 }
 
 // The player takes what is a thing or a program.
-#[tactic(auto, unfolding(spec_rights::specs::Asking::asked, spec_live::specs::Lives::followed))]
+#[tactic(auto, unfolding(spec_rights::specs::Asking::asked, spec_live::specs::Lives::change_followed))]
 fn take_item(guard: &mut Guard, d: u32, typed: &Typed, x: Dbref) -> Result<(), NoMemory>
-    ensures { Did (asked guard.old.actor (TakeIt x) (not_taken d guard.old.actor typed.now x) (succeeded d guard.old.actor typed.now x ▸ moving d x guard.old.actor.player (tell d taken_reply))) guard.old guard.new result }
+    ensures { Did (asked guard.old.actor (TakeIt x) (not_taken d guard.old.actor typed.now x) (succeeded d guard.old.actor typed.now x ▸ thing_moving d x guard.old.actor.player (tell d taken_reply))) guard.old guard.new result }
 {
     let actor = guard.actor();
     let act = Act::Take { object: x };
@@ -90,9 +91,9 @@ fn take_item(guard: &mut Guard, d: u32, typed: &Typed, x: Dbref) -> Result<(), N
 }
 
 /// The player takes a thing or a program where it is, whose lock opens to it.
-#[tactic(auto, unfolding(spec_commands::specs::Going::taken, spec_commands::specs::Finding::where_so, spec_live::specs::Lives::reading, spec_live::specs::Lives::either))]
+#[tactic(auto, unfolding(spec_commands::specs::Going::thing_taken, spec_commands::specs::Finding::where_so, spec_live::specs::Lives::reading, spec_live::specs::Lives::either))]
 pub fn take(guard: &mut Guard, d: u32, typed: &Typed, x: Dbref) -> Result<(), NoMemory>
-    ensures { Did (taken d guard.old.actor typed.now x) guard.old guard.new result }
+    ensures { Did (thing_taken d guard.old.actor typed.now x) guard.old guard.new result }
 {
     if is_item(guard, x) {
         take_item(guard, d, typed, x)
@@ -102,7 +103,7 @@ pub fn take(guard: &mut Guard, d: u32, typed: &Typed, x: Dbref) -> Result<(), No
 }
 
 // Where something goes that is dropped: to the place, or where the room sends it.
-#[tactic(auto, unfolding(spec_commands::specs::Finding::is_so))]
+#[tactic(auto, unfolding(spec_commands::specs::Finding::is_object_so))]
 fn drop_place(guard: &Guard, player: Dbref) -> Dbref
     ensures { result ≡ drop_place player (world_of guard.now) }
 {
@@ -116,7 +117,7 @@ fn drop_place(guard: &Guard, player: Dbref) -> Dbref
 }
 
 // The connection is told, and the messages of dropping are seen.
-#[tactic(auto, unfolding(spec_live::specs::Lives::followed, spec_commands::specs::Replies::dropped_reply))]
+#[tactic(auto, unfolding(spec_live::specs::Lives::change_followed, spec_commands::specs::Replies::dropped_reply))]
 fn show_dropped(guard: &mut Guard, d: u32, typed: &Typed, x: Dbref) -> Result<(), NoMemory>
     ensures { Did (tell d dropped_reply ▸ drop_shown d guard.old.actor typed.now x) guard.old guard.new result }
 {
@@ -125,7 +126,7 @@ fn show_dropped(guard: &mut Guard, d: u32, typed: &Typed, x: Dbref) -> Result<()
 }
 
 // The player drops what it carries; the world may refuse it.
-#[tactic(auto, using(crate::proofs::Moves::movings), unfolding(spec_commands::specs::Going::moving, spec_commands::specs::Finding::where_so, spec_live::specs::Lives::reading, spec_live::specs::Lives::either, spec_live::specs::Lives::followed))]
+#[tactic(auto, using(crate::proofs::Moves::movings), unfolding(spec_commands::specs::Going::thing_moving, spec_commands::specs::Finding::where_so, spec_live::specs::Lives::reading, spec_live::specs::Lives::either, spec_live::specs::Lives::change_followed))]
 fn drop_carried(
     guard: &mut Guard,
     d: u32,
@@ -134,7 +135,7 @@ fn drop_carried(
     to: Dbref,
 ) -> Result<(), NoMemory>
     requires { is_carried guard.old.actor.player x (world_of guard.old) ≡ true }
-    ensures { Did (moving d x to (tell d dropped_reply ▸ drop_shown d guard.old.actor typed.now x)) guard.old guard.new result }
+    ensures { Did (thing_moving d x to (tell d dropped_reply ▸ drop_shown d guard.old.actor typed.now x)) guard.old guard.new result }
 {
     match guard.put(x, to) {
         Ok(()) => show_dropped(guard, d, typed, x),

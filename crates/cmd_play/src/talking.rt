@@ -2,7 +2,7 @@
 ghost use Rattle.std.specs.Prelude.{◌≡◌, IfOk};
 ghost use Rattle.spec_live.specs.Lives.{tell, name_at};
 ghost use Rattle.spec_commands.specs.Replies.{you_say_to, says_to, connected_count};
-ghost use Rattle.spec_commands.specs.Finding.{each};
+ghost use Rattle.spec_commands.specs.Finding.{for_each};
 ghost use Rattle.spec_commands.specs.Talking.{said, pose_tail, posed, said_to, paged, is_company, whispered, presence, presences, presence_shown, who_shown};
 ghost use Rattle.muck_perm.specs.inner.Guards.{Did, world_of};
 
@@ -16,7 +16,7 @@ use spec_commands::Presence;
 use std::alloc::Global;
 
 /// The player says something: it sees its own words, and the others where it is see them with its name.
-#[tactic(auto, unfolding(spec_live::specs::Lives::followed, spec_commands::specs::Talking::said, spec_commands::specs::Replies::you_say, spec_commands::specs::Replies::says))]
+#[tactic(auto, unfolding(spec_live::specs::Lives::change_followed, spec_commands::specs::Talking::said, spec_commands::specs::Replies::you_say, spec_commands::specs::Replies::says))]
 pub fn say(guard: &mut Guard, d: u32, text: &Line) -> Result<(), NoMemory>
     ensures { Did (said d guard.old.actor.player text.now) guard.old guard.new result }
 {
@@ -38,7 +38,7 @@ fn pose_tail(alloc: Global, text: &[u8]) -> Result<Vec<u8>, NoMemory>
 }
 
 /// The player does something: it and the others where it is see its name, and the text behind it.
-#[tactic(auto, unfolding(spec_live::specs::Lives::followed, spec_live::specs::Lives::reading, spec_commands::specs::Talking::posed))]
+#[tactic(auto, unfolding(spec_live::specs::Lives::change_followed, spec_live::specs::Lives::reading, spec_commands::specs::Talking::posed))]
 pub fn pose(guard: &mut Guard, d: u32, text: &Line) -> Result<(), NoMemory>
     ensures { Did (posed d guard.old.actor.player text.now) guard.old guard.new result }
 {
@@ -70,7 +70,7 @@ fn says_to(alloc: Global, verb: &[u8], text: &[u8]) -> Result<Vec<u8>, NoMemory>
 }
 
 // The player and one other see what was said to that one alone.
-#[tactic(auto, unfolding(spec_live::specs::Lives::followed, spec_live::specs::Lives::reading, spec_commands::specs::Talking::said_to))]
+#[tactic(auto, unfolding(spec_live::specs::Lives::change_followed, spec_live::specs::Lives::reading, spec_commands::specs::Talking::said_to))]
 fn say_to(guard: &mut Guard, d: u32, to: Dbref, verb: &[u8], text: &Line) -> Result<(), NoMemory>
     ensures { Did (said_to d guard.old.actor.player to verb.now text.now) guard.old guard.new result }
 {
@@ -95,7 +95,7 @@ pub fn page(guard: &mut Guard, d: u32, to: Dbref, text: &Line) -> Result<(), NoM
 }
 
 // Whether it is a player, and where this player is.
-#[tactic(auto, unfolding(spec_commands::specs::Finding::is_so))]
+#[tactic(auto, unfolding(spec_commands::specs::Finding::is_object_so))]
 fn is_company(guard: &Guard, player: Dbref, to: Dbref) -> bool
     ensures { result ≡ is_company player to (world_of guard.now) }
 {
@@ -153,7 +153,7 @@ fn show_presence(guard: &mut Guard, d: u32, presence: Presence) -> Result<(), No
 
 // A line for each of these.
 fn show_presences(guard: &mut Guard, d: u32, presences: &[Presence]) -> Result<(), NoMemory>
-    ensures { Did (each (presence_shown d) presences.now) guard.old guard.new result }
+    ensures { Did (for_each (presence_shown d) presences.now) guard.old guard.new result }
 {
     for presence in presences {
         show_presence(guard, d, *presence)?;
@@ -171,7 +171,7 @@ fn show_count(guard: &mut Guard, d: u32, count: usize) -> Result<(), NoMemory>
 }
 
 /// The connection sees the players who are connected, and how many they are.
-#[tactic(auto, unfolding(spec_live::specs::Lives::reading, spec_live::specs::Lives::followed, spec_commands::specs::Talking::who_shown))]
+#[tactic(auto, unfolding(spec_live::specs::Lives::reading, spec_live::specs::Lives::change_followed, spec_commands::specs::Talking::who_shown))]
 pub fn who(guard: &mut Guard, d: u32) -> Result<(), NoMemory>
     ensures { Did (who_shown d) guard.old guard.new result }
 {

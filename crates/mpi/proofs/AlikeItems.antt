@@ -3,30 +3,33 @@ use Rattle.std.proofs.Common.{◌≡◌, ℕ, ◌+◌, ◌<◌, ◌≤◌, zero,
 use Rattle.std.specs.Prelude.{Result, Ok, Err, Option, Some, None, option_map, not, ◌&&◌, if◌then◌else◌, ◌==◌}
 use Rattle.std.specs.Cmp.Lexicographic.{nat_list_cmp_total}
 use Rattle.std.specs.FinMap.{get, insert, get-insert, get-remove, get_tied, same_map}
-use Rattle.std.specs.List.{slice_split, onto_first, join_with_byte}
+use Rattle.std.specs.List.{slice_split, join_with_byte}
 use Rattle.std.specs.Ordering.{eq_by_cmp, is_eq}
 use Rattle.std.specs.declared.cmp.Ordering.TheVariants.{Less, Equal, Greater}
 use Rattle.std.proofs.lemmas.Bool.{false≢true}
 use Rattle.std.proofs.lemmas.List.{append-nil}
 use Rattle.std.proofs.lemmas.List.Splits.{slice_split-cons_yes, slice_split-cons_no, length-slice_split, join_with_byte-slice_split}
+use Rattle.muck_laws.proofs.Lists.{behind_byte, short_ahead}
+use Rattle.muck_laws.proofs.Tests.{all_head, all_tail}
+use Rattle.muck_laws.proofs.Texts.{behind_onto, join_grown, join_longer}
 use Rattle.mpi.specs.declared.fault.MpiFault.{MpiFault}
 use Rattle.mpi.specs.declared.fault.MpiFault.TheVariants.{Unclosed, UnknownFunction, BadCount, BadValue, TooManyCommands, TooLong, Denied, NoMemory}
 use Rattle.mpi.specs.declared.functions.Keep.{Keep}
 use Rattle.mpi.specs.declared.functions.Keep.TheVariants as keep
 use Rattle.mpi.specs.declared.functions.Scope.{Scope}
 use Rattle.mpi.specs.declared.functions.Scope.TheVariants.{Once, Numbers, Items}
-use Rattle.mpi.specs.Brackets.{Piece, byte, call, first_piece, pieces, pieces_up_to}
-use Rattle.mpi.specs.Gathering.{as_text, kept_of, longer}
+use Rattle.mpi.specs.Brackets.{FormulaPiece, byte, call, first_piece, formula_pieces, pieces_up_to}
+use Rattle.mpi.specs.Gathering.{gathered_text, kept_item, longer}
 use Rattle.mpi.specs.Hosting.{Means}
 use Rattle.mpi.specs.Made.{is_long}
-use Rattle.mpi.specs.Meaning.{Scene, meaning, entered, spelled, each_value, text_with, each_item, before_body, bodies, in_scope}
-use Rattle.mpi.specs.Thoughts.{State, Thought, Thinks, fails, keeps, with_value, given_back_in}
-use Rattle.mpi.specs.Values.{nth, is_true, items}
+use Rattle.mpi.specs.Meaning.{Scene, meaning, body_entered, spelled, each_value, text_with, each_item, before_body, bodies_in_scope, in_scope}
+use Rattle.mpi.specs.Thoughts.{MindState, Thought, Thinks, fails, keeps, with_value, given_back_in}
+use Rattle.mpi.specs.Values.{nth, is_true_text, items}
 use Rattle.mpi.specs.Variables.{Variables, name_cmp, given_back}
 use Rattle.mpi.specs.inner.Alike.{said, alike_items, answer_alike, transposed}
 use Rattle.muck_model.specs.Bytes.{text_fault, text_most}
 use Rattle.mpi.specs.inner.Written.{is_plain_byte, is_plain}
-use Rattle.mpi.proofs.Inside.{text_short, all_head, all_tail}
+use Rattle.mpi.proofs.Inside.{text_short}
 use Rattle.mpi.proofs.Items.{items_some}
 use Rattle.mpi.proofs.Lengths.{is_short}
 use Rattle.mpi.proofs.Maps.{name_cmp_same}
@@ -37,35 +40,23 @@ use Rattle.mpi.proofs.Turns.{known_first, kept_is, item_first, scope_comes}
 ------------------------------------------------------------------------------------------------------------------------------
 -- A text without functions.
 
-said_ahead : (first : ℕ) (more rest : List ℕ) (p : Piece) → (p, rest) ≡ first_piece first more → said (pieces (first ∷ more)) ≡ said (p ∷ pieces rest)
-said_ahead first more rest p e = ap said (pieces_ahead first more ∙ (λ i. (sym e i).0 ∷ pieces (sym e i).1))
+said_ahead : (first : ℕ) (more rest : List ℕ) (p : FormulaPiece) → (p, rest) ≡ first_piece first more → said (formula_pieces (first ∷ more)) ≡ said (p ∷ formula_pieces rest)
+said_ahead first more rest p e = ap said (pieces_ahead first more ∙ (λ i. (sym e i).0 ∷ formula_pieces (sym e i).1))
 
-pub said_end : said (pieces []) ≡ Some []
+pub said_end : said (formula_pieces []) ≡ Some []
 unfolding said pieces_up_to
 said_end = refl
 
-pub said_call : (first : ℕ) (more rest body : List ℕ) → (call body, rest) ≡ first_piece first more → said (pieces (first ∷ more)) ≡ None
+pub said_call : (first : ℕ) (more rest body : List ℕ) → (call body, rest) ≡ first_piece first more → said (formula_pieces (first ∷ more)) ≡ None
 unfolding said
 said_call first more rest body e = said_ahead first more rest (call body) e
 
-behind_byte : (out : List ℕ) (b : ℕ) (o : Option (List ℕ)) → option_map (λ xs. out ++ xs) (option_map (λ xs. b ∷ xs) o) ≡ option_map (λ xs. (out ++ b ∷ []) ++ xs) o
-behind_byte out b None = refl
-behind_byte out b (Some xs) = ap Some (sym (append_assoc out (b ∷ []) xs))
-
 pub said_byte : (out : List ℕ) (first : ℕ) (more rest : List ℕ) (b : ℕ) → (byte b, rest) ≡ first_piece first more
-    → option_map (λ xs. out ++ xs) (said (pieces (first ∷ more))) ≡ option_map (λ xs. (out ++ b ∷ []) ++ xs) (said (pieces rest))
+    → option_map (λ xs. out ++ xs) (said (formula_pieces (first ∷ more))) ≡ option_map (λ xs. (out ++ b ∷ []) ++ xs) (said (formula_pieces rest))
 unfolding said
-said_byte out first more rest b e = ap (option_map (λ xs. out ++ xs)) (said_ahead first more rest (byte b) e) ∙ behind_byte out b (said (pieces rest))
+said_byte out first more rest b e = ap (option_map (λ xs. out ++ xs)) (said_ahead first more rest (byte b) e) ∙ behind_byte out b (said (formula_pieces rest))
 
--- what is said is no longer than the text
-short_ahead : (n : ℕ) (rest_text said_text : List ℕ) (b : ℕ) (o : Option (List ℕ)) → ((rest : List ℕ) → o ≡ Some rest → length rest ≤ n) → option_map (λ xs. b ∷ xs) o ≡ Some said_text → length said_text ≤ suc n
-short_ahead n rest_text said_text b None next e = absurd (let f : None ≡ Some said_text = e in cc)
-short_ahead n rest_text said_text b (Some rest) next e =
-    let f : Some (b ∷ rest) ≡ Some said_text = e in
-    let is : b ∷ rest ≡ said_text = cc in
-    omega (arith, next rest refl, ap length is)
-
-first_short : (n : ℕ) (p : Piece) (rest said_text : List ℕ) → ((xs : List ℕ) → said (pieces_up_to n rest) ≡ Some xs → length xs ≤ n) → said (p ∷ pieces_up_to n rest) ≡ Some said_text → length said_text ≤ suc n
+first_short : (n : ℕ) (p : FormulaPiece) (rest said_text : List ℕ) → ((xs : List ℕ) → said (pieces_up_to n rest) ≡ Some xs → length xs ≤ n) → said (p ∷ pieces_up_to n rest) ≡ Some said_text → length said_text ≤ suc n
 unfolding said
 first_short n (byte b) rest said_text next e = short_ahead n rest said_text b (said (pieces_up_to n rest)) next e
 first_short n (call body) rest said_text next e = absurd (let f : None ≡ Some said_text = e in cc)
@@ -76,7 +67,7 @@ said_up_to zero text said_text e = let f : Some [] ≡ Some said_text = e in let
 said_up_to (suc n) [] said_text e = let f : Some [] ≡ Some said_text = e in let is : [] ≡ said_text = cc in omega (arith, ap length is)
 said_up_to (suc n) (b ∷ more) said_text e = first_short n (first_piece b more).0 (first_piece b more).1 said_text (λ rest f. said_up_to n (first_piece b more).1 rest f) e
 
-said_short : (text said_text : List ℕ) → text_fault text ≡ None → said (pieces text) ≡ Some said_text → length said_text ≤ text_most
+said_short : (text said_text : List ℕ) → text_fault text ≡ None → said (formula_pieces text) ≡ Some said_text → length said_text ≤ text_most
 said_short text said_text short e = omega (arith, text_short text short, said_up_to (length text) text said_text e)
 
 byte_within : (out : List ℕ) (b : ℕ) (o : Option (List ℕ)) (text : List ℕ) → option_map (λ xs. b ∷ xs) o ≡ Some text → length (out ++ text) ≤ text_most → length (out ++ b ∷ []) ≤ text_most
@@ -88,11 +79,11 @@ byte_within out b (Some rest) text e le =
     omega (arith, le, more, length-append out text, length-append out (b ∷ []))
 
 module _ {S : Type 0} (go : List ℕ → Thought S (List ℕ)) where
-  fits : (out value : List ℕ) (ps : List Piece) (s : State S) → is_long (out ++ value) ≡ false
+  fits : (out value : List ℕ) (ps : List FormulaPiece) (s : MindState S) → is_long (out ++ value) ≡ false
       → cond (is_long (out ++ value)) (fails TooLong) (spelled go (out ++ value) ps) s ≡ spelled go (out ++ value) ps s
   fits out value ps s short = ap (λ t. cond t (fails TooLong) (spelled go (out ++ value) ps) s) short
 
-  means_byte : (out : List ℕ) (b : ℕ) (more : List Piece) (o : Option (List ℕ)) (text : List ℕ) (s : State S)
+  means_byte : (out : List ℕ) (b : ℕ) (more : List FormulaPiece) (o : Option (List ℕ)) (text : List ℕ) (s : MindState S)
       → ((rest : List ℕ) → o ≡ Some rest → length ((out ++ b ∷ []) ++ rest) ≤ text_most → spelled go (out ++ b ∷ []) more s ≡ (Ok ((out ++ b ∷ []) ++ rest), s))
       → option_map (λ xs. b ∷ xs) o ≡ Some text → length (out ++ text) ≤ text_most → spelled go (out ++ b ∷ []) more s ≡ (Ok (out ++ text), s)
   means_byte out b more None text s next e le = absurd (let f : None ≡ Some text = e in cc)
@@ -103,7 +94,7 @@ module _ {S : Type 0} (go : List ℕ → Thought S (List ℕ)) where
       next rest refl (subst (λ xs. length xs ≤ text_most) (sym same) le) ∙ (λ i. (Ok (same i), s))
 
   -- what is said without functions is meant, whatever the state
-  said_spells : (ps : List Piece) (out text : List ℕ) (s : State S) → said ps ≡ Some text → length (out ++ text) ≤ text_most → spelled go out ps s ≡ (Ok (out ++ text), s)
+  said_spells : (ps : List FormulaPiece) (out text : List ℕ) (s : MindState S) → said ps ≡ Some text → length (out ++ text) ≤ text_most → spelled go out ps s ≡ (Ok (out ++ text), s)
   unfolding said spelled
   said_spells [] out text s e le =
       let f : Some [] ≡ Some text = e in
@@ -160,40 +151,40 @@ back_at_once name (Some old) v h =
       | false ↦ λ e. refl
     ] refl))
 
-abbrev back : {S : Type 0} → List ℕ → Option (List ℕ) → State S → State S
+abbrev back : {S : Type 0} → List ℕ → Option (List ℕ) → MindState S → MindState S
 back name old s = (given_back_in name old s.0, s.1)
 
-back_set : {S : Type 0} (name x : List ℕ) (old : Option (List ℕ)) (s : State S) → back name old (with_value name x s.0, s.1) ≡ back name old s
+back_set : {S : Type 0} (name x : List ℕ) (old : Option (List ℕ)) (s : MindState S) → back name old (with_value name x s.0, s.1) ≡ back name old s
 back_set name x old s = λ i. (record s.0 { variables = back_again name x old s.0.variables i }, s.1)
 
 ------------------------------------------------------------------------------------------------------------------------------
 -- A loop whose text is the same for each item.
 
-module _ {S : Type 0} (go : List ℕ → Thought S (List ℕ)) (name body text : List ℕ) (same : (s : State S) → go body s ≡ (Ok text, s)) where
-  text_same : (item : List ℕ) (s : State S) → text_with go name item body s ≡ (Ok text, (with_value name item s.0, s.1))
+module _ {S : Type 0} (go : List ℕ → Thought S (List ℕ)) (name body text : List ℕ) (same : (s : MindState S) → go body s ≡ (Ok text, s)) where
+  text_same : (item : List ℕ) (s : MindState S) → text_with go name item body s ≡ (Ok text, (with_value name item s.0, s.1))
   unfolding text_with
   text_same item s = known_first (keeps name item) (λ x. go body) s (with_value name item s.0, s.1) item (kept_is name item s) ∙ same (with_value name item s.0, s.1)
 
-  abbrev ended : Option (List ℕ) → Result (List ℕ) MpiFault × State S → Result (List ℕ) MpiFault × State S
+  abbrev ended : Option (List ℕ) → Result (List ℕ) MpiFault × MindState S → Result (List ℕ) MpiFault × MindState S
   ended old v = (v.0, back name old v.1)
 
   -- what it gives; and behind it only the variable may be another
-  items_alike : (keep : Keep) (old list : Option (List ℕ)) (rest : List (List ℕ)) (s : State S)
+  items_alike : (keep : Keep) (old list : Option (List ℕ)) (rest : List (List ℕ)) (s : MindState S)
       → ended old (each_item keep go name body list rest s) ≡ (alike_items keep text list rest, back name old s)
   unfolding each_item alike_items
   items_alike keep old list [] s = refl
   items_alike keep old list (item ∷ more) s =
-      let k = kept_of keep list item text in
+      let k = kept_item keep list item text in
       ap (ended old) (item_first go keep name body list (item ∷ more) more item text s (with_value name item s.0, s.1) refl (text_same item s))
-      ∙ (elim (is_long (as_text k)) as (λ t. ended old (cond t (fails TooLong) (each_item keep go name body k more) (with_value name item s.0, s.1)) ≡ (cond t (Err TooLong) (alike_items keep text k more), back name old s)) [
+      ∙ (elim (is_long (gathered_text k)) as (λ t. ended old (cond t (fails TooLong) (each_item keep go name body k more) (with_value name item s.0, s.1)) ≡ (cond t (Err TooLong) (alike_items keep text k more), back name old s)) [
         | true ↦ λ i. (Err TooLong, back_set name item old s i)
         | false ↦ items_alike keep old k more (with_value name item s.0, s.1) ∙ (λ i. (alike_items keep text k more, back_set name item old s i))
       ])
 
-alike_comes : {S : Type 0} (go : List ℕ → Thought S (List ℕ)) (keep : Keep) (texts before values : List (List ℕ)) (body text : List ℕ) (s t : State S) (r : Result (List ℕ) MpiFault)
+alike_comes : {S : Type 0} (go : List ℕ → Thought S (List ℕ)) (keep : Keep) (texts before values : List (List ℕ)) (body text : List ℕ) (s t : MindState S) (r : Result (List ℕ) MpiFault)
     → before ≡ take 2 texts → each_value go [] before s ≡ (Ok values, t) → body ≡ nth 2 texts
-    → ((u : State S) → go body u ≡ (Ok text, u)) → Means (alike_items keep text None (items (nth 1 values))) r → Thinks (in_scope (Items keep) go texts) s t r
-unfolding bodies
+    → ((u : MindState S) → go body u ≡ (Ok text, u)) → Means (alike_items keep text None (items (nth 1 values))) r → Thinks (in_scope (Items keep) go texts) s t r
+unfolding bodies_in_scope
 alike_comes go keep texts before values body text s t r e h at same means =
     let name = nth 0 values in
     let old = get t.0.variables name in
@@ -217,8 +208,8 @@ fault_known (Some (Ok y)) f h = absurd (let e : Ok (Some y) ≡ Err f = h in cc)
 fault_known (Some (Err k)) f h = let e : Err k ≡ Err f = h in let is : k ≡ f = cc in ap (λ z. Some (Err z)) is
 
 module _ {S : Type 0} (scene : Scene S) (n : ℕ) where
-  text_comes : (keep : Keep) (texts before values : List (List ℕ)) (body : List ℕ) (o : Option (List ℕ)) (s t : State S) (answer r : Result (List ℕ) MpiFault)
-      → said (pieces body) ≡ o → before ≡ take 2 texts → each_value (meaning scene n) [] before s ≡ (Ok values, t) → body ≡ nth 2 texts
+  text_comes : (keep : Keep) (texts before values : List (List ℕ)) (body : List ℕ) (o : Option (List ℕ)) (s t : MindState S) (answer r : Result (List ℕ) MpiFault)
+      → said (formula_pieces body) ≡ o → before ≡ take 2 texts → each_value (meaning scene n) [] before s ≡ (Ok values, t) → body ≡ nth 2 texts
       → ((text : List ℕ) → o ≡ Some text → length text ≤ text_most)
       → option_map (λ text. alike_items keep text None (items (nth 1 values))) o ≡ Some answer → Means answer r → Thinks (in_scope (Items keep) (meaning scene n) texts) s t r
   text_comes keep texts before values body None s t answer r e f h at short is means = absurd (let k : None ≡ Some answer = is in cc)
@@ -226,25 +217,25 @@ module _ {S : Type 0} (scene : Scene S) (n : ℕ) where
       let k : Some (alike_items keep text None (items (nth 1 values))) ≡ Some answer = is in
       let same : alike_items keep text None (items (nth 1 values)) ≡ answer = cc in
       alike_comes (meaning scene n) keep texts before values body text s t r f h at
-      (λ u. said_spells (entered scene n) (pieces body) [] text u e (short text refl))
+      (λ u. said_spells (body_entered scene n) (formula_pieces body) [] text u e (short text refl))
       (subst (λ x. Means x r) (sym same) means)
 
-  scope_known : (scope : Scope) (texts before values : List (List ℕ)) (body : List ℕ) (s t : State S) (answer r : Result (List ℕ) MpiFault)
+  scope_known : (scope : Scope) (texts before values : List (List ℕ)) (body : List ℕ) (s t : MindState S) (answer r : Result (List ℕ) MpiFault)
       → before ≡ take (before_body scope) texts → each_value (meaning scene n) [] before s ≡ (Ok values, t) → body ≡ nth (before_body scope) texts → text_fault body ≡ None
       → answer_alike scope values body ≡ Some answer → Means answer r → Thinks (in_scope scope (meaning scene n) texts) s t r
   scope_known Once texts before values body s t answer r e h at short is means = absurd (let k : None ≡ Some answer = is in cc)
   scope_known Numbers texts before values body s t answer r e h at short is means = absurd (let k : None ≡ Some answer = is in cc)
   scope_known (Items keep) texts before values body s t answer r e h at short is means =
-      text_comes keep texts before values body (said (pieces body)) s t answer r refl e h at (λ text said_is. said_short body text short said_is) is means
+      text_comes keep texts before values body (said (formula_pieces body)) s t answer r refl e h at (λ text said_is. said_short body text short said_is) is means
 
   -- the answer of such a loop, and its fault
-  pub alike_answers : (scope : Scope) (texts before values : List (List ℕ)) (body answer : List ℕ) (s t : State S)
+  pub alike_answers : (scope : Scope) (texts before values : List (List ℕ)) (body answer : List ℕ) (s t : MindState S)
       → before ≡ take (before_body scope) texts → each_value (meaning scene n) [] before s ≡ (Ok values, t) → body ≡ nth (before_body scope) texts → text_fault body ≡ None
       → transposed (answer_alike scope values body) ≡ Ok (Some answer) → Thinks (in_scope scope (meaning scene n) texts) s t (Ok answer)
   alike_answers scope texts before values body answer s t e h at short is =
       scope_known scope texts before values body s t (Ok answer) (Ok answer) e h at short (one_known (answer_alike scope values body) answer is) refl
 
-  pub alike_fails : (scope : Scope) (texts before values : List (List ℕ)) (body : List ℕ) (f : MpiFault) (s t : State S)
+  pub alike_fails : (scope : Scope) (texts before values : List (List ℕ)) (body : List ℕ) (f : MpiFault) (s t : MindState S)
       → before ≡ take (before_body scope) texts → each_value (meaning scene n) [] before s ≡ (Ok values, t) → body ≡ nth (before_body scope) texts → text_fault body ≡ None
       → Means (transposed (answer_alike scope values body)) (Err f) → Thinks (in_scope scope (meaning scene n) texts) s t (Err f)
   alike_fails scope texts before values body NoMemory s t e h at short is = tt
@@ -274,22 +265,14 @@ last_of text list (item ∷ []) short some = ap (λ t. cond t (Err TooLong) (Ok 
 last_of text list (item ∷ next ∷ more) short some =
     ap (λ t. cond t (Err TooLong) (alike_items keep.Last text (Some text) (next ∷ more))) short ∙ last_of text (Some text) (next ∷ more) short (omega arith)
 
-none_of : (text : List ℕ) (parts : List (List ℕ)) → is_true text ≡ false → alike_items keep.Items text None parts ≡ Ok []
+none_of : (text : List ℕ) (parts : List (List ℕ)) → is_true_text text ≡ false → alike_items keep.Items text None parts ≡ Ok []
 unfolding alike_items
 none_of text [] isnt = refl
 none_of text (item ∷ more) isnt =
-    (λ i. cond (is_long (as_text (cond (isnt i) (Some item) None))) (Err TooLong) (alike_items keep.Items text (cond (isnt i) (Some item) None) more))
+    (λ i. cond (is_long (gathered_text (cond (isnt i) (Some item) None))) (Err TooLong) (alike_items keep.Items text (cond (isnt i) (Some item) None) more))
     ∙ ap (λ t. cond t (Err TooLong) (alike_items keep.Items text None more)) (is_short [] (omega arith)) ∙ none_of text more isnt
 
-join_grown : (list item : List ℕ) (more : List (List ℕ)) → join_with_byte 13 ((list ++ 13 ∷ item) ∷ more) ≡ list ++ 13 ∷ join_with_byte 13 (item ∷ more)
-join_grown list item [] = refl
-join_grown list item (next ∷ more) = append_assoc list (13 ∷ item) (13 ∷ join_with_byte 13 (next ∷ more))
-
-join_longer : (list : List ℕ) (more : List (List ℕ)) → length list ≤ length (join_with_byte 13 (list ∷ more))
-join_longer list [] = omega arith
-join_longer list (next ∷ more) = omega (arith, length-append list (13 ∷ join_with_byte 13 (next ∷ more)))
-
-all_behind : (text list : List ℕ) (parts : List (List ℕ)) → is_true text ≡ true → length (join_with_byte 13 (list ∷ parts)) ≤ text_most
+all_behind : (text list : List ℕ) (parts : List (List ℕ)) → is_true_text text ≡ true → length (join_with_byte 13 (list ∷ parts)) ≤ text_most
     → alike_items keep.Items text (Some list) parts ≡ Ok (join_with_byte 13 (list ∷ parts))
 unfolding alike_items
 all_behind text list [] holds le = refl
@@ -297,25 +280,25 @@ all_behind text list (item ∷ more) holds le =
     let grown : List ℕ = list ++ 13 ∷ item in
     let same : join_with_byte 13 (grown ∷ more) ≡ list ++ 13 ∷ join_with_byte 13 (item ∷ more) = join_grown list item more in
     let within : length (join_with_byte 13 (grown ∷ more)) ≤ text_most = subst (λ xs. length xs ≤ text_most) (sym same) le in
-    (λ i. cond (is_long (as_text (cond (holds i) (Some grown) (Some list)))) (Err TooLong) (alike_items keep.Items text (cond (holds i) (Some grown) (Some list)) more))
+    (λ i. cond (is_long (gathered_text (cond (holds i) (Some grown) (Some list)))) (Err TooLong) (alike_items keep.Items text (cond (holds i) (Some grown) (Some list)) more))
     ∙ ap (λ t. cond t (Err TooLong) (alike_items keep.Items text (Some grown) more)) (is_short grown (omega (arith, join_longer grown more, within)))
     ∙ all_behind text grown more holds within ∙ ap Ok same
 
-all_of : (text : List ℕ) (parts : List (List ℕ)) → is_true text ≡ true → 0 < length parts → length (join_with_byte 13 parts) ≤ text_most → alike_items keep.Items text None parts ≡ Ok (join_with_byte 13 parts)
+all_of : (text : List ℕ) (parts : List (List ℕ)) → is_true_text text ≡ true → 0 < length parts → length (join_with_byte 13 parts) ≤ text_most → alike_items keep.Items text None parts ≡ Ok (join_with_byte 13 parts)
 unfolding alike_items
 all_of text [] holds some le = absurd (omega (arith, some))
 all_of text (item ∷ more) holds some le =
-    (λ i. cond (is_long (as_text (cond (holds i) (Some item) None))) (Err TooLong) (alike_items keep.Items text (cond (holds i) (Some item) None) more))
+    (λ i. cond (is_long (gathered_text (cond (holds i) (Some item) None))) (Err TooLong) (alike_items keep.Items text (cond (holds i) (Some item) None) more))
     ∙ ap (λ t. cond t (Err TooLong) (alike_items keep.Items text (Some item) more)) (is_short item (omega (arith, join_longer item more, le)))
     ∙ all_behind text item more holds le
 
 pub last_is : (text list : List ℕ) → length text ≤ text_most → 0 < length list → alike_items keep.Last text None (items list) ≡ Ok text
 last_is text list short some = last_of text None (items list) (is_short text short) (some_items list some)
 
-pub none_is : (text list : List ℕ) → is_true text ≡ false → alike_items keep.Items text None (items list) ≡ Ok []
+pub none_is : (text list : List ℕ) → is_true_text text ≡ false → alike_items keep.Items text None (items list) ≡ Ok []
 none_is text list isnt = none_of text (items list) isnt
 
-pub all_is : (text list : List ℕ) → is_true text ≡ true → 0 < length list → length list ≤ text_most → alike_items keep.Items text None (items list) ≡ Ok list
+pub all_is : (text list : List ℕ) → is_true_text text ≡ true → 0 < length list → length list ≤ text_most → alike_items keep.Items text None (items list) ≡ Ok list
 all_is text list holds some short =
     let joined : join_with_byte 13 (items list) ≡ list = ap (join_with_byte 13) (items_some list some) ∙ join_with_byte-slice_split 13 list in
     all_of text (items list) holds (some_items list some) (subst (λ xs. length xs ≤ text_most) (sym joined) short) ∙ ap Ok joined
@@ -333,10 +316,6 @@ next_text : (text bytes : List ℕ) (parts : List (List ℕ)) → 0 < length par
 unfolding alike_items
 next_text text bytes [] some = absurd (omega (arith, some))
 next_text text bytes (part ∷ parts) some = refl
-
-behind_onto : (x : ℕ) (parts : List (List ℕ)) → drop 1 (onto_first x parts) ≡ drop 1 parts
-behind_onto x [] = refl
-behind_onto x (part ∷ parts) = refl
 
 behind_first : (text bytes xs : List ℕ) → alike_items keep.Texts text (Some bytes) (drop 1 (slice_split (λ c. c == 13) xs)) ≡ texts_behind text bytes xs
 unfolding alike_items texts_behind
@@ -416,14 +395,14 @@ plain_first b more true y e f h = absurd (false≢true h)
 plain_first b more false true e f h = absurd (false≢true h)
 plain_first b more false false e f h = rw (e, f) refl
 
-pub plain_said : (text : List ℕ) → is_plain text ≡ true → said (pieces text) ≡ Some text
+pub plain_said : (text : List ℕ) → is_plain text ≡ true → said (formula_pieces text) ≡ Some text
 unfolding said pieces_up_to
 plain_said [] h = refl
 plain_said (b ∷ more) h =
     let first : first_piece b more ≡ (byte b, more) = plain_first b more (b == 92) (b == 123) refl refl (all_head is_plain_byte b more h) in
-    ap said (pieces_ahead b more ∙ (λ i. (first i).0 ∷ pieces (first i).1)) ∙ ap (option_map (λ xs. b ∷ xs)) (plain_said more (all_tail is_plain_byte b more h))
+    ap said (pieces_ahead b more ∙ (λ i. (first i).0 ∷ formula_pieces (first i).1)) ∙ ap (option_map (λ xs. b ∷ xs)) (plain_said more (all_tail is_plain_byte b more h))
 
 -- its meaning
-pub plain_means : {S : Type 0} (scene : Scene S) (n : ℕ) (text value : List ℕ) (s : State S) → text_fault text ≡ None → said (pieces text) ≡ Some text → value ≡ text → meaning scene n text s ≡ (Ok value, s)
+pub plain_means : {S : Type 0} (scene : Scene S) (n : ℕ) (text value : List ℕ) (s : MindState S) → text_fault text ≡ None → said (formula_pieces text) ≡ Some text → value ≡ text → meaning scene n text s ≡ (Ok value, s)
 plain_means scene n text value s short e is =
-    said_spells (entered scene n) (pieces text) [] text s e (text_short text short) ∙ (λ i. (Ok (sym is i), s))
+    said_spells (body_entered scene n) (formula_pieces text) [] text s e (text_short text short) ∙ (λ i. (Ok (sym is i), s))

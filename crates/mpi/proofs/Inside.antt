@@ -1,63 +1,21 @@
 -- Bytes that a text may have, and how many it may have.
 use Rattle.std.proofs.Common.{◌≡◌, ℕ, ◌<◌, ◌≤◌, ◌+◌, ◌^◌, zero, suc, Bool, true, false, cond, List, [], ◌∷◌, ◌++◌, length, map, take, drop, Some, None, refl, inl, inr, arith}
-use Rattle.std.specs.Prelude.{not, ◌&&◌, decimal, ℤ, pos, negsuc}
+use Rattle.std.specs.Prelude.{not, decimal, ℤ, pos, negsuc}
 use Rattle.std.specs.Fmt.{signed_decimal}
 use Rattle.std.specs.Int.Signed.{mag}
 use Rattle.std.specs.Int.Digits.{AllBelowBase, digits_of}
 use Rattle.std.proofs.lemmas.Fmt.{decimal-digits_of, decimal_digit}
 use Rattle.std.proofs.lemmas.Int.Digits.{all_below_base_digits_of}
-use Rattle.std.specs.List.{list_all, position_or_len, prefix_len}
-use Rattle.std.proofs.lemmas.Bool.{le-ltb, lt-ltb, cases_lt, false≢true}
+use Rattle.std.specs.List.{position_or_len}
+use Rattle.std.proofs.lemmas.Bool.{le-ltb, lt-ltb, cases_lt}
 use Rattle.std.proofs.lemmas.List.{length-take, length-drop}
 use Rattle.std.proofs.lemmas.List.Sums.{prefix_len-le-length}
-use Rattle.muck_model.specs.Bytes.{is_outside, fault_of, text_fault, text_most}
+use Rattle.muck_laws.proofs.Tests.{all_append, all_drop, all_prefix, all_take, prefix_all}
+use Rattle.muck_model.specs.Bytes.{is_outside, fault_of_bytes, text_fault, text_most}
 use Rattle.mpi.specs.Made.{Inside}
 
 abbrev pub is_inside : ℕ → Bool
 is_inside b = not (is_outside b)
-
-pub all_head : {X : Type 0} (p : X → Bool) (x : X) (xs : List X) → list_all p (x ∷ xs) ≡ true → p x ≡ true
-all_head p x xs h = elim (p x) as (λ t. t && list_all p xs ≡ true → t ≡ true) [ true ↦ λ e. refl | false ↦ λ e. e ] h
-
-pub all_tail : {X : Type 0} (p : X → Bool) (x : X) (xs : List X) → list_all p (x ∷ xs) ≡ true → list_all p xs ≡ true
-all_tail p x xs h = elim (p x) as (λ t. t && list_all p xs ≡ true → list_all p xs ≡ true) [ true ↦ λ e. e | false ↦ λ e. absurd (false≢true e) ] h
-
-pub all_cons : {X : Type 0} (p : X → Bool) (x : X) (xs : List X) → p x ≡ true → list_all p xs ≡ true → list_all p (x ∷ xs) ≡ true
-all_cons p x xs h k = rw h k
-
-all_prefix : (p : ℕ → Bool) (xs : List ℕ) → list_all p xs ≡ true → prefix_len p xs ≡ length xs
-all_prefix p [] h = refl
-all_prefix p (x ∷ xs) h =
-    elim (p x) as (λ t. t && list_all p xs ≡ true → cond t (1 + prefix_len p xs) 0 ≡ suc (length xs)) [
-      | true ↦ λ e. omega (arith, all_prefix p xs e)
-      | false ↦ λ e. absurd (false≢true e)
-    ] h
-
-prefix_all : (p : ℕ → Bool) (xs : List ℕ) → prefix_len p xs ≡ length xs → list_all p xs ≡ true
-prefix_all p [] h = refl
-prefix_all p (x ∷ xs) h =
-    elim (p x) as (λ t. cond t (1 + prefix_len p xs) 0 ≡ suc (length xs) → t && list_all p xs ≡ true) [
-      | true ↦ λ e. prefix_all p xs (omega (arith, e))
-      | false ↦ λ e. absurd (omega (arith, e))
-    ] h
-
-pub all_take : {X : Type 0} (p : X → Bool) (n : ℕ) (xs : List X) → list_all p xs ≡ true → list_all p (take n xs) ≡ true
-all_take p zero xs h = refl
-all_take p (suc n) [] h = refl
-all_take p (suc n) (x ∷ xs) h =
-    elim (p x) as (λ t. t && list_all p xs ≡ true → t && list_all p (take n xs) ≡ true) [
-      | true ↦ λ e. all_take p n xs e
-      | false ↦ λ e. absurd (false≢true e)
-    ] h
-
-pub all_drop : {X : Type 0} (p : X → Bool) (n : ℕ) (xs : List X) → list_all p xs ≡ true → list_all p (drop n xs) ≡ true
-all_drop p zero xs h = h
-all_drop p (suc n) [] h = refl
-all_drop p (suc n) (x ∷ xs) h =
-    elim (p x) as (λ t. t && list_all p xs ≡ true → list_all p (drop n xs) ≡ true) [
-      | true ↦ λ e. all_drop p n xs e
-      | false ↦ λ e. absurd (false≢true e)
-    ] h
 
 -- enough bytes and none too many are a text
 pub made_is_text : (xs : List ℕ) → Inside xs → length xs ≤ text_most → text_fault xs ≡ None
@@ -69,7 +27,7 @@ made_is_text xs h le =
 pub text_inside : (xs : List ℕ) → text_fault xs ≡ None → Inside xs
 text_inside xs h =
     elim (cases_lt (position_or_len is_outside xs) (length xs)) [
-      | inl inside ↦ absurd (let e : fault_of (cond true (Some (position_or_len is_outside xs)) None) (length xs) ≡ None = rw (lt-ltb (position_or_len is_outside xs) (length xs) inside) at h in cc)
+      | inl inside ↦ absurd (let e : fault_of_bytes (cond true (Some (position_or_len is_outside xs)) None) (length xs) ≡ None = rw (lt-ltb (position_or_len is_outside xs) (length xs) inside) at h in cc)
       | inr past ↦ prefix_all is_inside xs (omega (arith, past, prefix_len-le-length is_inside xs))
     ]
 
@@ -78,7 +36,7 @@ text_short xs h =
     elim (cases_lt text_most (length xs)) [
       | inl long ↦ absurd (
           let e = all_prefix is_inside xs (text_inside xs h) in
-          let none : fault_of None (length xs) ≡ None = rw (le-ltb (position_or_len is_outside xs) (length xs) (omega (arith, e))) at h in
+          let none : fault_of_bytes None (length xs) ≡ None = rw (le-ltb (position_or_len is_outside xs) (length xs) (omega (arith, e))) at h in
           let some : Some text_most ≡ None = rw (lt-ltb text_most (length xs) long) at none in cc)
       | inr le ↦ le
     ]
@@ -89,14 +47,6 @@ part_is_text n xs h = made_is_text (take n xs) (all_take is_inside n xs (text_in
 
 pub rest_is_text : (n : ℕ) (xs : List ℕ) → text_fault xs ≡ None → text_fault (drop n xs) ≡ None
 rest_is_text n xs h = made_is_text (drop n xs) (all_drop is_inside n xs (text_inside xs h)) (omega (arith, text_short xs h, length-drop n xs))
-
-pub all_append : {X : Type 0} (p : X → Bool) (xs ys : List X) → list_all p xs ≡ true → list_all p ys ≡ true → list_all p (xs ++ ys) ≡ true
-all_append p [] ys h k = k
-all_append p (x ∷ xs) ys h k =
-    elim (p x) as (λ t. t && list_all p xs ≡ true → t && list_all p (xs ++ ys) ≡ true) [
-      | true ↦ λ e. all_append p xs ys e k
-      | false ↦ λ e. absurd (false≢true e)
-    ] h
 
 digit : (d : ℕ) → d < 10 → is_inside (48 + d) ≡ true
 digit d l = rw (le-ltb (48 + d) 32 (omega arith), le-ltb 126 (48 + d) (omega arith)) refl

@@ -1,13 +1,15 @@
 -- The items of a text are texts, and so is each of a list whose texts all are.
 use Rattle.std.proofs.Common.{◌≡◌, ℕ, ◌+◌, ◌<◌, ◌≤◌, zero, suc, Bool, true, false, cond, List, [], ◌∷◌, length, get_or, Some, None, refl, arith, ap, ◌∙◌, nat_lt}
-use Rattle.std.specs.Prelude.{Option, is_none, ◌==◌, bytes_eq}
+use Rattle.std.specs.Prelude.{is_none, ◌==◌, bytes_eq}
 use Rattle.std.specs.List.{list_all, slice_split, onto_first}
 use Rattle.std.proofs.lemmas.Bool.{le-ltb, lt-ltb, ltb-true}
 use Rattle.std.proofs.lemmas.List.Sums.{position_or_len_is}
+use Rattle.muck_laws.proofs.Options.{none_of}
+use Rattle.muck_laws.proofs.Tests.{all_cons, all_head, all_tail}
 use Rattle.muck_model.specs.Bytes.{text_fault, text_most}
 use Rattle.mpi.specs.Made.{is_text}
 use Rattle.mpi.specs.Values.{items, from_one, place_of_item}
-use Rattle.mpi.proofs.Inside.{is_inside, all_head, all_tail, all_cons, text_inside, text_short, made_is_text}
+use Rattle.mpi.proofs.Inside.{is_inside, text_inside, text_short, made_is_text}
 use Rattle.mpi.proofs.Parts.{items_inside}
 
 abbrev is_short : ℕ → List ℕ → Bool
@@ -50,14 +52,10 @@ texts_if n (part ∷ parts) le h k =
 pub items_are_texts : (xs : List ℕ) → text_fault xs ≡ None → list_all is_text (items xs) ≡ true
 items_are_texts xs h = texts_if (length xs) (items xs) (text_short xs h) (items_short xs) (items_inside xs (text_inside xs h))
 
-pub no_fault : (o : Option ℕ) → is_none o ≡ true → o ≡ None
-no_fault None h = refl
-no_fault (Some n) h = absurd (let k : false ≡ true = h in cc)
-
 -- each of a list whose texts all are
 pub text_there : (texts : List (List ℕ)) (i : ℕ) (d : List ℕ) → list_all is_text texts ≡ true → i < length texts → text_fault (get_or texts i d) ≡ None
 text_there [] i d h less = absurd (omega (arith, less))
-text_there (text ∷ texts) zero d h less = no_fault (text_fault text) (all_head is_text text texts h)
+text_there (text ∷ texts) zero d h less = none_of (text_fault text) (all_head is_text text texts h)
 text_there (text ∷ texts) (suc i) d h less = text_there texts i d (all_tail is_text text texts h) (omega (arith, less))
 
 abbrev is_item : List ℕ → List ℕ → Bool

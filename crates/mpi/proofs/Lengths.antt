@@ -5,7 +5,7 @@ use Rattle.std.proofs.lemmas.Bool.{ltb-true, ltb-false, lt-ltb, le-ltb}
 use Rattle.muck_model.specs.Bytes.{text_fault, text_most}
 use Rattle.mpi.specs.declared.fault.MpiFault.{MpiFault}
 use Rattle.mpi.specs.declared.fault.MpiFault.TheVariants.{Unclosed, UnknownFunction, BadCount, BadValue, TooManyCommands, TooLong, Denied, NoMemory}
-use Rattle.mpi.specs.Gathering.{as_text, list_or_long, longer}
+use Rattle.mpi.specs.Gathering.{gathered_text, list_or_long, longer}
 use Rattle.mpi.specs.Hosting.{Means}
 use Rattle.mpi.specs.Made.{Inside, is_long, text_or_long, IsGrown}
 use Rattle.mpi.proofs.Inside.{text_inside, inside_more, made_is_text, text_short}
@@ -51,7 +51,7 @@ pub made_whole : (whole new : List ℕ) → new ≡ whole → is_long whole ≡ 
 made_whole whole new e short = rw short (ap Ok (sym e))
 
 -- a list that is the same, and one that is too long
-pub list_same : (list : Option (List ℕ)) → is_long (as_text list) ≡ false → list_or_long list ≡ Ok list
+pub list_same : (list : Option (List ℕ)) → is_long (gathered_text list) ≡ false → list_or_long list ≡ Ok list
 list_same list short = rw short refl
 
 list_of_text : (t : Bool) (whole new : List ℕ) → cond t (Err TooLong) (Ok whole) ≡ Ok new → cond t (Err TooLong) (Ok (Some whole)) ≡ Ok (Some new)

@@ -4,7 +4,6 @@ pub mod Calls
 pub mod Growing
 pub mod Inside
 pub mod Items
-pub mod Joins
 pub mod Lengths
 pub mod Maps
 pub mod Mapped

@@ -1,26 +1,13 @@
 -- Lists that are seen through a function.
-use Rattle.std.proofs.Common.{◌≡◌, ℕ, ℤ, ◌+◌, ◌-◌, ◌<◌, ◌≤◌, zero, suc, true, List, [], ◌∷◌, ◌++◌, length, map, take, drop, get_or, None, refl, inl, inr, sym, ap, ◌∙◌, arith, add-one}
+use Rattle.std.proofs.Common.{◌≡◌, ℕ, ℤ, ◌-◌, ◌<◌, ◌≤◌, zero, suc, true, List, [], ◌∷◌, ◌++◌, length, map, take, drop, get_or, None, refl, sym, ap, ◌∙◌, arith}
 use Rattle.std.specs.Prelude.{is_none}
 use Rattle.std.specs.List.{list_all}
-use Rattle.std.proofs.Math.Seq.{drop-cons}
-use Rattle.std.proofs.lemmas.List.{get_or-map, drop_all, take_all, take-map, drop-map, length-map}
-use Rattle.std.proofs.lemmas.Bool.{cases_lt}
+use Rattle.std.proofs.lemmas.List.{get_or-map, take-map, drop-map, length-map}
+use Rattle.muck_laws.proofs.Tests.{all_append, all_cons}
 use Rattle.muck_model.specs.Bytes.{text_fault}
 use Rattle.mpi.specs.Made.{is_text}
-use Rattle.mpi.specs.Values.{nth, above, cut}
-use Rattle.mpi.proofs.Inside.{all_append, all_cons}
+use Rattle.mpi.specs.Values.{nth, above_zero, part_between}
 use Rattle.mpi.proofs.Items.{text_there}
-
--- the next one, and those behind it
-pub next_mapped : {A B : Type 0} (f : A → B) (xs : List A) (i : ℕ) (d : A) → i < length xs → drop i (map f xs) ≡ f (get_or xs i d) ∷ drop (i + 1) (map f xs)
-next_mapped f xs i d less =
-    drop-cons (map f xs) i (f d) (omega (arith, less, length-map xs f))
-    ∙ ap (λ x. x ∷ drop (suc i) (map f xs)) (get_or-map f xs i d (f d) less)
-    ∙ ap (λ k. f (get_or xs i d) ∷ drop k (map f xs)) (sym (add-one i))
-
--- behind the last one there is none
-pub none_mapped : {A B : Type 0} (f : A → B) (xs : List A) (i : ℕ) → length xs ≤ i → drop i (map f xs) ≡ []
-none_mapped f xs i le = drop_all i (map f xs) (omega (arith, le, length-map xs f))
 
 -- each of a list whose texts all are
 pub mapped_text : {A : Type 0} (f : A → List ℕ) (xs : List A) (i : ℕ) (d : A) → list_all is_text (map f xs) ≡ true → i < length xs → text_fault (f (get_or xs i d)) ≡ None
@@ -36,15 +23,7 @@ nth_past f [] i le = refl
 nth_past f (x ∷ xs) zero le = absurd (omega (arith, le))
 nth_past f (x ∷ xs) (suc i) le = nth_past f xs i (omega (arith, le))
 
--- those before a place
-pub taken : {A B : Type 0} (f : A → B) (xs : List A) (m n : ℕ) → (m ≤ length xs → n ≡ m) → (length xs ≤ m → n ≡ length xs) → map f (take n xs) ≡ take m (map f xs)
-taken f xs m n h k =
-    elim (cases_lt m (length xs)) [
-      | inl less ↦ ap (λ i. map f (take i xs)) (h (omega arith)) ∙ sym (take-map f m xs)
-      | inr past ↦ ap (λ i. map f (take i xs)) (k past) ∙ ap (map f) (take_all (length xs) xs (omega arith)) ∙ sym (take_all m (map f xs) (omega (arith, past, length-map xs f)))
-    ]
-
 -- what stands from place p through place q
-pub cut_mapped : {A B : Type 0} (f : A → B) (p q : ℤ) (xs : List A) → map f (cut p q xs) ≡ cut p q (map f xs)
+pub cut_mapped : {A B : Type 0} (f : A → B) (p q : ℤ) (xs : List A) → map f (part_between p q xs) ≡ part_between p q (map f xs)
 cut_mapped f p q xs =
-    sym (take-map f (above q - (above p - 1)) (drop (above p - 1) xs)) ∙ ap (take (above q - (above p - 1))) (sym (drop-map f (above p - 1) xs))
+    sym (take-map f (above_zero q - (above_zero p - 1)) (drop (above_zero p - 1) xs)) ∙ ap (take (above_zero q - (above_zero p - 1))) (sym (drop-map f (above_zero p - 1) xs))

@@ -1,14 +1,12 @@
 -- Numbers are texts.
-use Rattle.std.proofs.Common.{◌≡◌, ◌<◌, ◌≤◌, ◌^◌, ◌∷◌, length, None, refl, arith}
+use Rattle.std.proofs.Common.{◌≡◌, ◌<◌, ◌^◌, ◌∷◌, None, refl, arith}
 use Rattle.std.specs.Prelude.{ℤ}
 use Rattle.std.specs.Fmt.{signed_decimal}
 use Rattle.std.specs.Int.Signed.{mag}
-use Rattle.std.proofs.lemmas.Fmt.{length_signed_le}
+use Rattle.muck_laws.proofs.Tests.{all_cons}
+use Rattle.muck_laws.proofs.Texts.{number_short}
 use Rattle.muck_model.specs.Bytes.{text_fault}
-use Rattle.mpi.proofs.Inside.{is_inside, all_cons, made_is_text, inside_number}
-
-number_short : (z : ℤ) → mag z < 2 ^ 32 → length (signed_decimal z) ≤ 11
-number_short z h = length_signed_le 10 z (omega (arith, h)) (omega (arith, h))
+use Rattle.mpi.proofs.Inside.{is_inside, made_is_text, inside_number}
 
 pub number_is_text : (z : ℤ) → mag z < 2 ^ 32 → text_fault (signed_decimal z) ≡ None
 number_is_text z h = made_is_text (signed_decimal z) (inside_number z h) (omega (arith, number_short z h))

@@ -5,10 +5,11 @@ use Rattle.std.specs.Char.{to_ascii_lowercase, to_ascii_uppercase}
 use Rattle.std.specs.List.{list_all, slice_split, onto_first, join_with_byte}
 use Rattle.std.proofs.lemmas.Bool.{le-ltb, lt-ltb, cases_lt}
 use Rattle.std.proofs.lemmas.List.{reverse-append}
+use Rattle.muck_laws.proofs.Tests.{all_append, all_cons, all_drop, all_head, all_tail, all_take}
 use Rattle.muck_model.specs.Bytes.{text_fault}
 use Rattle.mpi.specs.Made.{Inside}
-use Rattle.mpi.specs.Values.{past_spaces, stripped, items, cut, above, sublist}
-use Rattle.mpi.proofs.Inside.{is_inside, all_head, all_tail, all_cons, all_take, all_drop, all_append, text_inside, inside-decimal}
+use Rattle.mpi.specs.Values.{past_spaces, stripped, items, part_between, above_zero, sublist}
+use Rattle.mpi.proofs.Inside.{is_inside, text_inside, inside-decimal}
 
 lowered_byte : (b : ℕ) → is_inside b ≡ true → is_inside (to_ascii_lowercase b) ≡ true
 lowered_byte b h =
@@ -92,9 +93,9 @@ join_inside (part ∷ next ∷ parts) h =
 
 pub inside_sublist : (xs : List ℕ) (p q : ℤ) → text_fault xs ≡ None → Inside (sublist xs p q)
 inside_sublist xs p q h =
-    join_inside (cut p q (items xs))
-    (all_take (λ part. list_all is_inside part) (above q - (above p - 1)) (drop (above p - 1) (items xs))
-    (all_drop (λ part. list_all is_inside part) (above p - 1) (items xs) (items_inside xs (text_inside xs h))))
+    join_inside (part_between p q (items xs))
+    (all_take (λ part. list_all is_inside part) (above_zero q - (above_zero p - 1)) (drop (above_zero p - 1) (items xs))
+    (all_drop (λ part. list_all is_inside part) (above_zero p - 1) (items xs) (items_inside xs (text_inside xs h))))
 
 pub inside_parts : (n m : ℕ) (xs : List ℕ) → text_fault xs ≡ None → Inside (take n (drop m xs))
 inside_parts n m xs h = all_take is_inside n (drop m xs) (all_drop is_inside m xs (text_inside xs h))

@@ -5,22 +5,22 @@ use Rattle.mpi.specs.declared.fault.MpiFault.{MpiFault}
 use Rattle.mpi.specs.declared.fault.MpiFault.TheVariants.{Unclosed, UnknownFunction, BadCount, BadValue, TooManyCommands, TooLong, Denied, NoMemory}
 use Rattle.mpi.specs.declared.mind.Mind.{Mind}
 use Rattle.mpi.specs.Hosting.{Means}
-use Rattle.mpi.specs.Thoughts.{State, Thought, Comes, Thinks, carried, followed, answers, on_mind, OnMind}
+use Rattle.mpi.specs.Thoughts.{MindState, Thought, Comes, Thinks, carried, thought_followed, answers_with, on_mind, OnMind}
 
 -- what equals what comes, comes
-pub comes_by : {S A : Type 0} (v w : Result A MpiFault × State S) (new : State S) (r : Result A MpiFault) → v ≡ w → Comes w new r → Comes v new r
+pub comes_by : {S A : Type 0} (v w : Result A MpiFault × MindState S) (new : MindState S) (r : Result A MpiFault) → v ≡ w → Comes w new r → Comes v new r
 comes_by v w new r e h = subst (λ x. Comes x new r) (sym e) h
 
 -- behind the first one the second is thought
-pub then_ok : {S A B : Type 0} (m : Thought S A) (k : A → Thought S B) (old mid new : State S) (x : A) (r : Result B MpiFault)
-    → Thinks m old mid (Ok x) → Thinks (k x) mid new r → Thinks (followed m k) old new r
-unfolding followed
-then_ok m k old mid new x r e h = comes_by (followed m k old) (k x mid) new r (λ i. carried k (e i).0 (e i).1) h
+pub then_ok : {S A B : Type 0} (m : Thought S A) (k : A → Thought S B) (old mid new : MindState S) (x : A) (r : Result B MpiFault)
+    → Thinks m old mid (Ok x) → Thinks (k x) mid new r → Thinks (thought_followed m k) old new r
+unfolding thought_followed
+then_ok m k old mid new x r e h = comes_by (thought_followed m k old) (k x mid) new r (λ i. carried k (e i).0 (e i).1) h
 
 -- a fault of the first ends both
-pub then_err : {S A B : Type 0} (m : Thought S A) (k : A → Thought S B) (old mid : State S) (f : MpiFault)
-    → Thinks m old mid (Err f) → Thinks (followed m k) old mid (Err f)
-unfolding followed
+pub then_err : {S A B : Type 0} (m : Thought S A) (k : A → Thought S B) (old mid : MindState S) (f : MpiFault)
+    → Thinks m old mid (Err f) → Thinks (thought_followed m k) old mid (Err f)
+unfolding thought_followed
 then_err m k old mid NoMemory h = tt
 then_err m k old mid Unclosed h = λ i. carried k (h i).0 (h i).1
 then_err m k old mid UnknownFunction h = λ i. carried k (h i).0 (h i).1
@@ -31,7 +31,7 @@ then_err m k old mid TooLong h = λ i. carried k (h i).0 (h i).1
 then_err m k old mid (Denied rule) h = λ i. carried k (h i).0 (h i).1
 
 -- an answer that is known
-pub known : {S A : Type 0} (meant r : Result A MpiFault) (old : State S) → Means meant r → Thinks (answers meant) old old r
+pub known : {S A : Type 0} (meant r : Result A MpiFault) (old : MindState S) → Means meant r → Thinks (answers_with meant) old old r
 known meant (Ok x) old h = λ i. (h i, old)
 known meant (Err NoMemory) old h = tt
 known meant (Err Unclosed) old h = λ i. (h i, old)

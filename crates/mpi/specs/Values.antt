@@ -1,15 +1,16 @@
 -- Texts as truths, numbers and lists, and what the functions of these give.
-use Rattle.std.specs.Prelude.{ℕ, ◌+◌, ◌-◌, ◌/◌, ◌%◌, zero, suc, Bool, true, false, not, ◌&&◌, ◌||◌, ◌==◌, nat_eq, nat_lt, if◌then◌else◌, List, [], ◌∷◌, ◌++◌, map, length, take, drop, reverse, Option, Some, None, option_map, bytes_eq, slice_get, codes, ℤ, pos, negsuc, int_lt, int_le, int_rem}
+use Rattle.std.specs.Prelude.{ℕ, ◌+◌, ◌-◌, ◌/◌, ◌%◌, zero, suc, Bool, true, false, not, ◌&&◌, ◌||◌, ◌==◌, nat_eq, nat_lt, if◌then◌else◌, List, [], ◌∷◌, ◌++◌, map, length, take, drop, reverse, Option, Some, None, option_map, bytes_eq, slice_get, codes, ℤ, pos, negsuc, int_lt, int_le}
 use Rattle.std.specs.Char.{to_ascii_lowercase, to_ascii_uppercase}
 use Rattle.std.specs.List.{fold, position, slice_split, join_with_byte, starts_with}
 use Rattle.std.specs.Option.{unwrap_or, option_map_or}
 use Rattle.std.specs.Fmt.{decimal}
-use Rattle.std.specs.Ordering.{nat_cmp, int_cmp, int_eq, is_eq, is_lt, is_gt, is_le, is_ge}
+use Rattle.std.specs.Ordering.{nat_cmp, int_cmp, is_eq, is_lt, is_gt, is_le, is_ge}
 use Rattle.std.specs.declared.cmp.Ordering.{Ordering}
 use Rattle.std.specs.Cmp.Lexicographic.{slice_cmp}
-use Rattle.std.specs.Int.{w32, int_wrapping_add, int_wrapping_sub, int_wrapping_mul, int_wrapping_div, int_wrapping_neg, int_signum}
+use Rattle.std.specs.Int.{w32, int_wrapping_add, int_wrapping_sub, int_wrapping_mul, int_signum}
 use Rattle.muck_model.specs.Decimal.{decimal_of}
-use Rattle.muck_model.specs.Numbers.{below}
+use Rattle.muck_model.specs.Division.{quotient, remainder, magnitude}
+use Rattle.muck_model.specs.Numbers.{minus}
 use Rattle.mpi.specs.declared.functions.Function.{Function}
 use Rattle.mpi.specs.declared.functions.Function.TheVariants.{Nothing, Xor, Not, Equal, Unequal, Greater, Less, AtLeast, AtMost, Add, Subtract, Multiply, Divide, Modulo, Absolute, Sign, Least, Most, Length, Upper, Lower, Strip, Find, Substitute, Middle, MakeList, Count, Member, Sublist}
 
@@ -18,29 +19,29 @@ abbrev pub nth : ℕ → List (List ℕ) → List ℕ
 nth n values = unwrap_or (slice_get values n) []
 
 -- the empty text and `0` are false, all others true
-unfoldable pub is_true : List ℕ → Bool
-is_true text = not (bytes_eq text [] || bytes_eq text (codes "0"))
+unfoldable pub is_true_text : List ℕ → Bool
+is_true_text text = not (bytes_eq text [] || bytes_eq text (codes "0"))
 
-abbrev pub truth : Bool → List ℕ
-truth true = codes "1"
-truth false = codes "0"
+abbrev pub truth_text : Bool → List ℕ
+truth_text true = codes "1"
+truth_text false = codes "0"
 
 -- digits without the zeros in front of others
-unfoldable pub bare : List ℕ → List ℕ
-bare [] = []
-bare (b ∷ more) = if b == 48 && nat_lt 0 (length more) then bare more else b ∷ more
+unfoldable pub bare_digits : List ℕ → List ℕ
+bare_digits [] = []
+bare_digits (b ∷ more) = if b == 48 && nat_lt 0 (length more) then bare_digits more else b ∷ more
 
 -- the number that a whole text is: a `-` or none, and digits, in 32 bits
 unfoldable pub number_read : List ℕ → Option ℤ
 number_read [] = None
 number_read (b ∷ more) =
     if b == 45
-    then option_map below (decimal_of 2147483648 (bare more))
-    else option_map pos (decimal_of 2147483647 (bare (b ∷ more)))
+    then option_map minus (decimal_of 2147483648 (bare_digits more))
+    else option_map pos (decimal_of 2147483647 (bare_digits (b ∷ more)))
 
 -- a text that is no number counts as 0
-abbrev pub number_of : List ℕ → ℤ
-number_of text = unwrap_or (number_read text) (pos 0)
+abbrev pub number_or_zero : List ℕ → ℤ
+number_or_zero text = unwrap_or (number_read text) (pos 0)
 
 abbrev pub lowered : List ℕ → List ℕ
 lowered text = map to_ascii_lowercase text
@@ -59,8 +60,8 @@ alike false b = not b
 
 -- what a function that tests answers, of two texts or of the first
 abbrev pub test_of : Function → List ℕ → List ℕ → Bool
-test_of Not x y = not (is_true x)
-test_of Xor x y = not (alike (is_true x) (is_true y))
+test_of Not x y = not (is_true_text x)
+test_of Xor x y = not (alike (is_true_text x) (is_true_text y))
 test_of Equal x y = is_eq (order_of x y)
 test_of Unequal x y = not (is_eq (order_of x y))
 test_of Greater x y = is_gt (order_of x y)
@@ -69,36 +70,28 @@ test_of AtLeast x y = is_ge (order_of x y)
 test_of AtMost x y = is_le (order_of x y)
 test_of _ x y = false
 
--- toward zero, and 0 where the divisor is 0
-abbrev pub quotient : ℤ → ℤ → ℤ
-quotient i j = if int_eq j (pos 0) then pos 0 else int_wrapping_div w32 i j
-
--- with the sign of i, and 0 where the divisor is 0
-abbrev pub remainder : ℤ → ℤ → ℤ
-remainder i j = if int_eq j (pos 0) then pos 0 else int_rem i j
-
 -- what a function of one or two numbers gives; results wrap to 32 bits
-abbrev pub number_row : Function → ℤ → ℤ → ℤ
-number_row Subtract i j = int_wrapping_sub w32 i j
-number_row Divide i j = quotient i j
-number_row Modulo i j = remainder i j
-number_row Absolute i j = if int_lt i (pos 0) then int_wrapping_neg w32 i else i
-number_row Sign i j = int_signum i
-number_row Least i j = if int_lt j i then j else i
-number_row Most i j = if int_lt i j then j else i
-number_row _ i j = i
+abbrev pub numbers_computed : Function → ℤ → ℤ → ℤ
+numbers_computed Subtract i j = int_wrapping_sub w32 i j
+numbers_computed Divide i j = quotient i j
+numbers_computed Modulo i j = remainder i j
+numbers_computed Absolute i j = magnitude i
+numbers_computed Sign i j = int_signum i
+numbers_computed Least i j = if int_lt j i then j else i
+numbers_computed Most i j = if int_lt i j then j else i
+numbers_computed _ i j = i
 
 abbrev pub sum_of : List (List ℕ) → ℤ
-sum_of values = fold (λ n text. int_wrapping_add w32 n (number_of text)) (pos 0) values
+sum_of values = fold (λ n text. int_wrapping_add w32 n (number_or_zero text)) (pos 0) values
 
 abbrev pub product_of : List (List ℕ) → ℤ
-product_of values = fold (λ n text. int_wrapping_mul w32 n (number_of text)) (pos 1) values
+product_of values = fold (λ n text. int_wrapping_mul w32 n (number_or_zero text)) (pos 1) values
 
 -- what a function of numbers gives; sums and products are of all
 abbrev pub computed : Function → List (List ℕ) → ℤ
 computed Add values = sum_of values
 computed Multiply values = product_of values
-computed f values = number_row f (number_of (nth 0 values)) (number_of (nth 1 values))
+computed f values = numbers_computed f (number_or_zero (nth 0 values)) (number_or_zero (nth 1 values))
 
 -- without the spaces before it
 unfoldable pub past_spaces : List ℕ → List ℕ
@@ -117,9 +110,9 @@ abbrev pub begins_with : List ℕ → List ℕ → Bool
 begins_with text front = starts_with nat_eq text front
 
 -- how many bytes stand before the first place where a text stands
-unfoldable pub place_in : List ℕ → List ℕ → Option ℕ
-place_in [] text = if length text == 0 then Some 0 else None
-place_in (b ∷ more) text = if begins_with (b ∷ more) text then Some 0 else option_map suc (place_in more text)
+unfoldable pub place_in_text : List ℕ → List ℕ → Option ℕ
+place_in_text [] text = if length text == 0 then Some 0 else None
+place_in_text (b ∷ more) text = if begins_with (b ∷ more) text then Some 0 else option_map suc (place_in_text more text)
 
 -- a place from 1, or 0 where there is none
 abbrev pub from_one : Option ℕ → ℕ
@@ -128,7 +121,7 @@ from_one place = option_map_or suc place 0
 -- the empty text is sought nowhere
 abbrev pub found_in : List ℕ → List ℕ → Option ℕ
 found_in text [] = None
-found_in text (b ∷ more) = Some (from_one (place_in text (b ∷ more)))
+found_in text (b ∷ more) = Some (from_one (place_in_text text (b ∷ more)))
 
 -- each `old` becomes `new`, from left to right; so many bytes still belong to the last one
 unfoldable pub replaced : List ℕ → List ℕ → ℕ → List ℕ → List ℕ
@@ -139,26 +132,26 @@ replaced old new zero (b ∷ more) =
     then new ++ replaced old new (length old - 1) more
     else b ∷ replaced old new zero more
 
-abbrev pub substituted : List ℕ → List ℕ → List ℕ → List ℕ
-substituted text [] new = text
-substituted text (b ∷ more) new = replaced (b ∷ more) new 0 text
+abbrev pub text_substituted : List ℕ → List ℕ → List ℕ → List ℕ
+text_substituted text [] new = text
+text_substituted text (b ∷ more) new = replaced (b ∷ more) new 0 text
 
 -- how far a number is above 0
-abbrev pub above : ℤ → ℕ
-above (pos n) = n
-above (negsuc n) = 0
+abbrev pub above_zero : ℤ → ℕ
+above_zero (pos n) = n
+above_zero (negsuc n) = 0
 
 -- what stands from place p through place q, from 1; places outside are cut
-abbrev pub cut : {A : Type 0} → ℤ → ℤ → List A → List A
-cut p q xs = take (above q - (above p - 1)) (drop (above p - 1) xs)
+abbrev pub part_between : {A : Type 0} → ℤ → ℤ → List A → List A
+part_between p q xs = take (above_zero q - (above_zero p - 1)) (drop (above_zero p - 1) xs)
 
 -- the bytes from place p through place q; there are none unless 1 <= p <= q
 abbrev pub bytes_between : List ℕ → ℤ → ℤ → Option (List ℕ)
-bytes_between text p q = if int_le (pos 1) p && int_le p q then Some (cut p q text) else None
+bytes_between text p q = if int_le (pos 1) p && int_le p q then Some (part_between p q text) else None
 
 -- the second place is the first where it is left out
-abbrev pub middle : List (List ℕ) → Option (List ℕ)
-middle values = bytes_between (nth 0 values) (number_of (nth 1 values)) (number_of (unwrap_or (slice_get values 2) (nth 1 values)))
+abbrev pub middle_text : List (List ℕ) → Option (List ℕ)
+middle_text values = bytes_between (nth 0 values) (number_or_zero (nth 1 values)) (number_or_zero (unwrap_or (slice_get values 2) (nth 1 values)))
 
 -- the items of a list, between bytes 13; the empty text has none
 unfoldable pub items : List ℕ → List (List ℕ)
@@ -170,29 +163,29 @@ abbrev pub place_of_item : List ℕ → List (List ℕ) → ℕ
 place_of_item item parts = from_one (position (λ part. bytes_eq part item) parts)
 
 -- items as a list
-abbrev pub listed : List (List ℕ) → List ℕ
-listed values = join_with_byte 13 values
+abbrev pub values_listed : List (List ℕ) → List ℕ
+values_listed values = join_with_byte 13 values
 
 -- the items from place p through place q
 abbrev pub sublist : List ℕ → ℤ → ℤ → List ℕ
-sublist list p q = listed (cut p q (items list))
+sublist list p q = values_listed (part_between p q (items list))
 
 -- what a function of texts makes of its arguments; None where they aren't what it takes
-abbrev pub text_of : Function → List (List ℕ) → Option (List ℕ)
-text_of Nothing values = Some []
-text_of Length values = Some (decimal (length (nth 0 values)))
-text_of Upper values = Some (map to_ascii_uppercase (nth 0 values))
-text_of Lower values = Some (lowered (nth 0 values))
-text_of Strip values = Some (stripped (nth 0 values))
-text_of Find values = option_map decimal (found_in (nth 0 values) (nth 1 values))
-text_of Substitute values = Some (substituted (nth 0 values) (nth 1 values) (nth 2 values))
-text_of Middle values = middle values
-text_of MakeList values = Some (listed values)
-text_of Count values = Some (decimal (length (items (nth 0 values))))
-text_of Member values = Some (decimal (place_of_item (nth 1 values) (items (nth 0 values))))
-text_of Sublist values = Some (sublist (nth 0 values) (number_of (nth 1 values)) (number_of (nth 2 values)))
-text_of _ values = Some []
+abbrev pub function_text : Function → List (List ℕ) → Option (List ℕ)
+function_text Nothing values = Some []
+function_text Length values = Some (decimal (length (nth 0 values)))
+function_text Upper values = Some (map to_ascii_uppercase (nth 0 values))
+function_text Lower values = Some (lowered (nth 0 values))
+function_text Strip values = Some (stripped (nth 0 values))
+function_text Find values = option_map decimal (found_in (nth 0 values) (nth 1 values))
+function_text Substitute values = Some (text_substituted (nth 0 values) (nth 1 values) (nth 2 values))
+function_text Middle values = middle_text values
+function_text MakeList values = Some (values_listed values)
+function_text Count values = Some (decimal (length (items (nth 0 values))))
+function_text Member values = Some (decimal (place_of_item (nth 1 values) (items (nth 0 values))))
+function_text Sublist values = Some (sublist (nth 0 values) (number_or_zero (nth 1 values)) (number_or_zero (nth 2 values)))
+function_text _ values = Some []
 
 -- a number from 1 through n, by a random word without its last bit
 abbrev pub rolled : ℤ → ℕ → ℤ
-rolled n word = pos (1 + (word / 2) % above n)
+rolled n word = pos (1 + (word / 2) % above_zero n)

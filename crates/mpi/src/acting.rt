@@ -2,7 +2,7 @@
 ghost use Rattle.std.specs.Prelude.{◌≡◌, None, IfOk, option_map};
 ghost use Rattle.std.specs.FinMap as map;
 ghost use Rattle.muck_model.specs.Bytes.{text_fault};
-ghost use Rattle.mpi.specs.Meaning.{scene_of, object_named, object_at, both, same, reference, ask_of, deed_of, given_by, diced, variable_row, acted_by};
+ghost use Rattle.mpi.specs.Meaning.{scene_of, object_named, object_argument, both_objects, same_object, reference, ask_of, deed_of, given_by, diced, variable_row, acted_by};
 ghost use Rattle.mpi.specs.declared.functions.Group.TheVariants as group;
 ghost use Rattle.mpi.specs.Thoughts.{Thinks, OnMind, found_or_bad};
 ghost use Rattle.mpi.specs.Hosting.{Means};
@@ -40,7 +40,7 @@ fn object_named<H: Host>(place: Place, host: &H, text: &Line) -> Option<Dbref>
 }
 
 // The object that the argument at that place names; left out it is the default.
-#[tactic(auto, unfolding(crate::specs::Meaning::object_at))]
+#[tactic(auto, unfolding(crate::specs::Meaning::object_argument))]
 fn object_at<H: Host>(
     place: Place,
     host: &H,
@@ -48,7 +48,7 @@ fn object_at<H: Host>(
     at: usize,
     values: &[Argument<'_>],
 ) -> Result<Dbref, MpiFault>
-    ensures { Means (found_or_bad (object_at default at (scene_of H.powers place.this) values.now (H.seen host.now))) result }
+    ensures { Means (found_or_bad (object_argument default at (scene_of H.powers place.this) values.now (H.seen host.now))) result }
 {
     match values.get(at) {
         None => Ok(default),
@@ -163,7 +163,7 @@ fn does<H: Host>(
 
 // The number of an object.
 fn reference_of<H: Host>(place: Place, host: &H, values: &[Argument<'_>]) -> Result<Line, MpiFault>
-    ensures { Means (found_or_bad (option_map reference (object_at place.this 0 (scene_of H.powers place.this) values.now (H.seen host.now)))) result }
+    ensures { Means (found_or_bad (option_map reference (object_argument place.this 0 (scene_of H.powers place.this) values.now (H.seen host.now)))) result }
 {
     let object = object_at(place, host, place.this, 0, values)?;
     Ok(reference(place.alloc, object)?)
@@ -171,7 +171,7 @@ fn reference_of<H: Host>(place: Place, host: &H, values: &[Argument<'_>]) -> Res
 
 // Whether two objects are one.
 fn same_objects<H: Host>(place: Place, host: &H, values: &[Argument<'_>]) -> Result<Line, MpiFault>
-    ensures { Means (found_or_bad (both same (scene_of H.powers place.this) values.now (H.seen host.now))) result }
+    ensures { Means (found_or_bad (both_objects same_object (scene_of H.powers place.this) values.now (H.seen host.now))) result }
 {
     let object = object_at(place, host, place.this, 0, values)?;
     let other = object_at(place, host, place.this, 1, values)?;

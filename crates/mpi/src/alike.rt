@@ -1,7 +1,7 @@
 // Loops over items whose text is the same for each, since nothing stands between brackets in it.
 ghost use Rattle.std.specs.Prelude.{◌≡◌, ◌<◌, None, IfOk, length};
 ghost use Rattle.muck_model.specs.Bytes.{text_fault};
-ghost use Rattle.mpi.specs.Brackets.{pieces};
+ghost use Rattle.mpi.specs.Brackets.{formula_pieces};
 ghost use Rattle.mpi.specs.Hosting.{Means};
 ghost use Rattle.mpi.specs.Values.{items};
 ghost use Rattle.mpi.specs.declared.functions.Keep.TheVariants as keep;
@@ -19,7 +19,7 @@ use std::alloc::Global;
 // What a text says in which nothing stands between brackets; `None` where something does.
 fn said(alloc: Global, text: &[u8]) -> Result<Option<Line>, NoMemory>
     requires { text_fault text.now ≡ None }
-    ensures { IfOk result (λ line. line ≡ said (pieces text.now)) }
+    ensures { IfOk result (λ line. line ≡ said (formula_pieces text.now)) }
 {
     let mut out = Vec::with_capacity(alloc, text.len())?;
     let mut rest = text;

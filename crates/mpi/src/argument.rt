@@ -1,7 +1,7 @@
 // The value of an argument.
 ghost use Rattle.std.specs.Prelude.{◌≡◌, ◌≤◌, Some, None, IfSome, length};
 ghost use Rattle.muck_model.specs.Bytes.{text_fault, text_most};
-ghost use Rattle.mpi.specs.Brackets.{pieces};
+ghost use Rattle.mpi.specs.Brackets.{formula_pieces};
 ghost use Rattle.mpi.specs.inner.Alike.{said};
 ghost use Rattle.mpi.specs.inner.Written.{is_plain};
 
@@ -47,7 +47,7 @@ impl<'a> Argument<'a> {
     #[tactic(auto, using(crate::proofs::AlikeItems::plain_said))]
     pub(crate) fn written(text: &'a [u8]) -> Option<Argument<'a>>
         requires { text_fault text.now ≡ None }
-        ensures { IfSome result (λ value. (value ≡ text.now) × (said (pieces text.now) ≡ Some text.now)) }
+        ensures { IfSome result (λ value. (value ≡ text.now) × (said (formula_pieces text.now) ≡ Some text.now)) }
     {
         if !is_plain(text) {
             return None;

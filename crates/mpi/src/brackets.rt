@@ -3,7 +3,7 @@ ghost use Rattle.std.specs.Prelude.{◌≡◌, ◌+◌, ◌<◌, ◌≤◌, ◌^
 ghost use Rattle.std.specs.List.{list_all};
 ghost use Rattle.muck_model.specs.Bytes.{is_outside, text_fault, text_most};
 ghost use Rattle.mpi.specs.Made.{is_text};
-ghost use Rattle.mpi.specs.Brackets.{IsPart, begun, passed, is_free, part_len, balances, first_piece, escaped, call_ahead, seen_ahead, arguments, meant};
+ghost use Rattle.mpi.specs.Brackets.{IsPart, scan_begun, byte_passed, is_outside_brackets, part_len, balances, first_piece, escaped, call_ahead, seen_ahead, arguments, byte_meant};
 
 use muck_model::NoMemory;
 use std::alloc::Global;
@@ -19,7 +19,7 @@ impl Scan {
     // Behind this byte.
     fn passed(self, byte: u8) -> Scan
         requires { self.deep < 2 ^ 62 }
-        ensures value { result ≡ passed byte self }
+        ensures value { result ≡ byte_passed byte self }
         ensures deep { result.deep ≤ self.deep + 1 }
     {
         let deep = self.deep;
@@ -42,7 +42,7 @@ impl Scan {
 
     // Whether the byte ahead is this one, within no bracket and taken for itself.
     fn is_free(self, wanted: u8, byte: u8) -> bool
-        ensures { result ≡ is_free wanted byte self }
+        ensures { result ≡ is_outside_brackets wanted byte self }
     {
         !self.escaped && self.deep == 0 && byte == wanted
     }
@@ -58,7 +58,7 @@ const BEGUN: Scan = Scan {
 #[tactic(auto, unfolding(crate::specs::Brackets::balances))]
 pub(crate) fn balances(text: &[u8]) -> bool
     requires { length text.now ≤ text_most }
-    ensures { result ≡ balances begun text.now }
+    ensures { result ≡ balances scan_begun text.now }
 {
     let mut scan = BEGUN;
     for byte in text {
@@ -73,7 +73,7 @@ pub(crate) fn balances(text: &[u8]) -> bool
 // The same as `part_len` where neither a `{` nor a `\` stands before that place, and `None` where one does.
 #[tactic(auto, using(crate::proofs::Parting::parting))]
 fn plain_part_len(wanted: u8, text: &[u8]) -> Option<usize>
-    ensures { IfSome result (λ n. (n ≡ part_len wanted begun text.now) × (n ≤ length text.now)) }
+    ensures { IfSome result (λ n. (n ≡ part_len wanted scan_begun text.now) × (n ≤ length text.now)) }
 {
     for at in 0..text.len() {
         let byte = text[at];
@@ -91,7 +91,7 @@ fn plain_part_len(wanted: u8, text: &[u8]) -> Option<usize>
 #[tactic(auto, unfolding(crate::specs::Brackets::part_len))]
 fn part_len(wanted: u8, text: &[u8]) -> usize
     requires { length text.now ≤ text_most }
-    ensures value { result ≡ part_len wanted begun text.now }
+    ensures value { result ≡ part_len wanted scan_begun text.now }
     ensures within { result ≤ length text.now }
 {
     if let Some(at) = plain_part_len(wanted, text) {
@@ -118,7 +118,7 @@ pub(crate) enum Piece<'a> {
 
 /// What a byte behind a `\` means.
 fn meant(byte: u8) -> u8
-    ensures { result ≡ meant byte }
+    ensures { result ≡ byte_meant byte }
 {
     if byte == b'r' { 13 } else { byte }
 }

@@ -3,12 +3,12 @@ ghost use Rattle.std.specs.Prelude.{◌≡◌, [], None, Some, true, suc, take, 
 ghost use Rattle.std.specs.List.{list_all, before_first, position};
 ghost use Rattle.std.specs.Option.{option_copied};
 ghost use Rattle.muck_model.specs.Bytes.{text_fault};
-ghost use Rattle.mpi.specs.Gathering.{as_text};
+ghost use Rattle.mpi.specs.Gathering.{gathered_text};
 ghost use Rattle.mpi.specs.Hosting.{Means, seen_as};
 ghost use Rattle.mpi.specs.Made.{is_text};
-ghost use Rattle.mpi.specs.Meaning.{scene_of, meaning, entered, is_colon, behind_name, variable_in, texts_of, prepared, lazily, each_value, branch_at, before_body, in_scope, bodies, text_with, until, while_true, turns_for, each_item, evaluated, Evaluates};
+ghost use Rattle.mpi.specs.Meaning.{scene_of, meaning, body_entered, is_colon, behind_name, variable_in, argument_texts, prepared, lazily, each_value, branch_at, before_body, in_scope, bodies_in_scope, text_with, until_wanted, while_true, turns_for, each_item, evaluated, Evaluates};
 ghost use Rattle.mpi.specs.Thoughts.{Thinks};
-ghost use Rattle.mpi.specs.Values.{nth, items, alike, is_true, number_of};
+ghost use Rattle.mpi.specs.Values.{nth, items, alike, is_true_text, number_or_zero};
 
 use crate::acting::{Place, act, own, value_of};
 use crate::alike::answer_alike;
@@ -57,7 +57,7 @@ fn behind_name(body: &[u8]) -> Option<&[u8]>
 // The texts of the arguments: none without a `:`, and one at least behind it.
 fn texts_of<'a>(alloc: Global, behind: Option<&'a [u8]>) -> Result<Vec<&'a [u8]>, NoMemory>
     requires { IfSome behind (λ text. text_fault text.now ≡ None) }
-    ensures value { IfOk result (λ v. mapped (λ x. x.now) v.items ≡ texts_of (option_copied behind.entry)) }
+    ensures value { IfOk result (λ v. mapped (λ x. x.now) v.items ≡ argument_texts (option_copied behind.entry)) }
     ensures texts { IfOk result (λ v. list_all is_text (mapped (λ x. x.now) v.items) ≡ true) }
 {
     match behind {
@@ -97,7 +97,7 @@ fn branch_at(value: &Line) -> usize
 
 // Whether a value is true, or false, as it is wanted.
 fn is_alike(value: &Argument<'_>, wanted: bool) -> bool
-    ensures { result ≡ alike (is_true value.now) wanted }
+    ensures { result ≡ alike (is_true_text value.now) wanted }
 {
     is_true(value.as_slice()) == wanted
 }
@@ -114,9 +114,9 @@ fn before_body(scope: Scope) -> usize
 
 // The numbers of a loop, behind the name of its variable.
 fn range_of(values: &[Argument<'_>]) -> Range
-    ensures from { result.from ≡ number_of (nth 1 values.now) }
-    ensures end { result.end ≡ number_of (nth 2 values.now) }
-    ensures step { result.step ≡ number_of (nth 3 values.now) }
+    ensures from { result.from ≡ number_or_zero (nth 1 values.now) }
+    ensures end { result.end ≡ number_or_zero (nth 2 values.now) }
+    ensures step { result.step ≡ number_or_zero (nth 3 values.now) }
 {
     Range {
         from: number_of(nth(values, 1)),
@@ -128,7 +128,7 @@ fn range_of(values: &[Argument<'_>]) -> Range
 // The text of what was gathered.
 fn line_gathered(alloc: Global, gathered: Option<Vec<u8>>) -> Result<Line, NoMemory>
     requires { IfSome gathered (λ bytes. text_fault bytes.items ≡ None) }
-    ensures { IfOk result (λ line. line ≡ as_text (option_map (λ bytes. bytes.items) gathered)) }
+    ensures { IfOk result (λ line. line ≡ gathered_text (option_map (λ bytes. bytes.items) gathered)) }
 {
     match gathered {
         Some(bytes) => Ok(Line::of_text_vec(bytes)),
@@ -160,7 +160,7 @@ fn prepared<'a>(alloc: Global, body: &'a [u8]) -> Result<Called<'a>, MpiFault>
     requires { text_fault body.now ≡ None }
     ensures value { Means (prepared body.now) (seen_as (λ found. (found.function, option_copied found.behind)) result) }
     ensures behind { IfOk result (λ found. IfSome found.behind (λ text. text_fault text.now ≡ None)) }
-    ensures texts { IfOk result (λ found. mapped (λ x. x.now) found.texts.items ≡ texts_of (option_copied found.behind)) }
+    ensures texts { IfOk result (λ found. mapped (λ x. x.now) found.texts.items ≡ argument_texts (option_copied found.behind)) }
     ensures are_texts { IfOk result (λ found. list_all is_text (mapped (λ x. x.now) found.texts.items) ≡ true) }
 {
     let Some(function) = Function::named(name_of(body)) else {
@@ -217,7 +217,7 @@ fn call<H: Host>(
     body: &[u8],
 ) -> Result<Line, MpiFault>
     requires { text_fault body.now ≡ None }
-    ensures thinks { Thinks (entered (scene_of H.powers place.this) nesting body.now) (mind.old, H.seen host.old) (mind.new, H.seen host.new) result }
+    ensures thinks { Thinks (body_entered (scene_of H.powers place.this) nesting body.now) (mind.old, H.seen host.old) (mind.new, H.seen host.new) result }
     ensures same { H.same host.old host.new }
 {
     if nesting == 0 || mind.left == 0 {
@@ -259,7 +259,7 @@ fn lazily<H: Host>(
     texts: &[&[u8]],
 ) -> Result<Line, MpiFault>
     requires behind { IfSome behind (λ text. text_fault text.now ≡ None) }
-    requires texts { mapped (λ x. x.now) texts.now ≡ texts_of (option_copied behind) }
+    requires texts { mapped (λ x. x.now) texts.now ≡ argument_texts (option_copied behind) }
     requires are_texts { list_all is_text (mapped (λ x. x.now) texts.now) ≡ true }
     ensures thinks { Thinks (lazily way (meaning (scene_of H.powers place.this) deeper) (option_copied behind.entry)) (mind.old, H.seen host.old) (mind.new, H.seen host.new) result }
     ensures same { H.same host.old host.new }
@@ -329,7 +329,7 @@ fn until<H: Host>(
     texts: &[&[u8]],
 ) -> Result<Line, MpiFault>
     requires { list_all is_text (mapped (λ x. x.now) texts.now) ≡ true }
-    ensures thinks { Thinks (until wanted (meaning (scene_of H.powers place.this) deeper) (mapped (λ x. x.now) texts.now)) (mind.old, H.seen host.old) (mind.new, H.seen host.new) result }
+    ensures thinks { Thinks (until_wanted wanted (meaning (scene_of H.powers place.this) deeper) (mapped (λ x. x.now) texts.now)) (mind.old, H.seen host.old) (mind.new, H.seen host.new) result }
     ensures same { H.same host.old host.new }
 {
     for each in texts {
@@ -406,7 +406,7 @@ fn bodies<H: Host>(
     body: &[u8],
 ) -> Result<Line, MpiFault>
     requires { text_fault body.now ≡ None }
-    ensures thinks { Thinks (bodies scope (meaning (scene_of H.powers place.this) deeper) values.now body.now) (mind.old, H.seen host.old) (mind.new, H.seen host.new) result }
+    ensures thinks { Thinks (bodies_in_scope scope (meaning (scene_of H.powers place.this) deeper) values.now body.now) (mind.old, H.seen host.old) (mind.new, H.seen host.new) result }
     ensures same { H.same host.old host.new }
 {
     let name = nth(values, 0);

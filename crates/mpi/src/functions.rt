@@ -1,6 +1,6 @@
 // The functions, by name.
 ghost use Rattle.std.specs.Prelude.{◌≡◌};
-ghost use Rattle.mpi.specs.Functions.{row_of, shown_row, functions, named, takes};
+ghost use Rattle.mpi.specs.Functions.{row_of_function, shown_row, functions, function_named, takes_so_many};
 
 /// A function of formulas.
 #[derive(Clone, Copy, PartialEq, Eq, Debug)]
@@ -231,7 +231,7 @@ impl Function {
     /// Its row in the table of all functions.
     #[inline(always)]
     pub fn row(self) -> Row
-        ensures { shown_row result ≡ row_of self }
+        ensures { shown_row result ≡ row_of_function self }
     {
         match self {
             Function::Value => row!(b"v", 1, Some(1), How::First(Group::Variable)),
@@ -316,21 +316,21 @@ impl Function {
 
     /// Its name.
     pub fn name(self) -> &'static [u8]
-        ensures { result.now ≡ (row_of self).name }
+        ensures { result.now ≡ (row_of_function self).name }
     {
         self.row().name
     }
 
     /// How its arguments are evaluated.
     pub fn how(self) -> How
-        ensures { result ≡ (row_of self).how }
+        ensures { result ≡ (row_of_function self).how }
     {
         self.row().how
     }
 
     /// Whether it takes so many arguments.
     pub(crate) fn takes(self, count: usize) -> bool
-        ensures { result ≡ takes self count }
+        ensures { result ≡ takes_so_many self count }
     {
         let row = self.row();
         let few = match row.most {
@@ -343,7 +343,7 @@ impl Function {
     /// The function of a name; `None` exactly where none has it.
     #[tactic(auto, unfolding(crate::specs::Functions::functions))]
     pub fn named(word: &[u8]) -> Option<Function>
-        ensures { result ≡ named word.now }
+        ensures { result ≡ function_named word.now }
     {
         ALL.iter().copied().find(|function| function.name() == word)
     }

@@ -4,8 +4,8 @@ ghost use Rattle.std.specs.Option.{option_copied};
 ghost use Rattle.muck_model.specs.Bytes.{text_fault};
 ghost use Rattle.mpi.specs.Made.{Inside, text_or_long};
 ghost use Rattle.mpi.specs.Hosting.{seen_as, Means};
-ghost use Rattle.mpi.specs.Gathering.{longer, kept_of, list_or_long};
-ghost use Rattle.mpi.specs.Values.{past_spaces, before_spaces, stripped, place_in, found_in, substituted, above, cut, items, listed, place_of_item, middle};
+ghost use Rattle.mpi.specs.Gathering.{longer, kept_item, list_or_long};
+ghost use Rattle.mpi.specs.Values.{past_spaces, before_spaces, stripped, place_in_text, found_in, text_substituted, above_zero, part_between, items, values_listed, place_of_item, middle_text};
 
 use crate::argument::Argument;
 use crate::fault::MpiFault;
@@ -57,7 +57,7 @@ pub(crate) fn stripped(text: &[u8]) -> &[u8]
 // How many bytes stand before the first place where a text stands that is sought in another.
 #[tactic(auto, using(crate::proofs::Places::place_steps))]
 fn place_in(text: &[u8], sought: &Finder<'_>) -> Option<usize>
-    ensures value { result ≡ place_in text.now sought.now }
+    ensures value { result ≡ place_in_text text.now sought.now }
     ensures within { IfSome result (λ n. n ≤ length text.now) }
 {
     sought.find(text)
@@ -96,7 +96,7 @@ pub(crate) fn substituted(
 ) -> Result<Line, MpiFault>
     requires text { text_fault text.now ≡ None }
     requires new { text_fault new.now ≡ None }
-    ensures { Means (text_or_long (substituted text.now old.now new.now)) result }
+    ensures { Means (text_or_long (text_substituted text.now old.now new.now)) result }
 {
     if old.is_empty() {
         return Ok(Line::of_text(alloc, text)?);
@@ -116,14 +116,14 @@ pub(crate) fn substituted(
 
 // How far a number is above 0.
 fn above(n: i32) -> usize
-    ensures { result ≡ above n }
+    ensures { result ≡ above_zero n }
 {
     if n < 0 { 0 } else { n as usize }
 }
 
 /// What stands from place p through place q, from 1; places outside are cut.
 pub(crate) fn cut<T>(p: i32, q: i32, xs: &[T]) -> &[T]
-    ensures { result.now ≡ cut p q xs.now }
+    ensures { result.now ≡ part_between p q xs.now }
 {
     let from = above(p).saturating_sub(1).min(xs.len());
     let to = above(q).min(xs.len());
@@ -132,7 +132,7 @@ pub(crate) fn cut<T>(p: i32, q: i32, xs: &[T]) -> &[T]
 
 /// The bytes that the second and the third argument ask for; `None` exactly unless 1 <= p <= q.
 pub(crate) fn middle<'a>(values: &'a [Argument<'_>]) -> Option<&'a [u8]>
-    ensures { option_copied result ≡ middle values.now }
+    ensures { option_copied result ≡ middle_text values.now }
 {
     let p = number_of(nth(values, 1));
     let q = match values.get(2) {
@@ -189,7 +189,7 @@ pub(crate) fn kept(
     requires list { IfSome list (λ bytes. text_fault bytes.items ≡ None) }
     requires item { text_fault item.now ≡ None }
     requires text { text_fault text.now ≡ None }
-    ensures value { Means (list_or_long (kept_of keep (option_map (λ bytes. bytes.items) list) item.now text.now)) (seen_as (λ list. option_map (λ bytes. bytes.items) list) result) }
+    ensures value { Means (list_or_long (kept_item keep (option_map (λ bytes. bytes.items) list) item.now text.now)) (seen_as (λ list. option_map (λ bytes. bytes.items) list) result) }
     ensures texts { IfOk result (λ list. IfSome list (λ bytes. text_fault bytes.items ≡ None)) }
 {
     match keep {
@@ -206,7 +206,7 @@ pub(crate) fn kept(
 
 /// The list of these items.
 pub(crate) fn listed(alloc: Global, parts: &[&[u8]]) -> Result<Vec<u8>, NoMemory>
-    ensures { IfOk result (λ bytes. bytes.items ≡ listed (mapped (λ x. x.now) parts.now)) }
+    ensures { IfOk result (λ bytes. bytes.items ≡ values_listed (mapped (λ x. x.now) parts.now)) }
 {
     let mut bytes = Vec::new(alloc);
     for at in 0..parts.len() {

@@ -3,7 +3,7 @@ ghost use Rattle.std.specs.Prelude.{◌≡◌, IfOk, map as mapped};
 ghost use Rattle.std.specs.Fmt.{decimal, signed_decimal};
 ghost use Rattle.std.specs.Char.{to_ascii_uppercase};
 ghost use Rattle.mpi.specs.Hosting.{Means};
-ghost use Rattle.mpi.specs.Values.{text_of, sublist, listed};
+ghost use Rattle.mpi.specs.Values.{function_text, sublist, values_listed};
 ghost use Rattle.mpi.specs.Made.{Inside, found_text};
 
 use crate::argument::Argument;
@@ -35,7 +35,7 @@ fn raised(alloc: Global, text: &[u8]) -> Result<Vec<u8>, NoMemory>
 
 // The list of the values.
 fn list_of(alloc: Global, values: &[Argument<'_>]) -> Result<Vec<u8>, NoMemory>
-    ensures value { IfOk result (λ bytes. bytes.items ≡ listed values.now) }
+    ensures value { IfOk result (λ bytes. bytes.items ≡ values_listed values.now) }
     ensures inside { IfOk result (λ bytes. Inside bytes.items) }
 {
     let mut bytes = Vec::new(alloc);
@@ -64,7 +64,7 @@ pub(crate) fn text_of(
     function: Function,
     values: &[Argument<'_>],
 ) -> Result<Line, MpiFault>
-    ensures { Means (found_text (text_of function values.now)) result }
+    ensures { Means (found_text (function_text function values.now)) result }
 {
     let first = nth(values, 0);
     let second = nth(values, 1);

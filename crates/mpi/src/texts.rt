@@ -5,7 +5,7 @@ ghost use Rattle.mpi.specs.Made.{Inside, IsGrown, text_or_long};
 ghost use Rattle.mpi.specs.Hosting.{Means};
 ghost use Rattle.std.specs.Fmt.{signed_decimal};
 ghost use Rattle.mpi.specs.Meaning.{reference};
-ghost use Rattle.mpi.specs.Values.{truth};
+ghost use Rattle.mpi.specs.Values.{truth_text};
 
 use crate::fault::MpiFault;
 use muck_model::{Dbref, Line, NoMemory, TEXT_MOST};
@@ -39,7 +39,7 @@ pub(crate) fn grow(out: &mut Vec<u8>, more: &[u8]) -> Result<(), MpiFault>
 
 /// `1` for true and `0` for false.
 pub(crate) fn truth(alloc: Global, holds: bool) -> Result<Line, NoMemory>
-    ensures { IfOk result (λ line. line ≡ truth holds) }
+    ensures { IfOk result (λ line. line ≡ truth_text holds) }
 {
     if holds {
         Line::of_text(alloc, b"1")

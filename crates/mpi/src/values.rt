@@ -1,12 +1,12 @@
 // Texts as truths and numbers, and the functions of these.
 ghost use Rattle.std.specs.Prelude.{◌≡◌, ◌≤◌, None, IfOk};
 ghost use Rattle.muck_model.specs.Bytes.{text_fault};
-ghost use Rattle.muck_model.specs.Numbers.{below};
-ghost use Rattle.mpi.specs.Values.{nth, is_true, bare, number_read, number_of, lowered, order_of, test_of, quotient, remainder, number_row, sum_of, product_of, computed};
+ghost use Rattle.muck_model.specs.Numbers.{minus};
+ghost use Rattle.mpi.specs.Values.{nth, is_true_text, bare_digits, number_read, number_or_zero, lowered, order_of, test_of, numbers_computed, sum_of, product_of, computed};
 
 use crate::argument::Argument;
 use crate::functions::Function;
-use muck_model::{Line, NoMemory, decimal};
+use muck_model::{Line, NoMemory, decimal, magnitude, quotient, remainder};
 use std::alloc::Global;
 use std::cmp::Ordering;
 
@@ -23,17 +23,17 @@ pub(crate) fn nth<'a>(values: &'a [Argument<'_>], at: usize) -> &'a [u8]
 }
 
 /// The empty text and `0` are false, all others true.
-#[tactic(auto, unfolding(crate::specs::Values::is_true))]
+#[tactic(auto, unfolding(crate::specs::Values::is_true_text))]
 pub(crate) fn is_true(text: &[u8]) -> bool
-    ensures { result ≡ is_true text.now }
+    ensures { result ≡ is_true_text text.now }
 {
     !(text.is_empty() || text == b"0".as_slice())
 }
 
 // Digits without the zeros in front of others.
-#[tactic(auto, unfolding(crate::specs::Values::bare))]
+#[tactic(auto, unfolding(crate::specs::Values::bare_digits))]
 fn bare(digits: &[u8]) -> &[u8]
-    ensures { result.now ≡ bare digits.now }
+    ensures { result.now ≡ bare_digits digits.now }
 {
     let mut rest = digits;
     while let Some((first, more)) = rest.split_first() {
@@ -48,7 +48,7 @@ fn bare(digits: &[u8]) -> &[u8]
 // The number n with a minus before it.
 fn below(n: u64) -> i32
     requires { n ≤ 2147483648 }
-    ensures { result ≡ below n }
+    ensures { result ≡ minus n }
 {
     if n == 0 {
         return 0;
@@ -72,7 +72,7 @@ pub(crate) fn number_read(text: &[u8]) -> Option<i32>
 
 /// The same, where a text that is no number counts as 0.
 pub(crate) fn number_of(text: &[u8]) -> i32
-    ensures { result ≡ number_of text.now }
+    ensures { result ≡ number_or_zero text.now }
 {
     number_read(text).unwrap_or(0)
 }
@@ -120,29 +120,15 @@ pub(crate) fn test_of(
     }
 }
 
-// Toward zero, and 0 where the divisor is 0.
-fn quotient(i: i32, j: i32) -> i32
-    ensures { result ≡ quotient i j }
-{
-    if j == 0 { 0 } else { i.wrapping_div(j) }
-}
-
-// With the sign of the dividend, and 0 where the divisor is 0.
-fn remainder(i: i32, j: i32) -> i32
-    ensures { result ≡ remainder i j }
-{
-    if j == 0 { 0 } else { i.wrapping_rem(j) }
-}
-
 /// What a function of one or two numbers gives.
 fn number_row(function: Function, i: i32, j: i32) -> i32
-    ensures { result ≡ number_row function i j }
+    ensures { result ≡ numbers_computed function i j }
 {
     match function {
         Function::Subtract => i.wrapping_sub(j),
         Function::Divide => quotient(i, j),
         Function::Modulo => remainder(i, j),
-        Function::Absolute if i < 0 => i.wrapping_neg(),
+        Function::Absolute => magnitude(i),
         Function::Sign => i.signum(),
         Function::Least if j < i => j,
         Function::Most if i < j => j,

@@ -1,13 +1,14 @@
 -- Lemmas on the connection of a number.
-use Rattle.std.proofs.Common.{◌≡◌, ℕ, ◌+◌, ◌<◌, ◌≤◌, Bool, true, false, List, [], ◌∷◌, length, get_or, set, refl, sym, ◌∙◌, ap, arith, cond, Option, Some, None, not, suc, subst, drop, find, map}
+use Rattle.std.proofs.Common.{◌≡◌, ℕ, ◌+◌, ◌<◌, ◌≤◌, true, false, List, [], ◌∷◌, length, get_or, set, refl, sym, ◌∙◌, ap, arith, cond, Option, Some, None, not, suc, subst, drop, find, map}
 use Rattle.std.specs.Prelude.{nat_lt}
 use Rattle.std.specs.List.{position, position_or_len, remove, insert}
 use Rattle.std.specs.Option.{option_map_or}
-use Rattle.std.proofs.lemmas.Bool.{cond_both, ltb-true, ltb-false}
+use Rattle.std.proofs.lemmas.Bool.{cond_both}
 use Rattle.std.proofs.lemmas.List.{drop_all}
+use Rattle.muck_laws.proofs.Tests.{first_at, position_none}
 use Rattle.muck_model.specs.declared.dbref.Dbref.{Dbref}
-use Rattle.spec_live.specs.Output.{bytes_of, taken}
-use Rattle.spec_live.specs.Connections.{Connection, has_number, changed_in, without, placed}
+use Rattle.spec_live.specs.Output.{bytes_of, output_taken}
+use Rattle.spec_live.specs.Connections.{Connection, is_connection, changed_in, without_connection, connection_placed}
 use Rattle.spec_live.specs.Boards.{Board, connection_in, on_connection, with_connections}
 use Rattle.muck_board.specs.inner.Lines.{HasLine, HasNoLine, BoardTakesLine}
 use Rattle.muck_board.specs.inner.Silent.{quiet, silent}
@@ -15,142 +16,130 @@ use Rattle.muck_board.proofs.Outputs.{taken_left}
 
 -- What `position` answers.
 
-first_at : {X : Type 0} (p : X → Bool) (xs : List X) (at : ℕ) → position p xs ≡ Some at → (position_or_len p xs ≡ at) × (at < length xs)
-first_at p xs at =
-    let n : ℕ = position_or_len p xs in
-    cond_both (nat_lt n (length xs)) (Some n) None (λ o. o ≡ Some at → (n ≡ at) × (at < length xs))
-    (λ e h. let same : n ≡ at = cc in (same, omega (arith, ltb-true n (length xs) e)))
-    (λ e h. absurd (cc))
-
-nowhere : {X : Type 0} (p : X → Bool) (xs : List X) → position p xs ≡ None → length xs ≤ position_or_len p xs
-nowhere p xs =
-    let n : ℕ = position_or_len p xs in
-    cond_both (nat_lt n (length xs)) (Some n) None (λ o. o ≡ None → length xs ≤ n) (λ e h. absurd (cc)) (λ e h. omega (arith, ltb-false n (length xs) e))
-
-pub within : (d : ℕ) (cs : List Connection) (at : ℕ) → position (has_number d) cs ≡ Some at → at < length cs
-within d cs at e = (first_at (has_number d) cs at e).1
+pub within : (d : ℕ) (cs : List Connection) (at : ℕ) → position (is_connection d) cs ≡ Some at → at < length cs
+within d cs at e = (first_at (is_connection d) cs at e).1
 
 -- What stands at that place.
 
-found_there : (d : ℕ) (cs : List Connection) (old : Connection) → position_or_len (has_number d) cs < length cs →
-    old ≡ get_or cs (position_or_len (has_number d) cs) old → find (has_number d) cs ≡ Some old
+found_there : (d : ℕ) (cs : List Connection) (old : Connection) → position_or_len (is_connection d) cs < length cs →
+    old ≡ get_or cs (position_or_len (is_connection d) cs) old → find (is_connection d) cs ≡ Some old
 found_there d [] old = λ h e. absurd (omega arith)
 found_there d (c ∷ cs) old =
-    elim (has_number d c) as (λ b.
-    cond (not b) (1 + position_or_len (has_number d) cs) 0 < length (c ∷ cs) →
-    old ≡ get_or (c ∷ cs) (cond (not b) (1 + position_or_len (has_number d) cs) 0) old →
-    cond b (Some c) (find (has_number d) cs) ≡ Some old) [
+    elim (is_connection d c) as (λ b.
+    cond (not b) (1 + position_or_len (is_connection d) cs) 0 < length (c ∷ cs) →
+    old ≡ get_or (c ∷ cs) (cond (not b) (1 + position_or_len (is_connection d) cs) 0) old →
+    cond b (Some c) (find (is_connection d) cs) ≡ Some old) [
       | true ↦ λ h e. ap Some (sym e)
       | false ↦ λ h e.
-          let one : 1 + position_or_len (has_number d) cs ≡ suc (position_or_len (has_number d) cs) = omega arith in
+          let one : 1 + position_or_len (is_connection d) cs ≡ suc (position_or_len (is_connection d) cs) = omega arith in
           found_there d cs old (omega arith) (rw one at e)
     ]
 
-pub found_at : (d : ℕ) (cs : List Connection) (at : ℕ) (old : Connection) → position (has_number d) cs ≡ Some at → old ≡ get_or cs at old → find (has_number d) cs ≡ Some old
+pub found_at : (d : ℕ) (cs : List Connection) (at : ℕ) (old : Connection) → position (is_connection d) cs ≡ Some at → old ≡ get_or cs at old → find (is_connection d) cs ≡ Some old
 found_at d cs at old e there =
-    let first = first_at (has_number d) cs at e in
-    let some : position_or_len (has_number d) cs < length cs = omega (arith, first.0, first.1) in
+    let first = first_at (is_connection d) cs at e in
+    let some : position_or_len (is_connection d) cs < length cs = omega (arith, first.0, first.1) in
     found_there d cs old some (rw (sym first.0) at there)
 
-found_beyond : (d : ℕ) (cs : List Connection) → length cs ≤ position_or_len (has_number d) cs → find (has_number d) cs ≡ None
+found_beyond : (d : ℕ) (cs : List Connection) → length cs ≤ position_or_len (is_connection d) cs → find (is_connection d) cs ≡ None
 found_beyond d [] = λ h. refl
 found_beyond d (c ∷ cs) =
-    elim (has_number d c) as (λ b.
-    length (c ∷ cs) ≤ cond (not b) (1 + position_or_len (has_number d) cs) 0 → cond b (Some c) (find (has_number d) cs) ≡ None) [
+    elim (is_connection d c) as (λ b.
+    length (c ∷ cs) ≤ cond (not b) (1 + position_or_len (is_connection d) cs) 0 → cond b (Some c) (find (is_connection d) cs) ≡ None) [
       | true ↦ λ h. absurd (omega arith)
       | false ↦ λ h. found_beyond d cs (omega arith)
     ]
 
-pub found_nowhere : (d : ℕ) (cs : List Connection) → position (has_number d) cs ≡ None → find (has_number d) cs ≡ None
-found_nowhere d cs e = found_beyond d cs (nowhere (has_number d) cs e)
+pub found_nowhere : (d : ℕ) (cs : List Connection) → position (is_connection d) cs ≡ None → find (is_connection d) cs ≡ None
+found_nowhere d cs e = found_beyond d cs (position_none (is_connection d) cs e)
 
 -- A write at that place.
 
-changed_there : (d : ℕ) (new : Connection) (cs : List Connection) → position_or_len (has_number d) cs < length cs →
-    set cs (position_or_len (has_number d) cs) new ≡ changed_in d (λ _. new) cs
+changed_there : (d : ℕ) (new : Connection) (cs : List Connection) → position_or_len (is_connection d) cs < length cs →
+    set cs (position_or_len (is_connection d) cs) new ≡ changed_in d (λ _. new) cs
 changed_there d new [] = λ h. absurd (omega arith)
 changed_there d new (c ∷ cs) =
-    elim (has_number d c) as (λ b.
-    cond (not b) (1 + position_or_len (has_number d) cs) 0 < length (c ∷ cs) →
-    set (c ∷ cs) (cond (not b) (1 + position_or_len (has_number d) cs) 0) new ≡ cond b (new ∷ cs) (c ∷ changed_in d (λ _. new) cs)) [
+    elim (is_connection d c) as (λ b.
+    cond (not b) (1 + position_or_len (is_connection d) cs) 0 < length (c ∷ cs) →
+    set (c ∷ cs) (cond (not b) (1 + position_or_len (is_connection d) cs) 0) new ≡ cond b (new ∷ cs) (c ∷ changed_in d (λ _. new) cs)) [
       | true ↦ λ h. refl
       | false ↦ λ h.
-          let one : 1 + position_or_len (has_number d) cs ≡ suc (position_or_len (has_number d) cs) = omega arith in
-          let below : position_or_len (has_number d) cs < length cs = omega arith in
+          let one : 1 + position_or_len (is_connection d) cs ≡ suc (position_or_len (is_connection d) cs) = omega arith in
+          let below : position_or_len (is_connection d) cs < length cs = omega arith in
           rw one (ap (λ xs. c ∷ xs) (changed_there d new cs below))
     ]
 
-pub written : (d : ℕ) (cs : List Connection) (at : ℕ) (new : Connection) → position (has_number d) cs ≡ Some at → set cs at new ≡ changed_in d (λ _. new) cs
+pub written : (d : ℕ) (cs : List Connection) (at : ℕ) (new : Connection) → position (is_connection d) cs ≡ Some at → set cs at new ≡ changed_in d (λ _. new) cs
 written d cs at new e =
-    let first = first_at (has_number d) cs at e in
-    let some : position_or_len (has_number d) cs < length cs = omega (arith, first.0, first.1) in
+    let first = first_at (is_connection d) cs at e in
+    let some : position_or_len (is_connection d) cs < length cs = omega (arith, first.0, first.1) in
     rw (sym first.0) (changed_there d new cs some)
 
 -- Taking away there.
 
-without_there : (d : ℕ) (cs : List Connection) → position_or_len (has_number d) cs < length cs → remove cs (position_or_len (has_number d) cs) ≡ without d cs
+without_there : (d : ℕ) (cs : List Connection) → position_or_len (is_connection d) cs < length cs → remove cs (position_or_len (is_connection d) cs) ≡ without_connection d cs
 without_there d [] = λ h. absurd (omega arith)
 without_there d (c ∷ cs) =
-    elim (has_number d c) as (λ b.
-    cond (not b) (1 + position_or_len (has_number d) cs) 0 < length (c ∷ cs) →
-    remove (c ∷ cs) (cond (not b) (1 + position_or_len (has_number d) cs) 0) ≡ cond b cs (c ∷ without d cs)) [
+    elim (is_connection d c) as (λ b.
+    cond (not b) (1 + position_or_len (is_connection d) cs) 0 < length (c ∷ cs) →
+    remove (c ∷ cs) (cond (not b) (1 + position_or_len (is_connection d) cs) 0) ≡ cond b cs (c ∷ without_connection d cs)) [
       | true ↦ λ h. refl
       | false ↦ λ h.
-          let one : 1 + position_or_len (has_number d) cs ≡ suc (position_or_len (has_number d) cs) = omega arith in
-          let below : position_or_len (has_number d) cs < length cs = omega arith in
+          let one : 1 + position_or_len (is_connection d) cs ≡ suc (position_or_len (is_connection d) cs) = omega arith in
+          let below : position_or_len (is_connection d) cs < length cs = omega arith in
           rw one (ap (λ xs. c ∷ xs) (without_there d cs below))
     ]
 
-pub removed : (d : ℕ) (cs : List Connection) (at : ℕ) → position (has_number d) cs ≡ Some at → remove cs at ≡ without d cs
+pub removed : (d : ℕ) (cs : List Connection) (at : ℕ) → position (is_connection d) cs ≡ Some at → remove cs at ≡ without_connection d cs
 removed d cs at e =
-    let first = first_at (has_number d) cs at e in
-    let some : position_or_len (has_number d) cs < length cs = omega (arith, first.0, first.1) in
+    let first = first_at (is_connection d) cs at e in
+    let some : position_or_len (is_connection d) cs < length cs = omega (arith, first.0, first.1) in
     rw (sym first.0) (without_there d cs some)
 
-without_none : (d : ℕ) (cs : List Connection) → find (has_number d) cs ≡ None → cs ≡ without d cs
+without_none : (d : ℕ) (cs : List Connection) → find (is_connection d) cs ≡ None → cs ≡ without_connection d cs
 without_none d [] = λ h. refl
 without_none d (c ∷ cs) =
-    elim (has_number d c) as (λ b. cond b (Some c) (find (has_number d) cs) ≡ None → c ∷ cs ≡ cond b cs (c ∷ without d cs)) [
+    elim (is_connection d c) as (λ b. cond b (Some c) (find (is_connection d) cs) ≡ None → c ∷ cs ≡ cond b cs (c ∷ without_connection d cs)) [
       | true ↦ λ h. absurd (cc)
       | false ↦ λ h. ap (λ x. c ∷ x) (without_none d cs h)
     ]
 
-pub removed_none : (d : ℕ) (cs : List Connection) → position (has_number d) cs ≡ None → cs ≡ without d cs
+pub removed_none : (d : ℕ) (cs : List Connection) → position (is_connection d) cs ≡ None → cs ≡ without_connection d cs
 removed_none d cs e = without_none d cs (found_nowhere d cs e)
 
 -- A new one before the first of a greater number.
 
-placed_there : (new : Connection) (cs : List Connection) → insert cs (position_or_len (λ c. nat_lt new.number c.number) cs) new ≡ placed new cs
+placed_there : (new : Connection) (cs : List Connection) → insert cs (position_or_len (λ c. nat_lt new.number c.number) cs) new ≡ connection_placed new cs
 placed_there new [] = refl
 placed_there new (c ∷ cs) =
     elim (nat_lt new.number c.number) as (λ b.
-    insert (c ∷ cs) (cond (not b) (1 + position_or_len (λ x. nat_lt new.number x.number) cs) 0) new ≡ cond b (new ∷ c ∷ cs) (c ∷ placed new cs)) [
+    insert (c ∷ cs) (cond (not b) (1 + position_or_len (λ x. nat_lt new.number x.number) cs) 0) new ≡ cond b (new ∷ c ∷ cs) (c ∷ connection_placed new cs)) [
       | true ↦ refl
       | false ↦
           let one : 1 + position_or_len (λ x. nat_lt new.number x.number) cs ≡ suc (position_or_len (λ x. nat_lt new.number x.number) cs) = omega arith in
           rw one (ap (λ xs. c ∷ xs) (placed_there new cs))
     ]
 
-pub inserted : (d : ℕ) (new : Connection) (cs : List Connection) (at : ℕ) → new.number ≡ d → at ≡ position_or_len (λ c. nat_lt d c.number) cs → insert cs at new ≡ placed new cs
+pub inserted : (d : ℕ) (new : Connection) (cs : List Connection) (at : ℕ) → new.number ≡ d → at ≡ position_or_len (λ c. nat_lt d c.number) cs → insert cs at new ≡ connection_placed new cs
 inserted d new cs at n e =
     let first : at ≡ position_or_len (λ c. nat_lt new.number c.number) cs = e ∙ ap (λ k. position_or_len (λ c. nat_lt k c.number) cs) (sym n) in
     rw first (placed_there new cs)
 
 -- A change of the connection that was found.
 
-changed_found : (d : ℕ) (f : Connection → Connection) (cs : List Connection) (c : Connection) → find (has_number d) cs ≡ Some c → changed_in d (λ _. f c) cs ≡ changed_in d f cs
+changed_found : (d : ℕ) (f : Connection → Connection) (cs : List Connection) (c : Connection) → find (is_connection d) cs ≡ Some c → changed_in d (λ _. f c) cs ≡ changed_in d f cs
 changed_found d f [] c = λ h. refl
 changed_found d f (x ∷ xs) c =
-    elim (has_number d x) as (λ b.
-    cond b (Some x) (find (has_number d) xs) ≡ Some c → cond b (f c ∷ xs) (x ∷ changed_in d (λ _. f c) xs) ≡ cond b (f x ∷ xs) (x ∷ changed_in d f xs)) [
+    elim (is_connection d x) as (λ b.
+    cond b (Some x) (find (is_connection d) xs) ≡ Some c → cond b (f c ∷ xs) (x ∷ changed_in d (λ _. f c) xs) ≡ cond b (f x ∷ xs) (x ∷ changed_in d f xs)) [
       | true ↦ λ h. let same : x ≡ c = cc in ap (λ y. f y ∷ xs) (sym same)
       | false ↦ λ h. ap (λ ys. x ∷ ys) (changed_found d f xs c h)
     ]
 
-changed_none : (d : ℕ) (f : Connection → Connection) (cs : List Connection) → find (has_number d) cs ≡ None → changed_in d f cs ≡ cs
+changed_none : (d : ℕ) (f : Connection → Connection) (cs : List Connection) → find (is_connection d) cs ≡ None → changed_in d f cs ≡ cs
 changed_none d f [] = λ h. refl
 changed_none d f (x ∷ xs) =
-    elim (has_number d x) as (λ b. cond b (Some x) (find (has_number d) xs) ≡ None → cond b (f x ∷ xs) (x ∷ changed_in d f xs) ≡ x ∷ xs) [
+    elim (is_connection d x) as (λ b. cond b (Some x) (find (is_connection d) xs) ≡ None → cond b (f x ∷ xs) (x ∷ changed_in d f xs) ≡ x ∷ xs) [
       | true ↦ λ h. absurd (cc)
       | false ↦ λ h. ap (λ ys. x ∷ ys) (changed_none d f xs h)
     ]
@@ -169,13 +158,13 @@ pub rewritten : (d : ℕ) (b : Board) (c new : Connection) → Some c ≡ connec
 rewritten d b c new there same = changed d (λ x. x) b c new there same ∙ ap (λ cs. with_connections cs b) (changed_so d b.connections) where
   changed_so : (d : ℕ) (cs : List Connection) → changed_in d (λ x. x) cs ≡ cs
   changed_so d [] = refl
-  changed_so d (x ∷ xs) = cond_both (has_number d x) (x ∷ xs) (x ∷ changed_in d (λ y. y) xs) (λ l. l ≡ x ∷ xs) (λ e. refl) (λ e. ap (λ ys. x ∷ ys) (changed_so d xs))
+  changed_so d (x ∷ xs) = cond_both (is_connection d x) (x ∷ xs) (x ∷ changed_in d (λ y. y) xs) (λ l. l ≡ x ∷ xs) (λ e. refl) (λ e. ap (λ ys. x ∷ ys) (changed_so d xs))
 
 -- a change of what waits to be sent leaves the rest
-quieted : (d : ℕ) (cs : List Connection) (c new : Connection) → find (has_number d) cs ≡ Some c → quiet new ≡ quiet c → map quiet (changed_in d (λ _. new) cs) ≡ map quiet cs
+quieted : (d : ℕ) (cs : List Connection) (c new : Connection) → find (is_connection d) cs ≡ Some c → quiet new ≡ quiet c → map quiet (changed_in d (λ _. new) cs) ≡ map quiet cs
 quieted d [] c new = λ h q. refl
 quieted d (x ∷ xs) c new =
-    elim (has_number d x) as (λ b. cond b (Some x) (find (has_number d) xs) ≡ Some c → quiet new ≡ quiet c → map quiet (cond b (new ∷ xs) (x ∷ changed_in d (λ _. new) xs)) ≡ quiet x ∷ map quiet xs) [
+    elim (is_connection d x) as (λ b. cond b (Some x) (find (is_connection d) xs) ≡ Some c → quiet new ≡ quiet c → map quiet (cond b (new ∷ xs) (x ∷ changed_in d (λ _. new) xs)) ≡ quiet x ∷ map quiet xs) [
       | true ↦ λ h q. let same : x ≡ c = cc in ap (λ y. y ∷ map quiet xs) (q ∙ ap quiet (sym same))
       | false ↦ λ h q. ap (λ ys. quiet x ∷ ys) (quieted d xs c new h q)
     ]
@@ -192,13 +181,13 @@ queue_of o = option_map_or (λ x. bytes_of x.output) o []
 
 -- what is left in its queue
 pub queue_left : (d n : ℕ) (cs : List Connection) →
-    option_map_or (λ x. bytes_of x.output) (find (has_number d) (changed_in d (λ c. record c { output = taken n c.output }) cs)) []
-    ≡ drop n (option_map_or (λ x. bytes_of x.output) (find (has_number d) cs) [])
+    option_map_or (λ x. bytes_of x.output) (find (is_connection d) (changed_in d (λ c. record c { output = output_taken n c.output }) cs)) []
+    ≡ drop n (option_map_or (λ x. bytes_of x.output) (find (is_connection d) cs) [])
 unfolding queue_of
 queue_left d n [] = sym (drop_all n [] (omega arith))
 queue_left d n (c ∷ cs) =
-    let f : Connection → Connection = λ x. record x { output = taken n x.output } in
-    cond_both (has_number d c) (f c ∷ cs) (c ∷ changed_in d f cs) (λ l. queue_of (find (has_number d) l) ≡ drop n (queue_of (find (has_number d) (c ∷ cs))))
+    let f : Connection → Connection = λ x. record x { output = output_taken n x.output } in
+    cond_both (is_connection d c) (f c ∷ cs) (c ∷ changed_in d f cs) (λ l. queue_of (find (is_connection d) l) ≡ drop n (queue_of (find (is_connection d) (c ∷ cs))))
     (λ e. rw e (taken_left n c.output))
     (λ e. rw e (queue_left d n cs))
 

@@ -3,8 +3,8 @@ ghost use Rattle.std.specs.Prelude.{◌≡◌, OnOk, OnErr, Bool, length, drop, 
 ghost use Rattle.std.specs.List.{list_any};
 ghost use Rattle.std.specs.Option.{option_copied_mut};
 ghost use Rattle.std.specs.Borrow.{sem};
-ghost use Rattle.spec_live.specs.Connections.{Connection as Link, is_of, told_where};
-ghost use Rattle.spec_live.specs.Boards.{early_board, connection_in, queue_in, editor_in, on_connections, opened, closed, line_added, bytes_taken, told_one, told_player, told_others, told_all, leaving_one, left_player, seated_one, edited_one, editors_closed, tuned, random_drawn};
+ghost use Rattle.spec_live.specs.Connections.{Connection as Link, is_connection_of, told_where};
+ghost use Rattle.spec_live.specs.Boards.{early_board, connection_in, queue_in, editor_in, on_connections, connection_opened, connection_closed, line_added, bytes_taken, told_one, told_player, told_others, told_all, leaving_one, left_player, seated_one, edited_one, editors_closed, tuned, random_drawn};
 ghost use Rattle.muck_board.specs.inner.Lines.{BoardTakesLine};
 ghost use Rattle.muck_board.specs.inner.Silent.{silent};
 ghost use Rattle.muck_board.specs.inner.Lent.{LendsConnection};
@@ -71,7 +71,7 @@ impl Board {
 
     /// Whether a player is connected.
     pub fn is_in(&self, player: Dbref) -> bool
-        ensures { result ≡ list_any (is_of player) self.now.connections }
+        ensures { result ≡ list_any (is_connection_of player) self.now.connections }
     {
         self.connections.iter().any(|c| c.is_of(player))
     }
@@ -114,9 +114,9 @@ impl Board {
     }
 
     /// A connection comes, and is greeted with a text. After `NoMemory` nothing has changed.
-    #[tactic(auto, unfolding(spec_live::specs::Boards::opened))]
+    #[tactic(auto, unfolding(spec_live::specs::Boards::connection_opened))]
     pub fn open(&mut self, d: u32, greeting: &[u8]) -> Result<(), NoMemory>
-        ensures ok { OnOk result (self.new ≡ opened d greeting.now self.old) }
+        ensures ok { OnOk result (self.new ≡ connection_opened d greeting.now self.old) }
         ensures err { OnErr result (self.new ≡ self.old) }
     {
         let new = Connection::new(self.alloc, d, greeting)?;
@@ -126,9 +126,9 @@ impl Board {
     }
 
     /// The connection goes, with all that waits on it.
-    #[tactic(auto, unfolding(spec_live::specs::Boards::closed))]
+    #[tactic(auto, unfolding(spec_live::specs::Boards::connection_closed))]
     pub fn close(&mut self, d: u32)
-        ensures { self.new ≡ closed d self.old }
+        ensures { self.new ≡ connection_closed d self.old }
     {
         if let Some(at) = place_of(&self.connections, d) {
             let _ = self.connections.remove(at);

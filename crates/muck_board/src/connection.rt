@@ -3,8 +3,8 @@ ghost use Rattle.std.specs.Prelude.{◌≡◌, ◌≤◌, OnOk, OnErr, IfOk, Mat
 ghost use Rattle.std.specs.List.{list_any};
 ghost use Rattle.std.specs.Option.{option_map_or};
 ghost use Rattle.spec_live.specs.Objects.{same};
-ghost use Rattle.spec_live.specs.Output.{bytes_of, taken};
-ghost use Rattle.spec_live.specs.Connections.{newcomer, takes_line, is_ready, told_where, left, left_where, seated, lined, edited, edits, edited_where, is_of, hears, has_player};
+ghost use Rattle.spec_live.specs.Output.{bytes_of, output_taken};
+ghost use Rattle.spec_live.specs.Connections.{newcomer, takes_line, is_ready, told_where, left, left_where, player_seated, lined, editor_set, edits, edited_where, is_connection_of, hears, has_player};
 ghost use Rattle.muck_board.specs.inner.Silent.{quiet, told_lines};
 
 use crate::output::Output;
@@ -40,7 +40,7 @@ impl Model for Connection {
 
 impl Connection {
     /// A connection without a player, which is greeted with a text.
-    #[tactic(auto, unfolding(spec_live::specs::Output::sent))]
+    #[tactic(auto, unfolding(spec_live::specs::Output::text_sent))]
     pub(crate) fn new(alloc: Global, number: u32, greeting: &[u8]) -> Result<Self, NoMemory>
         ensures { IfOk result (λ c. c ≡ newcomer number greeting.now) }
     {
@@ -105,7 +105,7 @@ impl Connection {
 
     /// Whether it is a connection of that player.
     pub fn is_of(&self, player: Dbref) -> bool
-        ensures { result ≡ is_of player self.now }
+        ensures { result ≡ is_connection_of player self.now }
     {
         match self.player {
             Some(own) => player == own,
@@ -162,13 +162,13 @@ impl Connection {
     }
 
     pub(crate) fn seat(&mut self, player: Dbref)
-        ensures { self.new ≡ seated player self.old }
+        ensures { self.new ≡ player_seated player self.old }
     {
         self.player = Some(player);
     }
 
     pub(crate) fn set_editor(&mut self, editor: Option<EditState>)
-        ensures { self.new ≡ edited editor self.old }
+        ensures { self.new ≡ editor_set editor self.old }
     {
         self.editor = editor;
     }
@@ -176,7 +176,7 @@ impl Connection {
     /// Takes what is edited out.
     pub(crate) fn take_editor(&mut self) -> Option<EditState>
         ensures editor { result ≡ self.old.editor }
-        ensures rest { self.new ≡ edited None self.old }
+        ensures rest { self.new ≡ editor_set None self.old }
     {
         self.editor.take()
     }
@@ -195,7 +195,7 @@ impl Connection {
     pub(crate) fn take(&mut self, buf: &mut [u8]) -> usize
         ensures count { result ≡ min (length (bytes_of self.old.output)) (length buf.old) }
         ensures bytes { take result buf.new ≡ take result (bytes_of self.old.output) }
-        ensures rest { self.new ≡ record self.old { output = taken result self.old.output } }
+        ensures rest { self.new ≡ record self.old { output = output_taken result self.old.output } }
         ensures left { bytes_of self.new.output ≡ drop result (bytes_of self.old.output) }
     {
         self.output.take(buf)

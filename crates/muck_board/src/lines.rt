@@ -1,6 +1,6 @@
 // Lines that wait to be sent.
 ghost use Rattle.std.specs.Prelude.{◌≡◌, ◌≤◌, ◌<◌, ◌++◌, [], OnOk, OnErr, MatchBool, length, drop};
-ghost use Rattle.spec_live.specs.Output.{lines_bytes, newest};
+ghost use Rattle.spec_live.specs.Output.{sent_lines_bytes, newest};
 ghost use Rattle.muck_board.specs.inner.Waiting.{Begins, end_behind};
 
 use crate::sent::Sent;
@@ -87,14 +87,14 @@ impl Lines {
 
     // The bytes of whole lines.
     fn whole(&self) -> &[u8]
-        ensures { result.now ≡ lines_bytes self.now.lines }
+        ensures { result.now ≡ sent_lines_bytes self.now.lines }
     {
         self.bytes.split_at(self.from).1
     }
 
     /// How many bytes whole lines have.
     pub fn len(&self) -> usize
-        ensures { result ≡ length (lines_bytes self.now.lines) }
+        ensures { result ≡ length (sent_lines_bytes self.now.lines) }
     {
         self.whole().len()
     }
@@ -142,7 +142,7 @@ impl Lines {
 
     /// Lets the oldest whole lines go until no more than so many bytes are left.
     pub fn keep_newest(&mut self, room: usize)
-        requires { room < length (lines_bytes self.old.lines) }
+        requires { room < length (sent_lines_bytes self.old.lines) }
         ensures { self.new ≡ record self.old { lines = newest room self.old.lines } }
     {
         let whole = self.whole();

@@ -1,6 +1,6 @@
 // What waits to be sent to a connection.
 ghost use Rattle.std.specs.Prelude.{◌≡◌, ℕ, ◌+◌, ◌-◌, ◌<◌, ◌≤◌, OnOk, MatchBool, [], ◌++◌, length, take, drop, min};
-ghost use Rattle.spec_live.specs.Output.{no_output, notice_of, lines_bytes, bytes_of, lines_sent, taken};
+ghost use Rattle.spec_live.specs.Output.{no_output, notice_of, sent_lines_bytes, bytes_of, lines_sent, output_taken};
 ghost use Rattle.muck_board.specs.inner.Sent.{sent_most};
 ghost use Rattle.muck_board.specs.inner.Bounded.{kept_newest};
 
@@ -67,7 +67,7 @@ fn copy_at(buf: &mut [u8], at: usize, bytes: &[u8]) -> usize
 
 impl Output {
     /// Nothing waits.
-    #[tactic(auto, unfolding(spec_live::specs::Output::lines_bytes))]
+    #[tactic(auto, unfolding(spec_live::specs::Output::sent_lines_bytes))]
     pub fn new(alloc: Global) -> Output
         ensures { result ≡ no_output }
     {
@@ -102,7 +102,7 @@ impl Output {
     fn make_room(&mut self, room: usize)
         requires { length self.old.rest + room ≤ 131072 }
         ensures room { self.new ≡ kept_newest room self.old }
-        ensures most { length (lines_bytes self.new.lines) ≤ room }
+        ensures most { length (sent_lines_bytes self.new.lines) ≤ room }
     {
         if self.lines.len() > room {
             self.lines.keep_newest(room);
@@ -112,7 +112,7 @@ impl Output {
 
     // Puts lines at the end, for which there is room.
     fn push_back(&mut self, sent: &Sent) -> Result<(), NoMemory>
-        requires { length self.old.rest + length (lines_bytes sent.now) + length (lines_bytes self.old.lines) ≤ 131072 }
+        requires { length self.old.rest + length (sent_lines_bytes sent.now) + length (sent_lines_bytes self.old.lines) ≤ 131072 }
         ensures { OnOk result (self.new ≡ record self.old { lines = self.old.lines ++ sent.now }) }
     {
         self.lines.push(sent)?;
@@ -132,7 +132,7 @@ impl Output {
     // Where nothing was begun, begins with the notice or the first line. It answers whether anything is there.
     fn begin(&mut self) -> bool
         ensures same { bytes_of self.new ≡ bytes_of self.old }
-        ensures taken { (k : ℕ) → 0 < k → taken k self.new ≡ taken k self.old }
+        ensures taken { (k : ℕ) → 0 < k → output_taken k self.new ≡ output_taken k self.old }
         ensures begun { MatchBool result (0 < length self.new.rest) ((bytes_of self.old ≡ []) × (self.new ≡ self.old)) }
     {
         if !self.rest().is_empty() {
@@ -178,7 +178,7 @@ impl Output {
     pub fn take(&mut self, buf: &mut [u8]) -> usize
         ensures count { result ≡ min (length (bytes_of self.old)) (length buf.old) }
         ensures bytes { take result buf.new ≡ take result (bytes_of self.old) }
-        ensures rest { self.new ≡ taken result self.old }
+        ensures rest { self.new ≡ output_taken result self.old }
         ensures left { bytes_of self.new ≡ drop result (bytes_of self.old) }
     {
         let mut n = 0;

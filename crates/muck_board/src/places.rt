@@ -1,13 +1,13 @@
 // Where connections stand that are kept by rising number.
 ghost use Rattle.std.specs.Prelude.{◌≡◌, ◌≤◌, length, nat_lt};
 ghost use Rattle.std.specs.List.{position, position_or_len};
-ghost use Rattle.spec_live.specs.Connections.{has_number};
+ghost use Rattle.spec_live.specs.Connections.{is_connection};
 
 use crate::connection::Connection;
 
 /// The place of the connection of a number.
 pub fn place_of(connections: &[Connection], d: u32) -> Option<usize>
-    ensures { result ≡ position (has_number d) connections.now }
+    ensures { result ≡ position (is_connection d) connections.now }
 {
     connections.iter().position(|c| c.number() == d)
 }

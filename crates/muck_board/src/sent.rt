@@ -1,7 +1,7 @@
 // A text as it is sent.
 ghost use Rattle.std.specs.Prelude.{◌≡◌, ◌<◌, ◌≤◌, ◌++◌, IfOk, OnOk, length};
 ghost use Rattle.std.specs.List.{AllByRecursion};
-ghost use Rattle.spec_live.specs.Output.{sent_form, lines_bytes, sent_lines};
+ghost use Rattle.spec_live.specs.Output.{sent_form, sent_lines_bytes, sent_lines};
 ghost use Rattle.muck_board.specs.inner.Sent.{IsLine, sent_most};
 
 use crate::split::{cut, cut_piece};
@@ -54,7 +54,7 @@ impl Sent {
 
     /// The bytes that are sent.
     pub fn as_slice(&self) -> &[u8]
-        ensures bytes { result.now ≡ lines_bytes self.now }
+        ensures bytes { result.now ≡ sent_lines_bytes self.now }
         ensures each { AllByRecursion IsLine self.now }
         ensures some { 0 < length result.now }
         ensures most { length result.now ≤ sent_most }

@@ -1,13 +1,15 @@
 -- The head of a file, by its first 34 bytes.
-use Rattle.std.proofs.Common.{◌≡◌, ◌≢◌, ℕ, zero, suc, ◌+◌, ◌-◌, ◌<◌, ◌≤◌, Bool, true, false, leb, eqb, List, [], ◌∷◌, ◌++◌, length, take, drop, get_or, Some, None, refl, sym, ◌∙◌, ap, subst, arith, length-take, length-drop}
+use Rattle.std.proofs.Common.{◌≡◌, ◌≢◌, ℕ, zero, suc, ◌+◌, ◌-◌, ◌<◌, ◌≤◌, Bool, true, false, leb, eqb, List, [], ◌∷◌, length, take, drop, get_or, Some, None, refl, sym, ◌∙◌, ap, subst, arith, length-take, length-drop}
 use Rattle.std.specs.Prelude.{min, find, if◌then◌else◌, ◌&&◌, bytes_eq}
-use Rattle.std.proofs.lemmas.List.{drop-drop, drop-take, take-take, take_all}
-use Rattle.std.proofs.Math.Seq.{take-add}
-use Rattle.std.proofs.lemmas.Bool.{le-leb, lt-leb, leb-true, leb-false}
+use Rattle.std.proofs.lemmas.List.{drop-drop, take-take}
+use Rattle.std.proofs.lemmas.Bool.{le-leb, lt-leb}
 use Rattle.std.specs.Int.{w64, from_be_bytes}
 use Rattle.std.specs.Option.{option_map_or}
+use Rattle.muck_laws.proofs.Parts.{body_front, nine}
+use Rattle.muck_laws.proofs.Places.{first_byte}
+use Rattle.muck_laws.proofs.Texts.{same_word, size_word}
 use Rattle.muck_log.specs.Body.{Body, body_of, magic}
-use Rattle.muck_bodies.specs.Bodies.{bodies, bodies_of, body_numbered, number_of, generation_of}
+use Rattle.muck_bodies.specs.Bodies.{bodies_up_to, bodies_of, body_numbered, body_number, generation_of}
 use Rattle.muck_bodies.proofs.Firsts.{first_short, first_shut, first_cut, first_whole}
 use Rattle.muck_bodies.specs.declared.head.Head.{Head}
 use Rattle.muck_bodies.specs.inner.Heads.{IsHead, IsWhole}
@@ -17,26 +19,16 @@ record IsFront (front file : List ℕ) (left : ℕ) : Type 0 where
   size : length file ≡ left
   same : front ≡ take 34 file
 
-none_too : (file : List ℕ) → ((n : ℕ) → bodies (suc n) file ≡ []) → (n : ℕ) → bodies n file ≡ []
-unfolding bodies
+none_too : (file : List ℕ) → ((n : ℕ) → bodies_up_to (suc n) file ≡ []) → (n : ℕ) → bodies_up_to n file ≡ []
+unfolding bodies_up_to
 none_too file none zero = refl
 none_too file none (suc n) = none n
 
 pub short_head : (front file : List ℕ) (left : ℕ) → length front ≡ min left 34 → length file ≡ left → front ≡ take 34 file → length front < 9 → IsHead None file
 short_head front file left long size same short = none_too file (first_short file (omega (arith, long, size, short)))
 
-first_byte : (file : List ℕ) (d : ℕ) → get_or (take 34 file) 0 d ≡ get_or file 0 d
-first_byte [] d = refl
-first_byte (x ∷ file) d = refl
-
 pub shut_head : (front file : List ℕ) (left d : ℕ) → length file ≡ left → front ≡ take 34 file → get_or front 0 d ≢ 1 → IsHead None file
 shut_head front file left d size same shut = none_too file (first_shut file d (λ e. shut (ap (λ l. get_or l 0 d) same ∙ first_byte file d ∙ e)))
-
-pub size_word : (front file rest : List ℕ) → front ≡ take 34 file → rest ≡ drop 1 front → from_be_bytes w64 (take 8 rest) ≡ from_be_bytes w64 (take 8 (drop 1 file))
-size_word front file rest same at = ap (λ l. from_be_bytes w64 (take 8 l)) (at ∙ ap (drop 1) same ∙ drop-take 1 33 file) ∙ ap (from_be_bytes w64) (take-take 8 33 (drop 1 file) (omega arith))
-
-nine : (file : List ℕ) → drop 8 (drop 1 file) ≡ drop 9 file
-nine file = drop-drop 8 1 file
 
 pub cut_head : (front file rest : List ℕ) (left size : ℕ) → length file ≡ left → front ≡ take 34 file → rest ≡ drop 1 front → size ≡ from_be_bytes w64 (take 8 rest) → left - 9 < size → IsHead None file
 cut_head front file rest left size long same at is cut =
@@ -45,7 +37,7 @@ cut_head front file rest left size long same at is cut =
 
 -- what follows from a body that is there
 pub whole_head : (front file rest : List ℕ) (left size d : ℕ) → length file ≡ left → front ≡ take 34 file → rest ≡ drop 1 front → size ≡ from_be_bytes w64 (take 8 rest) → get_or front 0 d ≡ 1 → 9 ≤ length front → size ≤ left - 9
-    → (9 + size ≤ length file) × ((n : ℕ) → bodies (suc n) file ≡ take size (drop 9 file) ∷ bodies n (drop (9 + size) file))
+    → (9 + size ≤ length file) × ((n : ℕ) → bodies_up_to (suc n) file ≡ take size (drop 9 file) ∷ bodies_up_to n (drop (9 + size) file))
 whole_head front file rest left size d long same at is gate some fits =
     let s : size ≡ from_be_bytes w64 (take 8 (drop 1 file)) = is ∙ size_word front file rest same at in
     let enough : 9 ≤ length file = omega (arith, some, ap length same, length-take 34 file) in
@@ -53,8 +45,8 @@ whole_head front file rest left size d long same at is gate some fits =
     let room : from_be_bytes w64 (take 8 (drop 1 file)) ≤ length (drop 8 (drop 1 file)) = subst (λ n. n ≤ length (drop 8 (drop 1 file))) s (subst (λ l. size ≤ length l) (sym (nine file)) (omega (arith, fits, long, length-drop 9 file))) in (
       omega (arith, fits, long, enough),
       λ n. first_whole file d open_ enough room n
-          ∙ ap (λ m. take m (drop 8 (drop 1 file)) ∷ bodies n (drop m (drop 8 (drop 1 file)))) (sym s) ∙ ap (λ l. take size l ∷ bodies n (drop size l)) (nine file)
-          ∙ ap (λ l. take size (drop 9 file) ∷ bodies n l) (drop-drop size 9 file),
+          ∙ ap (λ m. take m (drop 8 (drop 1 file)) ∷ bodies_up_to n (drop m (drop 8 (drop 1 file)))) (sym s) ∙ ap (λ l. take size l ∷ bodies_up_to n (drop size l)) (nine file)
+          ∙ ap (λ l. take size (drop 9 file) ∷ bodies_up_to n l) (drop-drop size 9 file),
     )
 
 -- The generation and the number of a body stand in its first 25 bytes.
@@ -78,19 +70,11 @@ same_front f size l big fits e =
     ap (λ t. option_map_or f (if t then Some (parsed (take 25 l)) else None) 0) (same_test size l big fits)
     ∙ by_test f (leb 25 (length (take size l)) && bytes_eq (take 5 (take size l)) magic) (parsed (take 25 l)) (parsed (take size l)) e
 
-word_in : (n size : ℕ) (l : List ℕ) → n + 8 ≤ size → take 8 (drop n (take size l)) ≡ take 8 (drop n l)
-word_in n size l le =
-    let k : size ≡ n + (size - n) = omega (arith, le) in
-    ap (λ m. take 8 (drop n (take m l))) k ∙ ap (take 8) (drop-take n (size - n) l) ∙ take-take 8 (size - n) (drop n l) (omega (arith, le))
-
-same_word : (n size : ℕ) (l : List ℕ) → n + 8 ≤ 25 → 25 ≤ size → from_be_bytes w64 (take 8 (drop n (take 25 l))) ≡ from_be_bytes w64 (take 8 (drop n (take size l)))
-same_word n size l le big = ap (from_be_bytes w64) (word_in n 25 l le ∙ sym (word_in n size l (omega (arith, le, big))))
-
 pub same_generation : (size : ℕ) (l : List ℕ) → 25 ≤ size → size ≤ length l → generation_of (take 25 l) ≡ generation_of (take size l)
 unfolding parsed
 same_generation size l big fits = same_front (λ (b : Body). b.generation) size l big fits (same_word 5 size l (omega arith) big)
 
-pub same_number : (size : ℕ) (l : List ℕ) → 25 ≤ size → size ≤ length l → number_of (take 25 l) ≡ number_of (take size l)
+pub same_number : (size : ℕ) (l : List ℕ) → 25 ≤ size → size ≤ length l → body_number (take 25 l) ≡ body_number (take size l)
 unfolding parsed
 same_number size l big fits = same_front (λ (b : Body). b.number) size l big fits (same_word 13 size l (omega arith) big)
 
@@ -100,12 +84,8 @@ small_mark f file size small =
     let bytes = take size (drop 9 file) in
     sym (ap (λ t. option_map_or f (if t && bytes_eq (take 5 bytes) magic then Some (parsed bytes) else None) 0) (lt-leb 25 (length bytes) (omega (arith, small, length-take size (drop 9 file)))))
 
--- of a file of which these are the first 34 bytes
-body_front : (front file body : List ℕ) → front ≡ take 34 file → body ≡ drop 9 front → body ≡ take 25 (drop 9 file)
-body_front front file body same at = at ∙ ap (drop 9) same ∙ drop-take 9 25 file
-
 pub small_whole : (h : Head) (file : List ℕ) → h.generation ≡ 0 → h.number ≡ 0 → h.size < 25 → 9 + h.size ≤ length file
-    → ((n : ℕ) → bodies (suc n) file ≡ take h.size (drop 9 file) ∷ bodies n (drop (9 + h.size) file)) → IsWhole h file
+    → ((n : ℕ) → bodies_up_to (suc n) file ≡ take h.size (drop 9 file) ∷ bodies_up_to n (drop (9 + h.size) file)) → IsWhole h file
 small_whole h file generation number small fits first = record {
   fits = fits;
   number = number ∙ small_mark (λ (b : Body). b.number) file h.size small;
@@ -113,32 +93,19 @@ small_whole h file generation number small fits first = record {
   first = first;
 }
 
-pub large_whole : (h : Head) (front file body : List ℕ) → front ≡ take 34 file → body ≡ drop 9 front → h.generation ≡ generation_of body → h.number ≡ number_of body → 25 ≤ h.size → 9 + h.size ≤ length file
-    → ((n : ℕ) → bodies (suc n) file ≡ take h.size (drop 9 file) ∷ bodies n (drop (9 + h.size) file)) → IsWhole h file
+pub large_whole : (h : Head) (front file body : List ℕ) → front ≡ take 34 file → body ≡ drop 9 front → h.generation ≡ generation_of body → h.number ≡ body_number body → 25 ≤ h.size → 9 + h.size ≤ length file
+    → ((n : ℕ) → bodies_up_to (suc n) file ≡ take h.size (drop 9 file) ∷ bodies_up_to n (drop (9 + h.size) file)) → IsWhole h file
 large_whole h front file body same at generation number large fits first =
     let here = body_front front file body same at in
     let inside : h.size ≤ length (drop 9 file) = omega (arith, fits, length-drop 9 file) in record {
       fits = fits;
-      number = number ∙ ap (λ l. number_of l) here ∙ same_number h.size (drop 9 file) large inside;
+      number = number ∙ ap (λ l. body_number l) here ∙ same_number h.size (drop 9 file) large inside;
       generation = generation ∙ ap (λ l. generation_of l) here ∙ same_generation h.size (drop 9 file) large inside;
       first = first;
     }
 
--- more bytes of a part, and no more
-pub part_more : (whole got buf front : List ℕ) (i n m : ℕ) → got ≡ take i whole → m ≤ n → take n buf ≡ take n (drop i whole) → front ≡ take m buf → got ++ front ≡ take (i + m) whole
-part_more whole got buf front i n m so le read at =
-    ap (λ l. l ++ front) so ∙ ap (λ l. take i whole ++ l) (at ∙ sym (take-take m n buf le) ∙ ap (take m) read ∙ take-take m n (drop i whole) le) ∙ sym (take-add i m whole)
-
--- the first 34 bytes, or all
-pub front_of : (whole buf front : List ℕ) (n left : ℕ) → length whole ≡ left → n ≡ min 34 left → take n buf ≡ take n whole → front ≡ take n buf → front ≡ take 34 whole
-front_of whole buf front n left size is read at = at ∙ read ∙ by (leb 34 left) refl
-  where
-    by : (b : Bool) → leb 34 left ≡ b → take n whole ≡ take 34 whole
-    by true e = let more : 34 ≤ left = leb-true 34 left e in let k : n ≡ 34 = omega (arith, is, more) in ap (λ m. take m whole) k
-    by false e = let less : left < 34 = leb-false 34 left e in take_all n whole (omega (arith, is, size, less)) ∙ sym (take_all 34 whole (omega (arith, size, less)))
-
-same_fuel : (n m : ℕ) (file : List ℕ) → length file ≤ n → length file ≤ m → bodies n file ≡ bodies m file
-unfolding bodies
+same_fuel : (n m : ℕ) (file : List ℕ) → length file ≤ n → length file ≤ m → bodies_up_to n file ≡ bodies_up_to m file
+unfolding bodies_up_to
 same_fuel zero zero [] a b = refl
 same_fuel zero (suc m) [] a b = refl
 same_fuel (suc n) zero [] a b = refl
@@ -152,30 +119,30 @@ same_fuel (suc n) (suc m) (g ∷ x ∷ rest) a b =
     (same_fuel n m (drop (8 + size) (x ∷ rest)) (omega (arith, a, length-drop (8 + size) (x ∷ rest))) (omega (arith, b, length-drop (8 + size) (x ∷ rest))))
 
 -- nor is there one in no bytes
-pub no_bodies : (file : List ℕ) → length file ≡ 0 → (n : ℕ) → bodies n file ≡ []
-unfolding bodies
+pub no_bodies : (file : List ℕ) → length file ≡ 0 → (n : ℕ) → bodies_up_to n file ≡ []
+unfolding bodies_up_to
 no_bodies [] e zero = refl
 no_bodies [] e (suc n) = refl
 no_bodies (x ∷ file) e n = absurd (omega (arith, e))
 
-pub found_none : (number : ℕ) (file : List ℕ) → ((n : ℕ) → bodies n file ≡ []) → body_numbered number (bodies_of file) ≡ None
+pub found_none : (number : ℕ) (file : List ℕ) → ((n : ℕ) → bodies_up_to n file ≡ []) → body_numbered number (bodies_of file) ≡ None
 unfolding body_numbered bodies_of
-found_none number file none = ap (find (λ b. eqb (number_of b) number)) (none (length file))
+found_none number file none = ap (find (λ b. eqb (body_number b) number)) (none (length file))
 
 pub found_end : (number at : ℕ) (file : List ℕ) → length file ≤ at → body_numbered number (bodies_of (drop at file)) ≡ None
-unfolding bodies
+unfolding bodies_up_to
 found_end number at file le = found_none number (drop at file) (nothing (drop at file) (omega (arith, le, length-drop at file)))
   where
-    nothing : (l : List ℕ) → length l ≤ 0 → (n : ℕ) → bodies n l ≡ []
+    nothing : (l : List ℕ) → length l ≤ 0 → (n : ℕ) → bodies_up_to n l ≡ []
     nothing l le n = same_fuel n 0 l (omega (arith, le)) le
 
-pub found_next : (number size n : ℕ) (file : List ℕ) (b : Bool) → 9 + size ≤ length file → n ≡ number_of (take size (drop 9 file))
-    → ((n : ℕ) → bodies (suc n) file ≡ take size (drop 9 file) ∷ bodies n (drop (9 + size) file)) → eqb n number ≡ b
+pub found_next : (number size n : ℕ) (file : List ℕ) (b : Bool) → 9 + size ≤ length file → n ≡ body_number (take size (drop 9 file))
+    → ((n : ℕ) → bodies_up_to (suc n) file ≡ take size (drop 9 file) ∷ bodies_up_to n (drop (9 + size) file)) → eqb n number ≡ b
     → body_numbered number (bodies_of file) ≡ (if b then Some (take size (drop 9 file)) else body_numbered number (bodies_of (drop (9 + size) file)))
 unfolding body_numbered bodies_of
 found_next number size n file b fits is first test =
     let rest = drop (9 + size) file in
     let k : length file ≡ suc (length file - 1) = omega (arith, fits) in
-    let shape : bodies (length file) file ≡ take size (drop 9 file) ∷ bodies (length rest) rest =
-    ap (λ m. bodies m file) k ∙ first (length file - 1) ∙ ap (λ l. take size (drop 9 file) ∷ l) (same_fuel (length file - 1) (length rest) rest (omega (arith, fits, length-drop (9 + size) file)) (omega arith)) in
-    ap (find (λ x. eqb (number_of x) number)) shape ∙ ap (λ t. if t then Some (take size (drop 9 file)) else find (λ x. eqb (number_of x) number) (bodies (length rest) rest)) (ap (λ m. eqb m number) (sym is) ∙ test)
+    let shape : bodies_up_to (length file) file ≡ take size (drop 9 file) ∷ bodies_up_to (length rest) rest =
+    ap (λ m. bodies_up_to m file) k ∙ first (length file - 1) ∙ ap (λ l. take size (drop 9 file) ∷ l) (same_fuel (length file - 1) (length rest) rest (omega (arith, fits, length-drop (9 + size) file)) (omega arith)) in
+    ap (find (λ x. eqb (body_number x) number)) shape ∙ ap (λ t. if t then Some (take size (drop 9 file)) else find (λ x. eqb (body_number x) number) (bodies_up_to (length rest) rest)) (ap (λ m. eqb m number) (sym is) ∙ test)

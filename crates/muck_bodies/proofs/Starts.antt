@@ -4,31 +4,29 @@ use Rattle.std.specs.Prelude.{if◌then◌else◌, option_map, ◌&&◌}
 use Rattle.std.specs.Option.{option_map_or}
 use Rattle.std.specs.Int.{w64, from_be_bytes}
 use Rattle.std.proofs.lemmas.Bool.{cond-true, cond-false, and_parts, eqb-true, leb-true}
+use Rattle.muck_laws.proofs.Lists.{firsts_same, no_first}
+use Rattle.muck_laws.proofs.Options.{and_then_some, cond_some, map_some}
 use Rattle.muck_log.specs.Body.{Body, body_of}
 use Rattle.muck_log.specs.World.{laid}
-use Rattle.muck_log.specs.File.{Held, End, Opened, join, follows, begin, file_of, header, is_open}
-use Rattle.muck_log.specs.Store.{Chosen, Damage, stored, picked, loaded, newer, pick}
-use Rattle.muck_log.proofs.Fronts.{cond_some, map_some, and_then_some}
+use Rattle.muck_log.specs.File.{Held, ReadingEnd, Opened, join, follows, begin, file_of, header, is_gate_open}
+use Rattle.muck_log.specs.Store.{Chosen, Damage, store_of, file_picked, file_loaded, newer, pick}
 use Rattle.muck_log.proofs.Files.{opened, file_facts, none_shut}
 use Rattle.muck_bodies.specs.declared.head.Head.{Head}
 use Rattle.muck_bodies.specs.declared.beginning.Start.{Start}
-use Rattle.muck_bodies.specs.Bodies.{bodies, bodies_of, generation_of, first_number, IsStart, Lead}
+use Rattle.muck_bodies.specs.Bodies.{bodies_up_to, bodies_of, generation_of, first_number, IsStart, Lead}
 use Rattle.muck_bodies.specs.inner.Heads.{IsHead, IsWhole, start_at, chosen_start}
 use Rattle.muck_bodies.proofs.Heads.{same_generation}
 use Rattle.muck_bodies.proofs.Leading.{leads}
 
 -- a file whose first gate isn't open has no body
-pub shut_bodies : (file : List ℕ) → is_open file ≡ false → (n : ℕ) → bodies n file ≡ []
-unfolding bodies is_open
+pub shut_bodies : (file : List ℕ) → is_gate_open file ≡ false → (n : ℕ) → bodies_up_to n file ≡ []
+unfolding bodies_up_to is_gate_open
 shut_bodies file shut zero = refl
 shut_bodies [] shut (suc n) = refl
 shut_bodies (g ∷ []) shut (suc n) = refl
 shut_bodies (g ∷ x ∷ rest) shut (suc n) = cond-false (eqb g 1) _ _ shut
 
-no_first : {A : Type 0} (x : A) (xs : List A) → [] ≡ x ∷ xs → ⊥
-no_first x xs e = cc
-
-pub shut_head_none : (h : Option Head) (file : List ℕ) → is_open file ≡ false → IsHead h file → h ≡ None
+pub shut_head_none : (h : Option Head) (file : List ℕ) → is_gate_open file ≡ false → IsHead h file → h ≡ None
 shut_head_none None file shut is = refl
 shut_head_none (Some h) file shut is = absurd (no_first _ _ (sym (shut_bodies file shut 1) ∙ is.first 0))
 
@@ -59,7 +57,7 @@ pub record Opens (g : ℕ) (h : Option Head) (file : List ℕ) : Type 0 where
   pub generation : head.generation ≡ g
   pub first : head.number ≡ first_number (bodies_of file)
 
-pub opens : (g : ℕ) (e : End) (h : Option Head) (file : List ℕ) → file_of file ≡ opened g e → IsHead h file → Opens g h file
+pub opens : (g : ℕ) (e : ReadingEnd) (h : Option Head) (file : List ℕ) → file_of file ≡ opened g e → IsHead h file → Opens g h file
 unfolding bodies_of begin
 opens g e None file is head =
     let f = file_facts g e file is in
@@ -67,8 +65,8 @@ opens g e None file is head =
     absurd (omega (arith, f.counts, ap (λ (k : Held). k.count) lead))
 opens g e (Some x) file is w =
     let k : length file ≡ suc (length file - 1) = omega (arith, w.fits) in
-    let shape : bodies_of file ≡ take x.size (drop 9 file) ∷ bodies (length file - 1) (drop (9 + x.size) file) = ap (λ m. bodies m file) k ∙ w.first (length file - 1) in
-    let lead : Lead (begin g) (take x.size (drop 9 file) ∷ bodies (length file - 1) (drop (9 + x.size) file)) e.held = subst (λ bs. Lead (begin g) bs e.held) shape (leads file g e is) in
+    let shape : bodies_of file ≡ take x.size (drop 9 file) ∷ bodies_up_to (length file - 1) (drop (9 + x.size) file) = ap (λ m. bodies_up_to m file) k ∙ w.first (length file - 1) in
+    let lead : Lead (begin g) (take x.size (drop 9 file) ∷ bodies_up_to (length file - 1) (drop (9 + x.size) file)) e.held = subst (λ bs. Lead (begin g) bs e.held) shape (leads file g e is) in
     record {
       head = x;
       is = refl;
@@ -77,22 +75,19 @@ opens g e (Some x) file is w =
     }
 
 -- the head of a file that is open, whatever stands behind
-open_parts : (o : Opened) (file : List ℕ) → file_of file ≡ Some (Some o) → (is_open file ≡ true) × (header file ≡ Some o.generation)
+open_parts : (o : Opened) (file : List ℕ) → file_of file ≡ Some (Some o) → (is_gate_open file ≡ true) × (header file ≡ Some o.generation)
 unfolding file_of
 open_parts o file is =
-    let open_one = cond_some (is_open file) _ _ is in
+    let open_one = cond_some (is_gate_open file) _ _ is in
     let with_head = map_some _ (header file) _ (inner open_one.1) in
     (open_one.0, with_head.1 ∙ ap Some (ap (λ (p : Opened). p.generation) with_head.2))
   where
     inner : {A : Type 0} {a b : A} → Some a ≡ Some b → a ≡ b
     inner h = cc
 
-firsts_same : {A : Type 0} (x y : A) (xs ys : List A) → x ∷ xs ≡ y ∷ ys → x ≡ y
-firsts_same x y xs ys e = cc
-
 -- its first body, where it has one
-body_there : (file : List ℕ) (x : List ℕ) (xs : List (List ℕ)) → bodies 1 file ≡ x ∷ xs → (from_be_bytes w64 (take 8 (drop 1 file)) ≤ length (drop 9 file)) × (x ≡ take (from_be_bytes w64 (take 8 (drop 1 file))) (drop 9 file))
-unfolding bodies
+body_there : (file : List ℕ) (x : List ℕ) (xs : List (List ℕ)) → bodies_up_to 1 file ≡ x ∷ xs → (from_be_bytes w64 (take 8 (drop 1 file)) ≤ length (drop 9 file)) × (x ≡ take (from_be_bytes w64 (take 8 (drop 1 file))) (drop 9 file))
+unfolding bodies_up_to
 body_there [] x xs e = absurd (no_first x xs e)
 body_there (g ∷ []) x xs e = absurd (no_first x xs e)
 body_there (g ∷ y ∷ rest) x xs e = by_gate (eqb g 1) e
@@ -119,7 +114,7 @@ head_generation x file g is w =
     let size = from_be_bytes w64 (take 8 (drop 1 file)) in
     let may = cond_some (leb 34 (length file) && leb 25 size) (option_map (λ (b : Body). b.generation) (body_of (take 25 (drop 9 file)))) g is in
     let parts = and_parts (leb 34 (length file)) (leb 25 size) may.0 in
-    let there = body_there file (take x.size (drop 9 file)) (bodies 0 (drop (9 + x.size) file)) (w.first 0) in
+    let there = body_there file (take x.size (drop 9 file)) (bodies_up_to 0 (drop (9 + x.size) file)) (w.first 0) in
     w.generation ∙ ap (λ l. generation_of l) there.1 ∙ sym (same_generation size (drop 9 file) (leb-true 25 size parts.1) there.0) ∙ generation_is (take 25 (drop 9 file)) g may.1
 
 -- the file that counts
@@ -135,7 +130,7 @@ not_ok d s h = cc
 pub ok_same : (a b : Chosen) → ◌≡◌ {A = Result Chosen Damage} (Ok a) (Ok b) → a ≡ b
 ok_same a b h = cc
 
-counts_so : (second : Bool) (g : ℕ) (ending : Result End ℕ) (h : Option Head) (s : Chosen) (file : List ℕ) → file_of file ≡ Some (Some (record { generation = g; ending = ending })) → IsHead h file → loaded second ending ≡ Ok s → Counts second h s file
+counts_so : (second : Bool) (g : ℕ) (ending : Result ReadingEnd ℕ) (h : Option Head) (s : Chosen) (file : List ℕ) → file_of file ≡ Some (Some (record { generation = g; ending = ending })) → IsHead h file → file_loaded second ending ≡ Ok s → Counts second h s file
 unfolding begin
 counts_so second g (Err at) h s file is head loads = absurd (not_ok _ s loads)
 counts_so second g (Ok e) h s file is head loads =
@@ -152,7 +147,7 @@ counts_so second g (Ok e) h s file is head loads =
       };
     }
 
-counts : (second : Bool) (o : Opened) (h : Option Head) (s : Chosen) (file : List ℕ) → file_of file ≡ Some (Some o) → IsHead h file → loaded second o.ending ≡ Ok s → Counts second h s file
+counts : (second : Bool) (o : Opened) (h : Option Head) (s : Chosen) (file : List ℕ) → file_of file ≡ Some (Some o) → IsHead h file → file_loaded second o.ending ≡ Ok s → Counts second h s file
 counts second o h s file is head loads = counts_so second o.generation o.ending h s file is head loads
 
 abbrev Begun : Option Head → Option Head → Chosen → List ℕ → List ℕ → Type 0
@@ -166,7 +161,7 @@ second_counts : (ha hb : Option Head) (s : Chosen) (a b : List ℕ) → (x : Cou
 second_counts ha hb s a b x e =
     subst (λ k. IsStart (chosen_start ha k) s (pick s.second a b)) (sym x.is) (subst (λ k. IsStart (chosen_start ha (Some x.head)) s (pick k a b)) (sym x.second_is) (subst (λ (k : Start). IsStart k s b) (sym e) x.starts))
 
-neither : (s : Chosen) (a b : List ℕ) → is_open a ≡ false → is_open b ≡ false → record { second = false; place = 0; held = begin 1 } ≡ s → Begun None None s a b
+neither : (s : Chosen) (a b : List ℕ) → is_gate_open a ≡ false → is_gate_open b ≡ false → record { second = false; place = 0; held = begin 1 } ≡ s → Begun None None s a b
 unfolding bodies_of begin
 neither s a b shut_a shut_b same = subst (λ (k : Chosen). IsStart (record { second = false; generation = 1; first = 1 }) k (pick k.second a b)) same (record {
   second = refl;
@@ -189,7 +184,7 @@ second_wins (Some x) y f g of same less = cond-false (ltb y.generation x.generat
 both_open : (oa ob : Opened) (ha hb : Option Head) (s : Chosen) (a b : List ℕ) → file_of a ≡ Some (Some oa) → file_of b ≡ Some (Some ob) → IsHead ha a → IsHead hb b → newer oa ob ≡ Ok s → Begun ha hb s a b
 both_open oa ob ha hb s a b is_a is_b head_a head_b = by_same (eqb oa.generation ob.generation)
   where
-    by_less : (t : Bool) → ltb ob.generation oa.generation ≡ t → (if t then loaded false oa.ending else loaded true ob.ending) ≡ Ok s → Begun ha hb s a b
+    by_less : (t : Bool) → ltb ob.generation oa.generation ≡ t → (if t then file_loaded false oa.ending else file_loaded true ob.ending) ≡ Ok s → Begun ha hb s a b
     by_less true less loads =
         let x = counts false oa ha s a is_a head_a loads in
         first_counts ha hb s a b x (first_wins hb x.head oa.generation ob.generation (older_head ob hb b is_b head_b) (older_head oa ha a is_a head_a x.head x.is) less)
@@ -197,12 +192,12 @@ both_open oa ob ha hb s a b is_a is_b head_a head_b = by_same (eqb oa.generation
         let y = counts true ob hb s b is_b head_b loads in
         second_counts ha hb s a b y (second_wins ha y.head oa.generation ob.generation (older_head oa ha a is_a head_a) (older_head ob hb b is_b head_b y.head y.is) less)
 
-    by_same : (t : Bool) → (if t then Err (record { second = true; at = 0 }) else (if ltb ob.generation oa.generation then loaded false oa.ending else loaded true ob.ending)) ≡ Ok s → Begun ha hb s a b
+    by_same : (t : Bool) → (if t then Err (record { second = true; at = 0 }) else (if ltb ob.generation oa.generation then file_loaded false oa.ending else file_loaded true ob.ending)) ≡ Ok s → Begun ha hb s a b
     by_same true loads = absurd (not_ok _ s loads)
     by_same false loads = by_less (ltb ob.generation oa.generation) refl loads
 
-starts_by : (fa fb : Option (Option Opened)) (ha hb : Option Head) (s : Chosen) (a b : List ℕ) → file_of a ≡ fa → file_of b ≡ fb → IsHead ha a → IsHead hb b → picked fa fb ≡ Ok s → Begun ha hb s a b
-unfolding picked
+starts_by : (fa fb : Option (Option Opened)) (ha hb : Option Head) (s : Chosen) (a b : List ℕ) → file_of a ≡ fa → file_of b ≡ fb → IsHead ha a → IsHead hb b → file_picked fa fb ≡ Ok s → Begun ha hb s a b
+unfolding file_picked
 starts_by (Some None) fb ha hb s a b is_a is_b head_a head_b loads = absurd (not_ok _ s loads)
 starts_by None (Some None) ha hb s a b is_a is_b head_a head_b loads = absurd (not_ok _ s loads)
 starts_by (Some (Some oa)) (Some None) ha hb s a b is_a is_b head_a head_b loads = absurd (not_ok _ s loads)
@@ -219,6 +214,6 @@ starts_by None (Some (Some ob)) ha hb s a b is_a is_b head_a head_b loads =
 starts_by (Some (Some oa)) (Some (Some ob)) ha hb s a b is_a is_b head_a head_b loads = both_open oa ob ha hb s a b is_a is_b head_a head_b loads
 
 -- by the first heads of both files
-pub starts_as : (ha hb : Option Head) (a b : List ℕ) (s : Chosen) (start : Start) → IsHead ha a → IsHead hb b → stored a b ≡ Ok s → start ≡ chosen_start ha hb → IsStart start s (pick s.second a b)
-unfolding stored
+pub starts_as : (ha hb : Option Head) (a b : List ℕ) (s : Chosen) (start : Start) → IsHead ha a → IsHead hb b → store_of a b ≡ Ok s → start ≡ chosen_start ha hb → IsStart start s (pick s.second a b)
+unfolding store_of
 starts_as ha hb a b s start head_a head_b loads is = subst (λ (k : Start). IsStart k s (pick s.second a b)) (sym is) (starts_by (file_of a) (file_of b) ha hb s a b refl refl head_a head_b loads)

@@ -4,7 +4,7 @@ use Rattle.std.specs.Option.{option_map_or}
 use Rattle.std.specs.Int.{w64, from_be_bytes}
 use Rattle.muck_log.specs.Body.{Body, body_of}
 use Rattle.muck_log.specs.File.{Held, join, begin}
-use Rattle.muck_log.specs.Store.{Chosen, stored, pick}
+use Rattle.muck_log.specs.Store.{Chosen, store_of, pick}
 use Rattle.muck_bodies.specs.declared.beginning.Start.{Start}
 
 -- behind a gate: the length, the body, and what begins with the next gate
@@ -12,31 +12,31 @@ abbrev pub framed_then : List ℕ → ℕ → (List ℕ → List (List ℕ)) →
 framed_then rest size more = if nat_le (8 + size) (length rest) then take size (drop 8 rest) ∷ more (drop (8 + size) rest) else []
 
 -- those of at most n batches: each open gate, which isn't the last byte, has a body behind it
-unfoldable pub bodies : ℕ → List ℕ → List (List ℕ)
-bodies zero file = []
-bodies (suc n) [] = []
-bodies (suc n) (gate ∷ []) = []
-bodies (suc n) (gate ∷ next ∷ rest) = if gate == 1 then framed_then (next ∷ rest) (from_be_bytes w64 (take 8 (next ∷ rest))) (bodies n) else []
+unfoldable pub bodies_up_to : ℕ → List ℕ → List (List ℕ)
+bodies_up_to zero file = []
+bodies_up_to (suc n) [] = []
+bodies_up_to (suc n) (gate ∷ []) = []
+bodies_up_to (suc n) (gate ∷ next ∷ rest) = if gate == 1 then framed_then (next ∷ rest) (from_be_bytes w64 (take 8 (next ∷ rest))) (bodies_up_to n) else []
 
 -- all bodies of a file
 unfoldable pub bodies_of : List ℕ → List (List ℕ)
-bodies_of file = bodies (length file) file
+bodies_of file = bodies_up_to (length file) file
 
 -- the number of a body, and its generation; 0 where it doesn't parse
-abbrev pub number_of : List ℕ → ℕ
-number_of bytes = option_map_or (λ (b : Body). b.number) (body_of bytes) 0
+abbrev pub body_number : List ℕ → ℕ
+body_number bytes = option_map_or (λ (b : Body). b.number) (body_of bytes) 0
 
 abbrev pub generation_of : List ℕ → ℕ
 generation_of bytes = option_map_or (λ (b : Body). b.generation) (body_of bytes) 0
 
 -- the first body of that number
 unfoldable pub body_numbered : ℕ → List (List ℕ) → Option (List ℕ)
-body_numbered number bs = find (λ b. number_of b == number) bs
+body_numbered number bs = find (λ b. body_number b == number) bs
 
 -- the number of the first of these bodies, or 1 where there is none
 abbrev pub first_number : List (List ℕ) → ℕ
 first_number [] = 1
-first_number (b ∷ bs) = number_of b
+first_number (b ∷ bs) = body_number b
 
 -- where the batches of a store begin, of which this file counts
 pub record IsStart (start : Start) (s : Chosen) (file : List ℕ) : Type 0 where
@@ -51,4 +51,4 @@ Lead held (b ∷ bs) to = (place : ℕ) × (next : Held) × (join place held b �
 
 -- of a store that loads: the bodies of the file that counts lead to what the store holds
 abbrev pub LeadThere : Type 0
-LeadThere = (a b : List ℕ) (s : Chosen) → stored a b ≡ Ok s → Lead (begin s.held.generation) (bodies_of (pick s.second a b)) s.held
+LeadThere = (a b : List ℕ) (s : Chosen) → store_of a b ≡ Ok s → Lead (begin s.held.generation) (bodies_of (pick s.second a b)) s.held

@@ -1,7 +1,7 @@
 // Where the batches of a store begin.
 ghost use Rattle.std.specs.Prelude.{◌≡◌, ◌⊎◌, ◌≤◌, true, IfOk, OnErr, Ok, length};
 ghost use Rattle.muck_io.specs.Faults.{Rose};
-ghost use Rattle.muck_log.specs.Store.{Chosen, LeavesOnly, stored, pick};
+ghost use Rattle.muck_log.specs.Store.{Chosen, LeavesOnly, store_of, pick};
 ghost use Rattle.muck_bodies.specs.Bodies.{IsStart};
 ghost use Rattle.muck_bodies.specs.inner.Heads.{IsHead, chosen_start};
 
@@ -67,7 +67,7 @@ fn chosen_start(a: Option<Head>, b: Option<Head>) -> Start
 /// Where the batches of a store that loads begin: generation 1 and number 1 where it has none yet. Of what doesn't load nothing is said.
 /// The answer is an error only where the count of faults of a disk rose. Nothing is written.
 pub fn start_of<D: Disk>(first: &mut D, second: &mut D) -> Result<Start, DiskFault>
-    ensures start { D.tells ≡ true → (s : Chosen) → stored (D.seen first.old) (D.seen second.old) ≡ Ok s → IfOk result (λ start. IsStart start s (pick s.second (D.seen first.old) (D.seen second.old))) }
+    ensures start { D.tells ≡ true → (s : Chosen) → store_of (D.seen first.old) (D.seen second.old) ≡ Ok s → IfOk result (λ start. IsStart start s (pick s.second (D.seen first.old) (D.seen second.old))) }
     ensures first_attached { D.attached first.new ≡ D.attached first.old }
     ensures second_attached { D.attached second.new ≡ D.attached second.old }
     ensures first_seen { D.tells ≡ true → D.seen first.new ≡ D.seen first.old }

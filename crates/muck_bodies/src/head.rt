@@ -3,7 +3,7 @@ ghost use Rattle.std.specs.Prelude.{◌≡◌, ◌≤◌, ◌<◌, ◌+◌, ◌-
 ghost use Rattle.std.specs.Int.{w64, from_be_bytes};
 ghost use Rattle.muck_io.specs.Faults.{Rose};
 ghost use Rattle.muck_log.specs.Store.{LeavesOnly};
-ghost use Rattle.muck_bodies.specs.Bodies.{generation_of, number_of};
+ghost use Rattle.muck_bodies.specs.Bodies.{generation_of, body_number};
 ghost use Rattle.muck_bodies.specs.inner.Heads.{IsHead};
 
 use muck_disk::{Disk, DiskFault};
@@ -39,7 +39,7 @@ fn generation_of(body: &[u8]) -> u64
 
 #[tactic(auto, unfolding(muck_log::specs::Body::body_of, muck_log::specs::Body::magic))]
 fn number_of(body: &[u8]) -> u64
-    ensures { result ≡ number_of body.now }
+    ensures { result ≡ body_number body.now }
 {
     if body.len() < 25 || body.split_at(5).0 != MAGIC.as_slice() {
         return 0;

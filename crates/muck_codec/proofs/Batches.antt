@@ -6,16 +6,20 @@ use Rattle.std.specs.Int.{w32, to_be_bytes}
 use Rattle.std.proofs.lemmas.Bool.{cond-true}
 use Rattle.std.proofs.lemmas.List.{append-nil}
 use Rattle.std.proofs.lemmas.List.Elements.{All-nil, All-cons}
+use Rattle.muck_laws.proofs.Results.{test_ok}
 use Rattle.muck_model.specs.declared.dbref.Dbref.{Dbref}
 use Rattle.muck_model.specs.declared.tune.Tune.{Tune}
+use Rattle.muck_model.specs.declared.tune.Parameter.{Parameter}
+use Rattle.muck_model.specs.Parameters.{parameters, with_parameter, values_of, first_tune}
+use Rattle.muck_model.proofs.Parameters.{put_all, filled, taken_again, as_many}
 use Rattle.muck_codec.specs.declared.stored.Stored.{Stored}
 use Rattle.muck_codec.specs.declared.stored.Batch.{Batch}
-use Rattle.muck_codec.specs.Reading.{◌>>=◌, both, counted, number_at}
+use Rattle.muck_codec.specs.Reading.{◌>>=◌, both_read, count_then_items, mapped, several, number_at}
 use Rattle.muck_codec.specs.Records.{record_at}
-use Rattle.muck_codec.specs.Batches.{is_above, next_at, records_at, tune_of, four_at, tune_at, batch_of, batch_at, whole_batch, four_bytes, tune_bytes, batch_bytes}
+use Rattle.muck_codec.specs.Batches.{is_above, next_record_at, records_at, parameters_at, tune_at, batch_of, batch_at, whole_batch, tune_bytes, batch_bytes}
 use Rattle.muck_codec.specs.Spelling.{spelling}
-use Rattle.muck_codec.specs.inner.Stored.{IsStored, Run}
-use Rattle.muck_codec.proofs.Codes.{IsBytes, bind_ok, test_ok, ok_is, Takes, Codes, both_codes, mapped_codes, counted_codes}
+use Rattle.muck_codec.specs.inner.Stored.{IsStored, Run, IsWord, AreWords, IsTune}
+use Rattle.muck_codec.proofs.Codes.{IsBytes, bind_ok, ok_is, Takes, Codes, both_codes, mapped_codes, several_take, several_again, counted_codes}
 use Rattle.muck_codec.proofs.Fields.{codes32}
 use Rattle.muck_codec.proofs.Records.{record_codes}
 
@@ -34,8 +38,8 @@ IsNextRecord before o = IsStored o × (is_above before o.dbref ≡ true)
 abbrev judged : Option Dbref → Stored × List ℕ → Result (Stored × List ℕ) ℕ
 judged before o = if is_above before o.0.dbref then Ok o else Err (suc (length o.1))
 
-next_takes : (before : Option Dbref) (bytes rest : List ℕ) (o : Stored) → IsBytes bytes → next_at 1 before bytes ≡ Ok (o, rest) → Takes bytes (spelling o) rest × IsNextRecord before o
-unfolding next_at
+next_takes : (before : Option Dbref) (bytes rest : List ℕ) (o : Stored) → IsBytes bytes → next_record_at 1 before bytes ≡ Ok (o, rest) → Takes bytes (spelling o) rest × IsNextRecord before o
+unfolding next_record_at
 next_takes before bytes rest o fits e =
     let made : Stored × List ℕ = (o, rest) in
     let a = bind_ok (record_at 1 bytes) (judged before) made e in
@@ -43,12 +47,12 @@ next_takes before bytes rest o fits e =
     let t = test_ok (is_above before a.0.0.dbref) (suc (length a.0.1)) a.0 made a.2 in
     subst (λ (y : Stored × List ℕ). Takes bytes (spelling y.0) y.1 × (IsStored y.0 × (is_above before y.0.dbref ≡ true))) t.1 (one.0, (one.1, t.0))
 
-next_again : (before : Option Dbref) (o : Stored) (rest : List ℕ) → IsNextRecord before o → next_at 1 before (spelling o ++ rest) ≡ Ok (o, rest)
-unfolding next_at
+next_again : (before : Option Dbref) (o : Stored) (rest : List ℕ) → IsNextRecord before o → next_record_at 1 before (spelling o ++ rest) ≡ Ok (o, rest)
+unfolding next_record_at
 next_again before o rest rule =
     ap (λ r. r >>= judged before) (record_codes.again o rest rule.0) ∙ cond-true (is_above before o.dbref) (Ok (o, rest)) (Err (suc (length rest))) rule.1
 
-next_codes : (before : Option Dbref) → Codes (next_at 1 before) spelling (IsNextRecord before)
+next_codes : (before : Option Dbref) → Codes (next_record_at 1 before) spelling (IsNextRecord before)
 next_codes before = record { takes = next_takes before; again = next_again before }
 
 abbrev pub dbref_key : Stored → Dbref
@@ -61,10 +65,10 @@ abbrev records_bytes : List Stored → List ℕ
 records_bytes records = to_be_bytes w32 (length records) ++ flat_map spelling records
 
 abbrev records_part : List ℕ → Result (List Stored × List ℕ) ℕ
-records_part bytes = counted (number_at w32) (records_at 1) bytes
+records_part bytes = count_then_items (number_at w32) (records_at 1) bytes
 
 records_codes : Codes records_part records_bytes AreRecords
-records_codes = counted_codes dbref_key (next_at 1) spelling IsNextRecord next_codes (number_at w32) (to_be_bytes w32) (λ n. n < 2 ^ 32) codes32
+records_codes = counted_codes dbref_key (next_record_at 1) spelling IsNextRecord next_codes (number_at w32) (to_be_bytes w32) (λ n. n < 2 ^ 32) codes32
 
 pub all_stored : (before : Option Dbref) (records : List Stored) → Run dbref_key IsNextRecord before records → All IsStored records
 all_stored before [] run = All-nil IsStored
@@ -72,39 +76,60 @@ all_stored before (o ∷ os) run = All-cons IsStored o os run.0.0 (all_stored (S
 
 -- The tune parameters.
 
-abbrev Word : ℕ → Type 0
-Word n = n < 2 ^ 32
+abbrev itself : ℕ → ℕ
+itself n = n
 
-abbrev Four : Type 0
-Four = ℕ × (ℕ × (ℕ × ℕ))
+abbrev words_at : Option ℕ → ℕ → List ℕ → Result (List ℕ × List ℕ) ℕ
+words_at before n bytes = several itself (λ before. number_at w32) before n bytes
 
-abbrev AreWords : Four → Type 0
-AreWords x = Word x.0 × (Word x.1.0 × (Word x.1.1.0 × Word x.1.1.1))
+words_codes : (n : ℕ) → Codes (words_at None n) (flat_map (to_be_bytes w32)) (λ ns. (length ns ≡ n) × AreWords ns)
+words_codes n = record {
+  takes = λ bytes rest ns fits e. several_take itself (λ before. number_at w32) (to_be_bytes w32) IsWord (λ before. codes32) None n bytes rest ns fits e;
+  again = λ ns rest rule.
+      subst (λ m. words_at None m (flat_map (to_be_bytes w32) ns ++ rest) ≡ Ok (ns, rest)) rule.0
+      (several_again itself (λ before. number_at w32) (to_be_bytes w32) IsWord (λ before. codes32) None ns rest rule.1);
+}
 
-abbrev four_spelled : Four → List ℕ
-four_spelled x = to_be_bytes w32 x.0 ++ (to_be_bytes w32 x.1.0 ++ (to_be_bytes w32 x.1.1.0 ++ to_be_bytes w32 x.1.1.1))
+abbrev before_others : ℕ → List ℕ × List ℕ → Result (List ℕ × List ℕ) ℕ
+before_others n others = Ok (n ∷ others.0, others.1)
 
-four_codes : Codes four_at four_spelled AreWords
-four_codes =
-    both_codes (number_at w32) (both (number_at w32) (both (number_at w32) (number_at w32))) (to_be_bytes w32) (λ x. to_be_bytes w32 x.0 ++ (to_be_bytes w32 x.1.0 ++ to_be_bytes w32 x.1.1))
-    Word (λ x. Word x.0 × (Word x.1.0 × Word x.1.1)) codes32
-    (both_codes (number_at w32) (both (number_at w32) (number_at w32)) (to_be_bytes w32) (λ x. to_be_bytes w32 x.0 ++ to_be_bytes w32 x.1) Word (λ x. Word x.0 × Word x.1) codes32
-    (both_codes (number_at w32) (number_at w32) (to_be_bytes w32) (to_be_bytes w32) Word Word codes32 codes32))
+abbrev put_into : List Parameter → Tune → List ℕ × List ℕ → Result (Tune × List ℕ) ℕ
+put_into ps tune ns = Ok (put_all ps ns.0 tune, ns.1)
 
-abbrev first_four : Tune → Four
-first_four t = (t.instr_slice, (t.preempt_units, (t.m1_units, t.m2_units)))
+regrouped : (p : Parameter) (ps : List Parameter) (tune : Tune) (n : ℕ) (r : Result (List ℕ × List ℕ) ℕ) → (r >>= put_into ps (with_parameter p n tune)) ≡ ((r >>= before_others n) >>= put_into (p ∷ ps) tune)
+regrouped p ps tune n (Ok ns) = refl
+regrouped p ps tune n (Err left) = refl
 
-abbrev last_four : Tune → Four
-last_four t = (t.process_limit, (t.player_processes, (t.mpi_commands, t.dump_interval)))
+as_words : (ps : List Parameter) (tune : Tune) (before : Option ℕ) (bytes : List ℕ) → parameters_at ps tune bytes ≡ (words_at before (length ps) bytes >>= put_into ps tune)
+unfolding several
+as_words [] tune before bytes = refl
+as_words (p ∷ ps) tune before bytes = step (λ n. as_words ps (with_parameter p n.0 tune) (Some n.0) n.1) (number_at w32 bytes)
+  where
+    Later : ℕ × List ℕ → Type 0
+    Later n = parameters_at ps (with_parameter p n.0 tune) n.1 ≡ (words_at (Some n.0) (length ps) n.1 >>= put_into ps (with_parameter p n.0 tune))
 
--- each parameter has 32 bits
-abbrev pub IsTune : Tune → Type 0
-IsTune t = AreWords (first_four t) × AreWords (last_four t)
+    step : ((n : ℕ × List ℕ) → Later n) → (r : Result (ℕ × List ℕ) ℕ) → (r >>= λ n. parameters_at ps (with_parameter p n.0 tune) n.1)
+        ≡ ((r >>= λ n. words_at (Some n.0) (length ps) n.1 >>= before_others n.0) >>= put_into (p ∷ ps) tune)
+    step later (Ok n) = later n ∙ regrouped p ps tune n.0 (words_at (Some n.0) (length ps) n.1)
+    step later (Err left) = refl
+
+by_words : (tune : Tune) → tune_bytes tune ≡ flat_map (to_be_bytes w32) (values_of tune)
+unfolding tune_bytes parameters
+by_words tune = refl
 
 tune_codes : Codes tune_at tune_bytes IsTune
-unfolding tune_at tune_bytes four_bytes
-tune_codes = mapped_codes tune_of (both four_at four_at) (λ x. four_spelled x.0 ++ four_spelled x.1) tune_bytes (λ x. AreWords x.0 × AreWords x.1) IsTune
-    (λ x rule. refl) (λ x rule. rule) (λ t rule. ((first_four t, last_four t), refl, rule)) (both_codes four_at four_at four_spelled four_spelled AreWords AreWords four_codes four_codes)
+unfolding tune_at
+tune_codes = record {
+  takes = λ bytes rest x fits e. worded.takes bytes rest x fits (sym (as_words parameters first_tune None bytes) ∙ e);
+  again = λ x rest rule. as_words parameters first_tune None (tune_bytes x ++ rest) ∙ worded.again x rest rule;
+}
+  where
+    worded : Codes (mapped (λ ns. put_all parameters ns first_tune) (words_at None (length parameters))) tune_bytes IsTune
+    worded = mapped_codes (λ ns. put_all parameters ns first_tune) (words_at None (length parameters)) (flat_map (to_be_bytes w32)) tune_bytes (λ ns. (length ns ≡ length parameters) × AreWords ns) IsTune
+        (λ ns rule. by_words (put_all parameters ns first_tune) ∙ ap (flat_map (to_be_bytes w32)) (filled ns rule.0))
+        (λ ns rule. subst AreWords (sym (filled ns rule.0)) rule.1)
+        (λ tune rule. (values_of tune, taken_again tune, (as_many tune, rule)))
+        (words_codes (length parameters))
 
 -- The batch.
 
@@ -116,7 +141,7 @@ spelled b = batch_bytes b.records b.tune
 
 batch_codes : Codes (batch_at 1) spelled IsWhole
 unfolding batch_at batch_bytes
-batch_codes = mapped_codes batch_of (both records_part tune_at) (λ x. records_bytes x.0 ++ tune_bytes x.1) spelled (λ x. AreRecords x.0 × IsTune x.1) IsWhole
+batch_codes = mapped_codes batch_of (both_read records_part tune_at) (λ x. records_bytes x.0 ++ tune_bytes x.1) spelled (λ x. AreRecords x.0 × IsTune x.1) IsWhole
     (λ x rule. sym (append_assoc (to_be_bytes w32 (length x.0)) (flat_map spelling x.0) (tune_bytes x.1))) (λ x rule. rule) (λ b rule. ((b.records, b.tune), refl, rule))
     (both_codes records_part tune_at records_bytes tune_bytes AreRecords IsTune records_codes tune_codes)
 

@@ -1,10 +1,10 @@
 -- What a part that is read and a spelling have to do with each other, and how that carries over to parts of parts.
-use Rattle.std.proofs.Common.{◌≡◌, ℕ, zero, suc, ◌+◌, ◌<◌, Bool, true, false, cond, List, [], ◌∷◌, ◌++◌, length, get_or, take, drop, Option, Some, None, Result, Ok, Err, refl, sym, ap, subst, ◌∙◌, append_assoc, arith, inl, inr}
+use Rattle.std.proofs.Common.{◌≡◌, ℕ, zero, suc, ◌+◌, ◌<◌, List, [], ◌∷◌, ◌++◌, length, get_or, take, drop, Option, Some, None, Result, Ok, Err, refl, sym, ap, subst, ◌∙◌, append_assoc, arith, inl, inr}
 use Rattle.std.specs.List.{flat_map}
 use Rattle.std.proofs.lemmas.Bool.{cases_lt}
 use Rattle.std.proofs.lemmas.List.{length-take, get_or-drop, get_or-take, get_or_past}
 use Rattle.std.proofs.lemmas.List.Concat.{flat_map-cons}
-use Rattle.muck_codec.specs.Reading.{◌>>=◌, both, counted, mapped, several}
+use Rattle.muck_codec.specs.Reading.{◌>>=◌, both_read, count_then_items, mapped, several}
 use Rattle.muck_codec.specs.inner.Stored.{Run}
 
 abbrev pub IsBytes : List ℕ → Type 0
@@ -27,19 +27,6 @@ pub bind_ok : {A B : Type 0} (r : Result A ℕ) (f : A → Result B ℕ) (y : B)
 bind_ok (Ok x) f y e = (x, refl, e)
 bind_ok (Err left) f y e = absurd cc
 
--- a test that did not fail
-pub guard_ok : {A : Type 0} (b : Bool) (left : ℕ) (x y : A) → cond b (Err left) (Ok x) ≡ Ok y → (b ≡ false) × (x ≡ y)
-guard_ok true left x y e = absurd cc
-guard_ok false left x y e = (refl, cc)
-
-pub test_ok : {A : Type 0} (b : Bool) (left : ℕ) (x y : A) → cond b (Ok x) (Err left) ≡ Ok y → (b ≡ true) × (x ≡ y)
-test_ok true left x y e = (refl, cc)
-test_ok false left x y e = absurd cc
-
-pub skip_ok : {A : Type 0} (b : Bool) (left : ℕ) (r : Result A ℕ) (y : A) → cond b (Err left) r ≡ Ok y → (b ≡ false) × (r ≡ Ok y)
-skip_ok true left r y e = absurd cc
-skip_ok false left r y e = (refl, e)
-
 abbrev right : {A : Type 0} → A → Result A ℕ
 right x = Ok x
 
@@ -60,7 +47,7 @@ pub record Codes {A : Type 0} (part : List ℕ → Result (A × List ℕ) ℕ) (
   pub again : (x : A) (rest : List ℕ) → rule x → part (spell x ++ rest) ≡ Ok (x, rest)
 
 pub both_codes : {A B : Type 0} (p : List ℕ → Result (A × List ℕ) ℕ) (q : List ℕ → Result (B × List ℕ) ℕ) (s : A → List ℕ) (t : B → List ℕ) (F : A → Type 0) (G : B → Type 0)
-    → Codes p s F → Codes q t G → Codes (both p q) (λ x. s x.0 ++ t x.1) (λ x. F x.0 × G x.1)
+    → Codes p s F → Codes q t G → Codes (both_read p q) (λ x. s x.0 ++ t x.1) (λ x. F x.0 × G x.1)
 both_codes {A = A} {B = B} p q s t F G first second = record {
   takes = λ bytes rest x fits e.
       let a = bind_ok (p bytes) (λ u. q u.1 >>= λ v. Ok ((u.0, v.0), v.1)) (x, rest) e in
@@ -74,7 +61,7 @@ both_codes {A = A} {B = B} p q s t F G first second = record {
   again = λ x rest rule.
       let two : q (t x.1 ++ rest) ≡ Ok (x.1, rest) = second.again x.1 rest rule.1 in
       let one : p (s x.0 ++ (t x.1 ++ rest)) ≡ Ok (x.0, t x.1 ++ rest) = first.again x.0 (t x.1 ++ rest) rule.0 in
-      ap (both p q) (append_assoc (s x.0) (t x.1) rest) ∙ rw (one, two) refl;
+      ap (both_read p q) (append_assoc (s x.0) (t x.1) rest) ∙ rw (one, two) refl;
 }
 
 pub mapped_codes : {A B : Type 0} (f : A → B) (p : List ℕ → Result (A × List ℕ) ℕ) (s : A → List ℕ) (t : B → List ℕ) (F : A → Type 0) (G : B → Type 0)
@@ -123,7 +110,7 @@ module _ {A K : Type 0} (key : A → K) (part : Option K → List ℕ → Result
 
   -- behind their count
   pub counted_codes : (count : List ℕ → Result (ℕ × List ℕ) ℕ) (t : ℕ → List ℕ) (G : ℕ → Type 0) → Codes count t G
-      → Codes (counted count (several key part None)) (λ xs. t (length xs) ++ flat_map s xs) (λ xs. G (length xs) × Run key F None xs)
+      → Codes (count_then_items count (several key part None)) (λ xs. t (length xs) ++ flat_map s xs) (λ xs. G (length xs) × Run key F None xs)
   counted_codes count t G number = record {
     takes = λ bytes rest xs fits e.
         let a = bind_ok (count bytes) (λ n. several key part None n.0 n.1) (xs, rest) e in
@@ -131,7 +118,7 @@ module _ {A K : Type 0} (key : A → K) (part : Option K → List ℕ → Result
         let two = several_take None a.0.0 a.0.1 rest xs one.0.rest_fits a.2 in
         (subst (λ k. Takes bytes (t k ++ flat_map s xs) rest) (sym two.1.0) (takes_then bytes (t a.0.0) a.0.1 (flat_map s xs) rest one.0 two.0), (subst G (sym two.1.0) one.1, two.1.1));
     again = λ xs rest rule.
-        ap (counted count (several key part None)) (append_assoc (t (length xs)) (flat_map s xs) rest)
+        ap (count_then_items count (several key part None)) (append_assoc (t (length xs)) (flat_map s xs) rest)
         ∙ ap (λ r. r >>= λ n. several key part None n.0 n.1) (number.again (length xs) (flat_map s xs ++ rest) rule.0)
         ∙ several_again None xs rest rule.1;
   }

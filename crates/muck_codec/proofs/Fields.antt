@@ -6,16 +6,18 @@ use Rattle.std.proofs.lemmas.List.{take_at, drop_at}
 use Rattle.std.proofs.lemmas.Nat.{be_bytes_2, be_bytes_4, be_bytes_8, from_be_bytes-to_be_bytes_2, from_be_bytes-to_be_bytes_4, from_be_bytes-to_be_bytes_8}
 use Rattle.std.proofs.lemmas.Int.{to_z-of_z, of_z-to_z}
 use Rattle.std.proofs.Math.Facts.{sfits_to_z, Fits-of_z, Fits-of_lt}
+use Rattle.muck_laws.proofs.Options.{some_is}
+use Rattle.muck_laws.proofs.Results.{guard_ok, skip_ok}
 use Rattle.muck_model.specs.Bytes.{text_fault}
 use Rattle.muck_model.specs.declared.dbref.Dbref.{Dbref}
 use Rattle.muck_model.specs.declared.dbref.Flags.{Flags}
 use Rattle.muck_model.specs.declared.dbref.Kind.{Kind}
 use Rattle.muck_model.specs.declared.dbref.Kind.TheVariants.{Room, Thing, Exit, Player, Program, Garbage}
-use Rattle.muck_codec.specs.Reading.{◌>>=◌, byte_at, number_at, dbref_at, short_at, text_if, text_of, text_at}
-use Rattle.muck_codec.specs.Records.{kind_of, kind_if, kind_at, flags_at}
+use Rattle.muck_codec.specs.Reading.{◌>>=◌, byte_at, number_at, dbref_at, short_at, text_if, text_bytes_read, text_at}
+use Rattle.muck_codec.specs.Records.{kind_coded, kind_if, kind_at, flags_at}
 use Rattle.muck_codec.specs.Spelling.{dbref_bytes, kind_byte, text_bytes}
 use Rattle.muck_codec.specs.inner.Stored.{IsDbref, IsText}
-use Rattle.muck_codec.proofs.Codes.{IsBytes, bytes_drop, bytes_take, bytes_rest, bind_ok, guard_ok, skip_ok, ok_is, Takes, takes_then, Codes, mapped_codes}
+use Rattle.muck_codec.proofs.Codes.{IsBytes, bytes_drop, bytes_take, bytes_rest, bind_ok, ok_is, Takes, takes_then, Codes, mapped_codes}
 
 pub byte_codes : Codes byte_at (λ b. b ∷ []) (λ b. b < 2 ^ 8)
 byte_codes = record { takes = takes; again = λ x rest rule. refl }
@@ -84,16 +86,13 @@ pub flags_codes : Codes flags_at (λ flags. to_be_bytes w16 flags.0) (λ flags. 
 flags_codes = mapped_codes flags_with (number_at w16) (to_be_bytes w16) (λ flags. to_be_bytes w16 flags.0) (λ n. n < 2 ^ 16) (λ flags. flags.0 < 2 ^ 16)
     (λ n lt. refl) (λ n lt. lt) (λ flags lt. (flags.0, refl, lt)) codes16
 
-some_is : {A : Type 0} (x y : A) → Some x ≡ Some y → x ≡ y
-some_is x y e = cc
-
-kind_none : (b : ℕ) → 6 ≤ b → kind_of b ≡ None
+kind_none : (b : ℕ) → 6 ≤ b → kind_coded b ≡ None
 kind_none b le = rw (ne_eqb b 0 (omega arith), ne_eqb b 1 (omega arith), ne_eqb b 2 (omega arith), ne_eqb b 3 (omega arith), ne_eqb b 4 (omega arith), ne_eqb b 5 (omega arith)) refl
 
 none_some : (k : Kind) → None ≡ Some k → ⊥
 none_some k e = cc
 
-kind_back : (b : ℕ) (k : Kind) → kind_of b ≡ Some k → kind_byte k ≡ b
+kind_back : (b : ℕ) (k : Kind) → kind_coded b ≡ Some k → kind_byte k ≡ b
 kind_back zero k e = ap kind_byte (sym (some_is Room k e))
 kind_back (suc zero) k e = ap kind_byte (sym (some_is Thing k e))
 kind_back (suc (suc zero)) k e = ap kind_byte (sym (some_is Exit k e))
@@ -113,7 +112,7 @@ kind_takes : (bytes rest : List ℕ) (x : Kind) → IsBytes bytes → kind_at by
 unfolding kind_at
 kind_takes [] rest x fits e = absurd cc
 kind_takes (b ∷ bytes) rest x fits e =
-    let is = kind_from (kind_of b) bytes rest x e in
+    let is = kind_from (kind_coded b) bytes rest x e in
     (record { parts = ap (λ c. c ∷ bytes) (sym (kind_back b x is.0)) ∙ ap (λ l. kind_byte x ∷ l) is.1; rest_fits = subst IsBytes is.1 (bytes_rest b bytes fits) }, tt)
 
 kind_again : (x : Kind) (rest : List ℕ) → Unit {0} → kind_at ((kind_byte x ∷ []) ++ rest) ≡ Ok (x, rest)
@@ -179,10 +178,10 @@ module _ (least most : ℕ) (fits16 : most < 2 ^ 16) where
       (refl, ltb-false _ _ g.0, ap (λ (y : List ℕ × List ℕ). y.0) g.1, ap (λ (y : List ℕ × List ℕ). y.1) g.1)
 
   text_takes : (bytes rest text : List ℕ) → IsBytes bytes → text_at least most bytes ≡ Ok (text, rest) → Takes bytes (text_bytes text) rest × IsText least most text
-  unfolding text_at text_of
+  unfolding text_at text_bytes_read
   text_takes bytes rest text fits e =
       let made : List ℕ × List ℕ = (text, rest) in
-      let a = bind_ok (short_at least most bytes) (λ n. text_of n.0 n.1) made e in
+      let a = bind_ok (short_at least most bytes) (λ n. text_bytes_read n.0 n.1) made e in
       let n = a.0.0 in
       let one = short_codes.takes bytes a.0.1 n fits a.1 in
       let is = text_is n a.0.1 (text_fault (take n a.0.1)) text rest a.2 in
@@ -196,13 +195,13 @@ module _ (least most : ℕ) (fits16 : most < 2 ^ 16) where
       )
 
   text_again : (text rest : List ℕ) → IsText least most text → text_at least most (text_bytes text ++ rest) ≡ Ok (text, rest)
-  unfolding text_at text_of
+  unfolding text_at text_bytes_read
   text_again text rest rule =
       let front : take (length text) (text ++ rest) ≡ text = take_at text rest (length text) refl in
       let back : drop (length text) (text ++ rest) ≡ rest = drop_at text rest (length text) refl in
       let long : ltb (length (text ++ rest)) (length text) ≡ false = le-ltb _ _ (omega (arith, length-append text rest)) in
       ap (text_at least most) (append_assoc (to_be_bytes w16 (length text)) text rest)
-      ∙ ap (λ r. r >>= λ n. text_of n.0 n.1) (short_codes.again (length text) (text ++ rest) rule.0)
+      ∙ ap (λ r. r >>= λ n. text_bytes_read n.0 n.1) (short_codes.again (length text) (text ++ rest) rule.0)
       ∙ ap (text_if (length text) (text ++ rest)) (ap text_fault front ∙ rule.1)
       ∙ cond-false (ltb (length (text ++ rest)) (length text)) _ _ long
       ∙ ap (λ l. Ok (l, drop (length text) (text ++ rest))) front ∙ ap (λ l. Ok (text, l)) back

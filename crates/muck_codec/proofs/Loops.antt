@@ -1,11 +1,17 @@
 -- Things read one after the other, as a loop does.
-use Rattle.std.proofs.Common.{◌≡◌, ℕ, suc, ◌-◌, ◌+◌, ◌≤◌, ◌<◌, List, [], ◌∷◌, ◌++◌, Option, Some, Result, Ok, Err, refl, sym, ap, subst, ◌∙◌, append_assoc, length, length-append, arith}
-use Rattle.std.proofs.lemmas.List.{append-nil}
+use Rattle.std.proofs.Common.{◌≡◌, ℕ, suc, ◌-◌, ◌+◌, ◌≤◌, ◌<◌, List, [], ◌∷◌, ◌++◌, Option, Some, Result, Ok, Err, refl, sym, ap, subst, ◌∙◌, append_assoc, length, length-append, drop, get_or, add-one, drop-cons, arith}
+use Rattle.std.proofs.lemmas.List.{append-nil, drop_all}
+use Rattle.std.specs.Int.{w32}
 use Rattle.std.specs.Option.{option_map}
 use Rattle.std.specs.Prelude.{slice_get}
+use Rattle.muck_laws.proofs.Places.{got_last}
 use Rattle.muck_codec.specs.declared.fault.Unread.{Unread}
 use Rattle.muck_codec.specs.declared.fault.Unread.TheVariants as unread
-use Rattle.muck_codec.specs.Reading.{◌>>=◌, Fails, last_key, several}
+use Rattle.muck_model.specs.declared.tune.Tune.{Tune}
+use Rattle.muck_model.specs.declared.tune.Parameter.{Parameter}
+use Rattle.muck_model.specs.Parameters.{with_parameter}
+use Rattle.muck_codec.specs.Reading.{◌>>=◌, Fails, last_key, several, number_at}
+use Rattle.muck_codec.specs.Batches.{parameters_at}
 
 -- what was read before, and what is still read
 abbrev pub with_front : {A : Type 0} → List A → Result (List A × List ℕ) ℕ → Result (List A × List ℕ) ℕ
@@ -15,14 +21,10 @@ regroup : {A : Type 0} (front : List A) (x : A) (read : Result (List A × List �
 regroup front x (Ok y) = ap (λ xs. Ok (xs, y.1)) (sym (append_assoc front (x ∷ []) y.0))
 regroup front x (Err left) = refl
 
-last-push : {A : Type 0} (xs : List A) (x : A) → slice_get (xs ++ x ∷ []) (length xs) ≡ Some x
-last-push [] x = refl
-last-push (y ∷ xs) x = last-push xs x
-
 pub last_is : {A K : Type 0} (key : A → K) (xs : List A) (x : A) → last_key key (xs ++ x ∷ []) ≡ Some (key x)
 last_is key xs x =
     let at : length (xs ++ x ∷ []) - 1 ≡ length xs = omega (arith, length-append xs (x ∷ [])) in
-    ap (λ (k : ℕ). option_map key (slice_get (xs ++ x ∷ []) k)) at ∙ ap (option_map key) (last-push xs x)
+    ap (λ (k : ℕ). option_map key (slice_get (xs ++ x ∷ []) k)) at ∙ ap (option_map key) (got_last xs x)
 
 pub goes_on : {A K : Type 0} (key : A → K) (part : Option K → List ℕ → Result (A × List ℕ) ℕ) (front : List A) (count i : ℕ) (bytes : List ℕ) (x : A) (after : List ℕ) (total : Result (List A × List ℕ) ℕ)
     → i < count → part (last_key key front) bytes ≡ Ok (x, after) → with_front front (several key part (last_key key front) (count - i) bytes) ≡ total
@@ -63,3 +65,26 @@ pub ends_with : {A K : Type 0} (key : A → K) (part : Option K → List ℕ →
     → before ≡ last_key key front → i < count → Fails e (part before bytes) → with_front front (several key part (last_key key front) (count - i) bytes) ≡ total → Fails e total
 ends_with key part e front count i bytes total before is lt h so_far =
     ends key part e front count i bytes total lt (subst (λ b. Fails e (part b bytes)) is h) so_far
+
+-- Parameters, read one after the other.
+
+next_of : (ps : List Parameter) (i : ℕ) (p : Parameter) → i < length ps → drop i ps ≡ get_or ps i p ∷ drop (i + 1) ps
+next_of ps i p h = rw (add-one, drop-cons ps i p) refl
+
+pub reads_on : (ps : List Parameter) (i : ℕ) (p : Parameter) (tune : Tune) (bytes : List ℕ) (n : ℕ) (after : List ℕ) (total : Result (Tune × List ℕ) ℕ)
+    → i < length ps → number_at w32 bytes ≡ Ok (n, after) → parameters_at (drop i ps) tune bytes ≡ total → parameters_at (drop (i + 1) ps) (with_parameter (get_or ps i p) n tune) after ≡ total
+reads_on ps i p tune bytes n after total h reads so_far =
+    let rest : ℕ × List ℕ → Result (Tune × List ℕ) ℕ = λ k. parameters_at (drop (i + 1) ps) (with_parameter (get_or ps i p) k.0 tune) k.1 in
+    let one : parameters_at (drop i ps) tune bytes ≡ rest (n, after) = ap (λ qs. parameters_at qs tune bytes) (next_of ps i p h) ∙ ap (λ r. r >>= rest) reads in
+    sym one ∙ so_far
+
+pub reads_fail : (ps : List Parameter) (i : ℕ) (p : Parameter) (tune : Tune) (bytes : List ℕ) (fault : Unread) (total : Result (Tune × List ℕ) ℕ)
+    → i < length ps → Fails fault (number_at w32 bytes) → parameters_at (drop i ps) tune bytes ≡ total → Fails fault total
+reads_fail ps i p tune bytes unread.NoMemory total h fails so_far = tt
+reads_fail ps i p tune bytes (unread.Left left) total h fails so_far =
+    let rest : ℕ × List ℕ → Result (Tune × List ℕ) ℕ = λ k. parameters_at (drop (i + 1) ps) (with_parameter (get_or ps i p) k.0 tune) k.1 in
+    let one : parameters_at (drop i ps) tune bytes ≡ Err left = ap (λ qs. parameters_at qs tune bytes) (next_of ps i p h) ∙ ap (λ r. r >>= rest) fails in
+    sym so_far ∙ one
+
+pub reads_end : (ps : List Parameter) (i : ℕ) (tune : Tune) (bytes : List ℕ) (total : Result (Tune × List ℕ) ℕ) → length ps ≤ i → parameters_at (drop i ps) tune bytes ≡ total → total ≡ Ok (tune, bytes)
+reads_end ps i tune bytes total h so_far = sym so_far ∙ ap (λ qs. parameters_at qs tune bytes) (drop_all i ps h)

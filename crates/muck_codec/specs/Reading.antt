@@ -23,12 +23,12 @@ Gives view (Ok x) read = read ≡ Ok (view x)
 Gives view (Err e) read = Fails e read
 
 -- one part behind another
-abbrev pub both : {A B : Type 0} → (List ℕ → Result (A × List ℕ) ℕ) → (List ℕ → Result (B × List ℕ) ℕ) → List ℕ → Result ((A × B) × List ℕ) ℕ
-both first second bytes = first bytes >>= λ a. second a.1 >>= λ b. Ok ((a.0, b.0), b.1)
+abbrev pub both_read : {A B : Type 0} → (List ℕ → Result (A × List ℕ) ℕ) → (List ℕ → Result (B × List ℕ) ℕ) → List ℕ → Result ((A × B) × List ℕ) ℕ
+both_read first second bytes = first bytes >>= λ a. second a.1 >>= λ b. Ok ((a.0, b.0), b.1)
 
 -- a count, and so many things
-abbrev pub counted : {A : Type 0} → (List ℕ → Result (ℕ × List ℕ) ℕ) → (ℕ → List ℕ → Result (A × List ℕ) ℕ) → List ℕ → Result (A × List ℕ) ℕ
-counted count items bytes = count bytes >>= λ n. items n.0 n.1
+abbrev pub count_then_items : {A : Type 0} → (List ℕ → Result (ℕ × List ℕ) ℕ) → (ℕ → List ℕ → Result (A × List ℕ) ℕ) → List ℕ → Result (A × List ℕ) ℕ
+count_then_items count items bytes = count bytes >>= λ n. items n.0 n.1
 
 -- the key of the last of some things
 abbrev pub last_key : {A K : Type 0} → (A → K) → List A → Option K
@@ -68,9 +68,9 @@ text_if n bytes (Some at) = Err (length bytes - at)
 text_if n bytes None = if nat_lt (length bytes) n then Err 0 else Ok (take n bytes, drop n bytes)
 
 -- so many bytes of a text
-unfoldable pub text_of : ℕ → List ℕ → Result (List ℕ × List ℕ) ℕ
-text_of n bytes = text_if n bytes (text_fault (take n bytes))
+unfoldable pub text_bytes_read : ℕ → List ℕ → Result (List ℕ × List ℕ) ℕ
+text_bytes_read n bytes = text_if n bytes (text_fault (take n bytes))
 
 -- the length of a text, within bounds, and its bytes
 unfoldable pub text_at : ℕ → ℕ → List ℕ → Result (List ℕ × List ℕ) ℕ
-text_at least most bytes = counted (short_at least most) text_of bytes
+text_at least most bytes = count_then_items (short_at least most) text_bytes_read bytes

@@ -19,12 +19,12 @@ use Rattle.muck_codec.specs.declared.record.Lists.{Lists}
 use Rattle.muck_codec.specs.declared.record.Texts.{Texts}
 use Rattle.muck_codec.specs.declared.fault.CodecFault.{CodecFault}
 use Rattle.muck_codec.specs.declared.fault.CodecFault.TheVariants.{BadRecord, NoMemory}
-use Rattle.muck_codec.specs.Reading.{◌>>=◌, both, counted, mapped, byte_at, number_at, dbref_at, short_at, several, text_at}
+use Rattle.muck_codec.specs.Reading.{◌>>=◌, both_read, count_then_items, mapped, byte_at, number_at, dbref_at, short_at, several, text_at}
 
 -- The fields of fixed size.
 
-abbrev pub kind_of : ℕ → Option Kind
-kind_of b =
+abbrev pub kind_coded : ℕ → Option Kind
+kind_coded b =
     if b == 0 then Some Room
     else if b == 1 then Some Thing
     else if b == 2 then Some Exit
@@ -39,7 +39,7 @@ kind_if None rest = Err (suc (length rest))
 
 unfoldable pub kind_at : List ℕ → Result (Kind × List ℕ) ℕ
 kind_at [] = Err 0
-kind_at (b ∷ rest) = kind_if (kind_of b) rest
+kind_at (b ∷ rest) = kind_if (kind_coded b) rest
 
 abbrev pub flags_at : List ℕ → Result (Flags × List ℕ) ℕ
 flags_at bytes = number_at w16 bytes >>= λ n. Ok (record { 0 = n.0 }, n.1)
@@ -47,20 +47,20 @@ flags_at bytes = number_at w16 bytes >>= λ n. Ok (record { 0 = n.0 }, n.1)
 abbrev pub head_of : Dbref × (Kind × (Flags × ℕ)) → Head
 head_of x = record { dbref = x.0; kind = x.1.0; flags = x.1.1.0; level = x.1.1.1 }
 
-unfoldable pub head_at : List ℕ → Result (Head × List ℕ) ℕ
-head_at bytes = mapped head_of (both dbref_at (both kind_at (both flags_at byte_at))) bytes
+unfoldable pub record_head_at : List ℕ → Result (Head × List ℕ) ℕ
+record_head_at bytes = mapped head_of (both_read dbref_at (both_read kind_at (both_read flags_at byte_at))) bytes
 
 abbrev pub ties_of : Dbref × (Dbref × (Dbref × Dbref)) → Ties
 ties_of x = record { owner = x.0; place = x.1.0; link = x.1.1.0; home = x.1.1.1 }
 
 unfoldable pub ties_at : List ℕ → Result (Ties × List ℕ) ℕ
-ties_at bytes = mapped ties_of (both dbref_at (both dbref_at (both dbref_at dbref_at))) bytes
+ties_at bytes = mapped ties_of (both_read dbref_at (both_read dbref_at (both_read dbref_at dbref_at))) bytes
 
 abbrev pub lists_of : Dbref × (Dbref × Dbref) → Lists
 lists_of x = record { first_content = x.0; first_exit = x.1.0; next = x.1.1 }
 
 unfoldable pub lists_at : List ℕ → Result (Lists × List ℕ) ℕ
-lists_at bytes = mapped lists_of (both dbref_at (both dbref_at dbref_at)) bytes
+lists_at bytes = mapped lists_of (both_read dbref_at (both_read dbref_at dbref_at)) bytes
 
 -- Properties.
 
@@ -95,15 +95,15 @@ tagged (suc zero) rest = integer_at rest
 tagged (suc (suc tag)) rest = Err (suc (length rest))
 
 -- a tag and a value
-unfoldable pub value_at : ℕ → List ℕ → Result (PropValue × List ℕ) ℕ
-value_at version [] = Err 0
-value_at version (tag ∷ rest) = if nat_lt tag (tags_in version) then tagged tag rest else Err (suc (length rest))
+unfoldable pub value_read_at : ℕ → List ℕ → Result (PropValue × List ℕ) ℕ
+value_read_at version [] = Err 0
+value_read_at version (tag ∷ rest) = if nat_lt tag (tags_in version) then tagged tag rest else Err (suc (length rest))
 
 abbrev pub property_of : List (List ℕ) × PropValue → Property
 property_of x = record { path = x.0; value = x.1 }
 
 unfoldable pub property_at : ℕ → Option (List (List ℕ)) → List ℕ → Result (Property × List ℕ) ℕ
-property_at version before bytes = mapped property_of (both (path_at before) (value_at version)) bytes
+property_at version before bytes = mapped property_of (both_read (path_at before) (value_read_at version)) bytes
 
 -- so many properties, by rising path
 abbrev pub properties_at : ℕ → ℕ → List ℕ → Result (List Property × List ℕ) ℕ
@@ -113,19 +113,19 @@ abbrev pub line_at : Option (List ℕ) → List ℕ → Result (List ℕ × List
 line_at before bytes = text_at 0 text_most bytes
 
 -- so many source lines
-abbrev pub lines_at : ℕ → List ℕ → Result (List (List ℕ) × List ℕ) ℕ
-lines_at n bytes = several (λ line. line) line_at None n bytes
+abbrev pub source_lines_at : ℕ → List ℕ → Result (List (List ℕ) × List ℕ) ℕ
+source_lines_at n bytes = several (λ line. line) line_at None n bytes
 
 -- The record.
 
-abbrev pub texts_of : List ℕ × (List Property × (List (List ℕ) × List ℕ)) → Texts
-texts_of x = record { name = x.0; props = x.1.0; lines = x.1.1.0; digest = x.1.1.1 }
+abbrev pub record_texts : List ℕ × (List Property × (List (List ℕ) × List ℕ)) → Texts
+record_texts x = record { name = x.0; props = x.1.0; lines = x.1.1.0; digest = x.1.1.1 }
 
 unfoldable pub texts_at : ℕ → List ℕ → Result (Texts × List ℕ) ℕ
-texts_at version bytes = mapped texts_of (both (text_at 0 text_most) (both (counted (number_at w64) (properties_at version)) (both (counted (short_at 0 lines_most) lines_at) (text_at 0 text_most)))) bytes
+texts_at version bytes = mapped record_texts (both_read (text_at 0 text_most) (both_read (count_then_items (number_at w64) (properties_at version)) (both_read (count_then_items (short_at 0 lines_most) source_lines_at) (text_at 0 text_most)))) bytes
 
-abbrev pub stored_of : Head × (Ties × (Lists × Texts)) → Stored
-stored_of x = record {
+abbrev pub stored_from_parts : Head × (Ties × (Lists × Texts)) → Stored
+stored_from_parts x = record {
   dbref = x.0.dbref;
   kind = x.0.kind;
   flags = x.0.flags;
@@ -145,7 +145,7 @@ stored_of x = record {
 
 -- a record of this version, and the bytes behind it
 unfoldable pub record_at : ℕ → List ℕ → Result (Stored × List ℕ) ℕ
-record_at version bytes = mapped stored_of (both head_at (both ties_at (both lists_at (texts_at version)))) bytes
+record_at version bytes = mapped stored_from_parts (both_read record_head_at (both_read ties_at (both_read lists_at (texts_at version)))) bytes
 
 -- the answer is the record in front and how many bytes it has, or the first byte that no record continues
 abbrev pub IsTaken : ℕ → List ℕ → Result (Stored × ℕ) CodecFault → Type 0

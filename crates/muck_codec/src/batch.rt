@@ -2,13 +2,13 @@
 ghost use Rattle.std.specs.Prelude.{◌≡◌, ◌≤◌, ◌<◌, length, Ok, Err, Some, None, All, IfOk};
 ghost use Rattle.muck_codec.specs.inner.Stored.{IsStored};
 ghost use Rattle.muck_codec.specs.Reading.{Gives, last_key};
-ghost use Rattle.muck_codec.specs.Batches.{is_above, next_at, records_at, four_at, tune_at, batch_at, whole_batch, IsBatch};
+ghost use Rattle.muck_codec.specs.Batches.{is_above, next_record_at, records_at, tune_at, batch_at, whole_batch, IsBatch};
 
 use crate::fault::{CodecFault, Unread};
 use crate::reading::u32_at;
 use crate::record::record_at;
 use crate::stored::{Batch, Stored};
-use muck_model::{Dbref, Row, Tune};
+use muck_model::{Dbref, Parameter, Row, Tune};
 use std::alloc::Global;
 
 fn is_above(before: Option<Dbref>, dbref: Dbref) -> bool
@@ -20,14 +20,14 @@ fn is_above(before: Option<Dbref>, dbref: Dbref) -> bool
     }
 }
 
-#[tactic(auto, unfolding(crate::specs::Batches::next_at))]
+#[tactic(auto, unfolding(crate::specs::Batches::next_record_at))]
 fn next_at(
     alloc: Global,
     version: u8,
     before: Option<Dbref>,
     bytes: &[u8],
 ) -> Result<(Stored, &[u8]), Unread>
-    ensures { Gives (λ x. (x.0, x.1.now)) result (next_at version before bytes.now) }
+    ensures { Gives (λ x. (x.0, x.1.now)) result (next_record_at version before bytes.now) }
 {
     let (stored, rest) = record_at(alloc, version, bytes)?;
     if !is_above(before, stored.dbref) {
@@ -64,28 +64,17 @@ fn records_at(
     Ok((records, rest))
 }
 
-#[tactic(auto, unfolding(crate::specs::Batches::tune_at))]
+#[tactic(auto, unfolding(crate::specs::Batches::tune_at), using(crate::proofs::Loops::reads_on, crate::proofs::Loops::reads_fail, crate::proofs::Loops::reads_end))]
 fn tune_at(bytes: &[u8]) -> Result<(Tune, &[u8]), Unread>
     ensures { Gives (λ x. (x.0, x.1.now)) result (tune_at bytes.now) }
 {
-    let (instr_slice, rest) = u32_at(bytes)?;
-    let (preempt_units, rest) = u32_at(rest)?;
-    let (m1_units, rest) = u32_at(rest)?;
-    let (m2_units, rest) = u32_at(rest)?;
-    let (process_limit, rest) = u32_at(rest)?;
-    let (player_processes, rest) = u32_at(rest)?;
-    let (mpi_commands, rest) = u32_at(rest)?;
-    let (dump_interval, rest) = u32_at(rest)?;
-    let tune = Tune {
-        instr_slice,
-        preempt_units,
-        m1_units,
-        m2_units,
-        process_limit,
-        player_processes,
-        mpi_commands,
-        dump_interval,
-    };
+    let mut tune = Tune::first();
+    let mut rest = bytes;
+    for parameter in Parameter::all() {
+        let (value, after) = u32_at(rest)?;
+        tune.set(*parameter, value);
+        rest = after;
+    }
     Ok((tune, rest))
 }
 

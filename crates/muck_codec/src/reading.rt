@@ -1,7 +1,7 @@
 // Parts off the front of bytes.
 ghost use Rattle.std.specs.Prelude.{◌≡◌, ◌≤◌, ◌<◌, take, Ok, Err};
 ghost use Rattle.std.specs.Int.{w16, w32, w64};
-ghost use Rattle.muck_codec.specs.Reading.{Gives, byte_at, number_at, dbref_at, short_at, text_of, text_at};
+ghost use Rattle.muck_codec.specs.Reading.{Gives, byte_at, number_at, dbref_at, short_at, text_bytes_read, text_at};
 
 use crate::fault::Unread;
 use muck_model::{Dbref, Line, LineFault};
@@ -87,9 +87,9 @@ fn front_of(n: usize, bytes: &[u8]) -> &[u8]
     bytes.split_at(n).0
 }
 
-#[tactic(auto, unfolding(crate::specs::Reading::text_of))]
+#[tactic(auto, unfolding(crate::specs::Reading::text_bytes_read))]
 fn text_of(alloc: Global, n: usize, bytes: &[u8]) -> Result<(Line, &[u8]), Unread>
-    ensures { Gives (λ x. (x.0, x.1.now)) result (text_of n bytes.now) }
+    ensures { Gives (λ x. (x.0, x.1.now)) result (text_bytes_read n bytes.now) }
 {
     match Line::new(alloc, front_of(n, bytes)) {
         Ok(line) => {

@@ -5,7 +5,7 @@ ghost use Rattle.muck_codec.specs.declared.stored.Stored.{Stored};
 ghost use Rattle.muck_codec.specs.Spelling.{spelling};
 ghost use Rattle.muck_codec.specs.inner.Stored.{IsStored, IsSpelled, Takes};
 ghost use Rattle.muck_codec.specs.Reading.{Gives, last_key, text_at};
-ghost use Rattle.muck_codec.specs.Records.{kind_of, kind_at, flags_at, head_at, ties_at, lists_at, spells, path_at, rises, spelled, stored_of, tags_in, integer_at, tagged, value_at, property_at, properties_at, lines_at, texts_at, record_at, IsTaken};
+ghost use Rattle.muck_codec.specs.Records.{kind_coded, kind_at, flags_at, record_head_at, ties_at, lists_at, spells, path_at, rises, spelled, stored_from_parts, tags_in, integer_at, tagged, value_read_at, property_at, properties_at, source_lines_at, texts_at, record_at, IsTaken};
 
 use crate::fault::{CodecFault, Unread};
 use crate::reading::{byte_at, dbref_at, short_at, text_at, u16_at, u32_at, u64_at};
@@ -55,7 +55,7 @@ pub struct Texts {
 }
 
 fn kind_of(byte: u8) -> Option<Kind>
-    ensures { result ≡ kind_of byte }
+    ensures { result ≡ kind_coded byte }
 {
     match byte {
         0 => Some(Kind::Room),
@@ -79,9 +79,9 @@ fn kind_at(bytes: &[u8]) -> Result<(Kind, &[u8]), Unread>
     }
 }
 
-#[tactic(auto, unfolding(crate::specs::Records::head_at))]
+#[tactic(auto, unfolding(crate::specs::Records::record_head_at))]
 fn head_at(bytes: &[u8]) -> Result<(Head, &[u8]), Unread>
-    ensures { Gives (λ x. (x.0, x.1.now)) result (head_at bytes.now) }
+    ensures { Gives (λ x. (x.0, x.1.now)) result (record_head_at bytes.now) }
 {
     let (dbref, rest) = dbref_at(bytes)?;
     let (kind, rest) = kind_at(rest)?;
@@ -208,9 +208,9 @@ fn tagged(alloc: Global, tag: u8, rest: &[u8]) -> Result<(PropValue, &[u8]), Unr
     }
 }
 
-#[tactic(auto, unfolding(crate::specs::Records::value_at))]
+#[tactic(auto, unfolding(crate::specs::Records::value_read_at))]
 fn value_at(alloc: Global, version: u8, bytes: &[u8]) -> Result<(PropValue, &[u8]), Unread>
-    ensures { Gives (λ x. (x.0, x.1.now)) result (value_at version bytes.now) }
+    ensures { Gives (λ x. (x.0, x.1.now)) result (value_read_at version bytes.now) }
 {
     match bytes {
         [] => Err(Unread::Left(0)),
@@ -267,7 +267,7 @@ fn properties_at(
 }
 
 fn lines_at(alloc: Global, count: u16, bytes: &[u8]) -> Result<(Vec<Line>, &[u8]), Unread>
-    ensures { Gives (λ x. (x.0.items, x.1.now)) result (lines_at count bytes.now) }
+    ensures { Gives (λ x. (x.0.items, x.1.now)) result (source_lines_at count bytes.now) }
 {
     let mut lines = Vec::new(alloc);
     let mut rest = bytes;
@@ -299,7 +299,7 @@ fn texts_at(alloc: Global, version: u8, bytes: &[u8]) -> Result<(Texts, &[u8]), 
 }
 
 fn joined(head: Head, ties: Ties, lists: Lists, texts: Texts) -> Stored
-    ensures { result ≡ stored_of (head, (ties, (lists, texts))) }
+    ensures { result ≡ stored_from_parts (head, (ties, (lists, texts))) }
 {
     Stored {
         dbref: head.dbref,

@@ -3,10 +3,10 @@ ghost use Rattle.std.specs.Prelude.{◌≡◌, ◌≤◌, ◌<◌, ◌^◌, ◌+
 ghost use Rattle.std.specs.List.{flat_map};
 ghost use Rattle.muck_model.specs.Bytes.{lines_most};
 ghost use Rattle.muck_codec.specs.Spelling.{dbref_bytes, kind_byte, text_bytes, value_bytes, property_bytes, head_bytes, ties_bytes, lists_bytes, properties_bytes, lines_bytes, texts_bytes, spelling};
-ghost use Rattle.muck_codec.specs.Batches.{four_bytes, tune_bytes};
+ghost use Rattle.muck_codec.specs.Batches.{parameter_bytes, tune_bytes};
 
 use crate::stored::{Property, Stored};
-use muck_model::{Dbref, Kind, Line, NoMemory, Tune};
+use muck_model::{Dbref, Kind, Line, NoMemory, Parameter, Tune};
 use muck_prop::PropValue;
 use std::alloc::Global;
 
@@ -159,14 +159,13 @@ pub fn put_record(alloc: Global, object: &Stored, out: &mut Vec<u8>) -> Result<(
     Ok(())
 }
 
-#[tactic(auto, unfolding(crate::specs::Batches::four_bytes))]
-fn put_four(out: &mut Vec<u8>, a: u32, b: u32, c: u32, d: u32) -> Result<(), NoMemory>
-    ensures { OnOk result (out.new.items ≡ out.old.items ++ four_bytes a b c d) }
+// The values of these parameters, one behind the other.
+fn put_values(out: &mut Vec<u8>, tune: &Tune, parameters: &[Parameter]) -> Result<(), NoMemory>
+    ensures { OnOk result (out.new.items ≡ out.old.items ++ flat_map (parameter_bytes tune.now) parameters.now) }
 {
-    out.extend_from_slice(&a.to_be_bytes())?;
-    out.extend_from_slice(&b.to_be_bytes())?;
-    out.extend_from_slice(&c.to_be_bytes())?;
-    out.extend_from_slice(&d.to_be_bytes())?;
+    for parameter in parameters {
+        out.extend_from_slice(&tune.get(*parameter).to_be_bytes())?;
+    }
     Ok(())
 }
 
@@ -175,19 +174,6 @@ fn put_four(out: &mut Vec<u8>, a: u32, b: u32, c: u32, d: u32) -> Result<(), NoM
 pub fn put_tune(out: &mut Vec<u8>, tune: &Tune) -> Result<(), NoMemory>
     ensures { OnOk result (out.new.items ≡ out.old.items ++ tune_bytes tune.now) }
 {
-    put_four(
-        out,
-        tune.instr_slice,
-        tune.preempt_units,
-        tune.m1_units,
-        tune.m2_units,
-    )?;
-    put_four(
-        out,
-        tune.process_limit,
-        tune.player_processes,
-        tune.mpi_commands,
-        tune.dump_interval,
-    )?;
+    put_values(out, tune, Parameter::all())?;
     Ok(())
 }

@@ -5,8 +5,9 @@ use Rattle.std.proofs.lemmas.Option.{same_Some, none-some, slice_get_within}
 use Rattle.std.proofs.lemmas.Bool.{both_ways}
 use mathlib.Core.Option.{some, some-ne-none, some-injective}
 use lib.ListN.{get_elem?}
+use Rattle.muck_laws.proofs.Places.{got_index}
 use Rattle.atomic_table.specs.Seated.{TableId}
-use Rattle.turn_lock.specs.Histories.{StartsWith, kept, own_of, Has}
+use Rattle.turn_lock.specs.Histories.{StartsWith, entry_kept, own_of, Has}
 use Rattle.turn_lock.specs.declared.view.Taken.{Taken}
 use Rattle.turn_lock.specs.declared.view.Place.TheVariants.{Idle}
 use Rattle.turn_lock.specs.inner.Turns.{kept_of, left_after, newcomer}
@@ -17,7 +18,7 @@ use Rattle.muck_model.specs.declared.event.Event.TheVariants.{Died}
 use Rattle.muck_model.specs.declared.note.Note.{Note}
 use Rattle.spec_events.specs.declared.logged.Logged.{Logged}
 use Rattle.spec_events.specs.World.{World}
-use Rattle.spec_events.specs.Steps.{is_died, is_lawful, effect, happened}
+use Rattle.spec_events.specs.Steps.{is_died, is_lawful, effect, happened, hooked_by}
 use Rattle.spec_events.specs.Histories.{History, now, after, AllLawful}
 use Rattle.spec_events.specs.Logged.{logged, loose_notes, loose_count, logged_by, entry_of, entries_of, events_of, notes_from, counted_from, items_from}
 use Rattle.spec_events.proofs.Logging.{entries_logged}
@@ -27,12 +28,12 @@ use Rattle.muck_machine.specs.declared.beginning.Beginning.{Beginning}
 use Rattle.muck_machine.specs.inner.Beginnings.{beginning, begun}
 use Rattle.muck_machine.specs.inner.Seats.{Sight, Chair, Rests, AllOrderly}
 use Rattle.muck_machine.proofs.Seating.{begun_settled}
-use Rattle.muck_dumping.specs.declared.store.Store.{Store}
-use Rattle.muck_dumping.specs.inner.Between.{IsReady as HasLog, Knows}
+use Rattle.muck_dumper.specs.declared.Store.{Store}
+use Rattle.muck_dumper.specs.inner.Between.{IsReady as HasLog, Knows}
 use Rattle.muck_dumper.specs.inner.Dumping.{history_from, history_seen}
 use Rattle.muck_porter.specs.inner.Porter.{PorterReady}
 use Rattle.muck_crew.specs.declared.seats.Part.{Part}
-use Rattle.muck_crew.specs.Shared.{done_by}
+use Rattle.muck_crew.specs.Shared.{events_done_by}
 use Rattle.muck_crew.specs.inner.Parts.{IsAble, given_to, IsDealt, AreDealt, all_in, IsReady, IsDone, AreDone}
 use Rattle.muck_crew.specs.inner.Runs.{IsFresh}
 
@@ -43,7 +44,7 @@ events_entries [] = refl
 events_entries (l ∷ ls) = ap (λ (es : List Event). l.entry.event ∷ es) (events_entries ls)
 
 -- what a party did are the events of its own items
-pub done_own : (p : ℕ) (h : History) → done_by p h.entries ≡ events_of (own_of logged_by p (logged h))
+pub done_own : (p : ℕ) (h : History) → events_done_by p h.entries ≡ events_of (own_of logged_by p (logged h))
 done_own p h =
     ap (λ (es : List Entry). map (λ (e : Entry). e.event) (own_of party_of p es)) (sym (entries_logged h))
     ∙ ap (λ (es : List Entry). map (λ (e : Entry). e.event) es) (sym (own_entries_of p (logged h)))
@@ -53,7 +54,7 @@ pub own_has : (p : ℕ) (ls : List Logged) (l : Logged) → Has (own_of logged_b
 own_has p [] l h = h
 own_has p (x ∷ xs) l h = from (own_has p xs l) (x.entry.party == p) h
   where
-    from : (Has (own_of logged_by p xs) l → Has xs l) → (b : Bool) → Has (kept b x (own_of logged_by p xs)) l → Has (x ∷ xs) l
+    from : (Has (own_of logged_by p xs) l → Has xs l) → (b : Bool) → Has (entry_kept b x (own_of logged_by p xs)) l → Has (x ∷ xs) l
     from ih true (zero, at) = (0, at)
     from ih true (suc i, at) = let r = ih (i, at) in (suc r.0, r.1)
     from ih false r = let q = ih r in (suc q.0, q.1)
@@ -77,7 +78,7 @@ longer_than xs ys (rest, is) = let l = length-append ys rest in let s = ap lengt
 
 -- Want of memory.
 
-died_dead : (w : World) (p : ℕ) (event : Event) → is_died event ≡ true → (happened w p event).dead ≡ true
+died_dead : (w : World) (p : ℕ) (event : Event) → is_died event ≡ true → (hooked_by w event (happened w p event)).dead ≡ true
 died_dead w p Died is = refl
 died_dead w p event is = absurd (both_ways false refl is)
 
@@ -93,11 +94,6 @@ died_at w (x ∷ xs) e (zero, at) is l = dead_stays (effect w x) xs (died_dead w
 died_at w (x ∷ xs) e (suc i, at) is l = died_at (effect w x) xs e (i, at) is l.1
 
 -- Parts by their places.
-
-got_index : {X : Type 0} (xs : List X) (i : ℕ) (d : X) → i < length xs → slice_get xs i ≡ Some (slice_index_or xs i d)
-got_index [] i d lt = absurd (omega (arith, lt))
-got_index (x ∷ xs) zero d lt = refl
-got_index (x ∷ xs) (suc i) d lt = got_index xs i d (omega (arith, lt))
 
 -- the part of a party as it was given out and as it returned
 pub record WasDone (table : TableId) (v : Sight) (i : ℕ) (p' : Part) : Type 0 where

@@ -4,6 +4,8 @@ use Rattle.std.specs.Prelude.{slice_get}
 use Rattle.std.proofs.lemmas.List.{append-nil}
 use mathlib.Core.Option.{some, some-ne-none, some-injective}
 use lib.ListN.{get_elem?}
+use Rattle.muck_laws.proofs.Numbers.{too_many}
+use Rattle.muck_laws.proofs.Places.{some_at}
 use Rattle.atomic_table.specs.Seated.{TableId}
 use Rattle.turn_lock.specs.Histories.{StartsWith, own_of, Has, AllOf, IsKnown}
 use Rattle.turn_lock.specs.declared.view.Taken.{Taken}
@@ -22,7 +24,7 @@ use Rattle.spec_events.specs.declared.logged.Logged.{Logged}
 use Rattle.spec_events.specs.World.{World}
 use Rattle.spec_events.specs.Histories.{History, now, after, AllLawful, by_porter}
 use Rattle.spec_events.specs.Logged.{logged, logged_by, entries_of, events_of, notes_of, count_from, IsSettled, IsPlaced, IsOrderly, bare_item}
-use Rattle.spec_events.specs.Own.{IsWellFormed, IsOver}
+use Rattle.spec_events.specs.Own.{IsWellFormed, IsPartyOver}
 use Rattle.spec_events.proofs.Owning.{over_stop, over_died}
 use Rattle.spec_events.proofs.Logging.{entries_logged, entries_append, events_append, notes_append, rebuilt}
 use Rattle.spec_talks.specs.Talks.{talks}
@@ -32,10 +34,10 @@ use Rattle.muck_machine.specs.declared.beginning.Beginning.{Beginning}
 use Rattle.muck_machine.specs.inner.Beginnings.{beginning, begun}
 use Rattle.muck_machine.specs.inner.Seats.{Sight, Chair, AllOrderly, SameLists}
 use Rattle.muck_machine.proofs.Seating.{settled_begun, others_none, others_quiet, orderly_back}
-use Rattle.muck_dumping.specs.declared.store.Store.{Store}
-use Rattle.muck_dumping.specs.inner.Between.{IsReady as HasLog, Knows}
+use Rattle.muck_dumper.specs.declared.Store.{Store}
+use Rattle.muck_dumper.specs.inner.Between.{IsReady as HasLog, Knows}
 use Rattle.muck_dumper.specs.inner.Dumping.{history_from, history_seen, DumperDone}
-use Rattle.muck_dumping.proofs.Knowing.{knows_quiet}
+use Rattle.muck_dumper.proofs.StoreKnowing.{knows_quiet}
 use Rattle.muck_dumper.specs.declared.dumping.Why.{Why as DumperWhy}
 use Rattle.muck_dumper.specs.declared.dumping.Why.TheVariants as dumper
 use Rattle.muck_worker.specs.inner.Working.{WorkerDone}
@@ -50,12 +52,11 @@ use Rattle.muck_porter.specs.declared.porting.Why.TheVariants as porter
 use Rattle.muck_crew.specs.declared.seats.Part.{Part}
 use Rattle.muck_crew.specs.declared.serving.Way.{Way}
 use Rattle.muck_crew.specs.declared.serving.Way.TheVariants.{Wanted, Spent}
-use Rattle.muck_crew.specs.Shared.{IsParty, done_by, IsThrough, AllOver, EndsStopped, LeavesWorkedOff}
+use Rattle.muck_crew.specs.Shared.{IsParty, events_done_by, IsThrough, AllOver, EndsStopped, LeavesWorkedOff}
 use Rattle.muck_crew.specs.inner.Parts.{given_to, AreDealt, AreOver, all_in, AreDone}
 use Rattle.muck_crew.specs.inner.Runs.{IsFresh, SomeWorker, AllFine, IsEndOf, HasStopped, HasRun}
 use Rattle.muck_crew.proofs.Seating.{given_low, given_count}
 use Rattle.muck_crew.proofs.Closing.{done_own, own_has, has_end, has_entry, entry_at, longer_than, died_at, done_at, SameButJoined, in_same, in_count, in_has, in_kept, Begins, given_same, fresh_begun, fresh_history}
-use Rattle.spec_live.proofs.Lists.{some_at}
 
 -- What the lock says of a world that is closed, and of the first seat.
 pub record Shut (v : Sight) (h : History) : Type 0 where
@@ -67,11 +68,11 @@ pub record Shut (v : Sight) (h : History) : Type 0 where
   pub allowed : AllOf IsOrderly (logged h)
 
 -- what a party did, whose items these are
-pub formed_of : (p : ℕ) (h : History) (own : List Logged) → own ≡ own_of logged_by p (logged h) → IsWellFormed p (events_of own) → IsWellFormed p (done_by p h.entries)
+pub formed_of : (p : ℕ) (h : History) (own : List Logged) → own ≡ own_of logged_by p (logged h) → IsWellFormed p (events_of own) → IsWellFormed p (events_done_by p h.entries)
 formed_of p h own is formed = subst (IsWellFormed p) (ap events_of is ∙ sym (done_own p h)) formed
 
-pub over_of : (p : ℕ) (h : History) (own : List Logged) → own ≡ own_of logged_by p (logged h) → IsOver p (events_of own) → IsOver p (done_by p h.entries)
-over_of p h own is over = subst (IsOver p) (ap events_of is ∙ sym (done_own p h)) over
+pub over_of : (p : ℕ) (h : History) (own : List Logged) → own ≡ own_of logged_by p (logged h) → IsPartyOver p (events_of own) → IsPartyOver p (events_done_by p h.entries)
+over_of p h own is over = subst (IsPartyOver p) (ap events_of is ∙ sym (done_own p h)) over
 
 pub stopped_of : (p : ℕ) (h : History) (own front : List Logged) (l : Logged) → own ≡ own_of logged_by p (logged h) → own ≡ front ++ l ∷ [] → l.entry.event ≡ StopSeen → EndsStopped p h.entries
 stopped_of p h own front l is ends stop =
@@ -100,13 +101,10 @@ dumper_cases dumper.NoMemory = inr (inl refl)
 dumper_cases dumper.Spent = inr (inr refl)
 
 over_behind : (p : ℕ) (own front : List Logged) (l : Logged) (event : Event) → own ≡ front ++ l ∷ [] → l.entry.event ≡ event → IsWellFormed p (events_of own)
-    → (IsWellFormed p (events_of front ++ event ∷ []) → IsOver p (events_of front ++ event ∷ [])) → IsOver p (events_of own)
+    → (IsWellFormed p (events_of front ++ event ∷ []) → IsPartyOver p (events_of front ++ event ∷ [])) → IsPartyOver p (events_of own)
 over_behind p own front l event is last formed over =
     let same : events_of own ≡ events_of front ++ event ∷ [] = ap events_of is ∙ events_append front (l ∷ []) ∙ ap (λ (x : Event). events_of front ++ x ∷ []) last in
-    subst (IsOver p) (sym same) (over (subst (IsWellFormed p) same formed))
-
-too_many : {n : ℕ} → n < 2 ^ 62 → 2 ^ 62 ≤ n → ⊥
-too_many few many = omega (arith, few, many)
+    subst (IsPartyOver p) (sym same) (over (subst (IsWellFormed p) same formed))
 
 module _ {D : Type 0} (tells : Bool) (seen : D → List ℕ) (moment : D → ℕ) (images : D → ℕ → List ℕ → Type 0) (faults : D → ℕ) (shows : Bool) (b k : Account) (workers : ℕ) (way : Way) (pw : PorterWhy) (dw : DumperWhy)
     (store store' : Store) (f s f' s' : D) (world h : History) (m : Note) (fresh : IsFresh m world) (few : workers < 9)
@@ -200,12 +198,12 @@ module _ {D : Type 0} (tells : Bool) (seen : D → List ℕ) (moment : D → ℕ
   part_of : (i : ℕ) → suc i ≤ workers → (p' : Part) × (slice_get parts' i ≡ Some p')
   part_of i low = let count = dealt.count in let long = wd.same in some_at parts' i (omega (arith, low, count, long))
 
-  owns : (party : ℕ) → IsParty workers party → IsWellFormed party (done_by party h.entries)
+  owns : (party : ℕ) → IsParty workers party → IsWellFormed party (events_done_by party h.entries)
   owns zero is = formed_of 0 h sp.0.own own0 pd.over.formed
   owns (suc i) (inl low) = let p' = part_of i low in let one = worked i p'.0 p'.1 in formed_of (suc i) h p'.0.seat.me.0.own one.own one.done.formed
-  owns (suc i) (inr nine) = subst (λ (p : ℕ). IsWellFormed p (done_by p h.entries)) (sym nine) (formed_of 9 h o'.0.own own9 dd.formed)
+  owns (suc i) (inr nine) = subst (λ (p : ℕ). IsWellFormed p (events_done_by p h.entries)) (sym nine) (formed_of 9 h o'.0.own own9 dd.formed)
 
-  over9 : length h.entries < 2 ^ 62 → IsOver 9 (events_of o'.0.own)
+  over9 : length h.entries < 2 ^ 62 → IsPartyOver 9 (events_of o'.0.own)
   over9 few = elim (dumper_cases dw) [
     | inl fine ↦ (let q = dd.fine fine in over_behind 9 o'.0.own q.0 q.1 StopSeen q.2 (ap (λ (x : Entry). x.event) q.3) dd.formed (over_stop 9 (events_of q.0)))
     | inr rest ↦ elim rest [

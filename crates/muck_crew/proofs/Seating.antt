@@ -1,30 +1,18 @@
 -- Seats as they are given out and taken in.
-use Rattle.std.proofs.Common.{◌≡◌, ◌⊎◌, inl, inr, ℕ, zero, suc, ◌<◌, ◌≤◌, List, [], ◌∷◌, ◌++◌, length, refl, sym, ap, ◌∙◌, subst, arith, length-append, Some}
+use Rattle.std.proofs.Common.{◌≡◌, ◌⊎◌, inl, inr, ℕ, zero, suc, ◌<◌, ◌≤◌, List, [], ◌∷◌, ◌++◌, length, refl, sym, ap, ◌∙◌, subst, arith, length-append}
 use Rattle.std.specs.Prelude.{slice_get}
-use Rattle.std.proofs.lemmas.Option.{same_Some, none-some}
+use Rattle.std.proofs.lemmas.Option.{none-some}
 use mathlib.Core.Option.{some, some-ne-none, some-injective}
 use lib.ListN.{get_elem?}
+use Rattle.muck_laws.proofs.Places.{got_before, got_last, place_snoc}
 use Rattle.atomic_table.specs.Seated.{TableId}
 use Rattle.turn_lock.specs.Histories.{Has}
 use Rattle.turn_lock.specs.inner.Turns.{left_after, newcomer, taken_in}
 use Rattle.muck_machine.specs.inner.Seats.{Sight}
 use Rattle.muck_crew.specs.declared.seats.Part.{Part}
 use Rattle.muck_crew.specs.inner.Parts.{given_to, IsDealt, AreDealt, IsOver, AreOver, all_in}
-use Rattle.spec_live.proofs.Lists.{get_last}
 
 -- Lists by place.
-
--- of a list with one more, an item is the last one, or stands before it
-pub place_snoc : {X : Type 0} (xs : List X) (x y : X) (i : ℕ) → slice_get (xs ++ x ∷ []) i ≡ Some y → ((i ≡ length xs) × (x ≡ y)) ⊎ (slice_get xs i ≡ Some y)
-place_snoc [] x y zero at = inl (refl, same_Some x y at)
-place_snoc [] x y (suc i) at = absurd (none-some y at)
-place_snoc (z ∷ zs) x y zero at = inr at
-place_snoc (z ∷ zs) x y (suc i) at = elim (place_snoc zs x y i at) [ inl e ↦ inl (ap suc e.0, e.1) | inr e ↦ inr e ]
-
-pub got_before : {X : Type 0} (xs : List X) (x y : X) (i : ℕ) → slice_get xs i ≡ Some y → slice_get (xs ++ x ∷ []) i ≡ Some y
-got_before [] x y i at = absurd (none-some y at)
-got_before (z ∷ zs) x y zero at = at
-got_before (z ∷ zs) x y (suc i) at = got_before zs x y i at
 
 -- Given out.
 
@@ -66,7 +54,7 @@ in_last [] p v = refl
 in_last (q ∷ qs) p v = ap (λ (u : Sight). taken_in u q.seat.me.0) (in_last qs p v)
 
 pub over_front : (table : TableId) (ps : List Part) (p : Part) → AreOver table (ps ++ p ∷ []) → AreOver table ps × IsOver table p
-over_front table ps p over = ((λ i q at. over i q (got_before ps p q i at)), over (length ps) p (get_last ps p))
+over_front table ps p over = ((λ i q at. over i q (got_before ps p q i at)), over (length ps) p (got_last ps p))
 
 -- With the next number as it is counted.
 

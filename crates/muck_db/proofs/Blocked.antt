@@ -1,9 +1,11 @@
 -- What is known of the slots of a block by its flags.
 use Rattle.std.proofs.Common.{◌≡◌, ◌≢◌, ℕ, ◌+◌, ◌*◌, ◌/◌, ◌%◌, ◌<◌, ◌≤◌, zero, suc, List, [], ◌∷◌, ◌++◌, Some, None, inl, inr, refl, sym, ◌∙◌, ap, subst, length, arith, Bool, true, false, not, Option, ◌||◌}
 use Rattle.std.proofs.lemmas.Bool.{cases_eq, cases_lt, false≢true}
-use Rattle.std.proofs.lemmas.Nat.{div_below, le-div, div-add-mod'}
+use Rattle.std.proofs.lemmas.Nat.{div-add-mod'}
 use Rattle.std.proofs.Math.Nat.{mod-lt}
 use Rattle.std.specs.List.{slice_get, slice_set}
+use Rattle.muck_laws.proofs.Numbers.{same_block}
+use Rattle.muck_laws.proofs.Places.{get_elsewhere, get_more}
 use Rattle.muck_db.specs.declared.slot.Slot.{Slot}
 use Rattle.muck_db.specs.declared.blocks.Flag.{Flag}
 use Rattle.muck_db.specs.declared.blocks.Flag.TheVariants.{Unsaved, Garbage, Marked}
@@ -19,19 +21,6 @@ use Rattle.muck_db.specs.inner.Slots.{shown, object_at, kind_at, mark_at}
 use Rattle.muck_db.specs.inner.Blocks.{full, has, is_done, is_some, is_so, flagged, LacksAt, IsCovered}
 
 -- Writes at one place of a list.
-
-get_elsewhere : {X : Type 0} (xs : List X) (n k : ℕ) (v : X) → (k ≡ n → ⊥) → slice_get (slice_set xs n v) k ≡ slice_get xs k
-get_elsewhere [] n k v ne = refl
-get_elsewhere (y ∷ ys) zero zero v ne = absurd (ne refl)
-get_elsewhere (y ∷ ys) zero (suc k) v ne = refl
-get_elsewhere (y ∷ ys) (suc n) zero v ne = refl
-get_elsewhere (y ∷ ys) (suc n) (suc k) v ne = get_elsewhere ys n k v (λ e. ne (ap suc e))
-
-get_before : {X : Type 0} (xs : List X) (x : X) (k : ℕ) → (k ≡ length xs → ⊥) → slice_get (xs ++ x ∷ []) k ≡ slice_get xs k
-get_before [] x zero ne = absurd (ne refl)
-get_before [] x (suc k) ne = refl
-get_before (y ∷ ys) x zero ne = refl
-get_before (y ∷ ys) x (suc k) ne = get_before ys x k (λ e. ne (ap suc e))
 
 -- The flags of a block that is written.
 
@@ -89,17 +78,13 @@ opened slots blocks covered flag i unflagged = covered flag i (flag_more flag bl
 
 pub pushed : (slots : List Slot) (blocks : List Block) (x : Slot) → IsCovered slots blocks → IsCovered (slots ++ x ∷ []) (slice_set blocks (length slots / 16) full)
 pushed slots blocks x =
-    put slots (slots ++ x ∷ []) blocks (length slots / 16) full (λ flag i s e at h. not_full flag h) (λ i ne. get_before slots x i (λ e. ne (ap (λ z. z / 16) e)))
+    put slots (slots ++ x ∷ []) blocks (length slots / 16) full (λ flag i s e at h. not_full flag h) (λ i ne. get_more slots x i (λ e. ne (ap (λ z. z / 16) e)))
 
 -- nothing but the flags is new
 pub flagged_full : (slots : List Slot) (blocks : List Block) (j : ℕ) → IsCovered slots blocks → IsCovered slots (slice_set blocks j full)
 flagged_full slots blocks j = put slots slots blocks j full (λ flag i s e at h. not_full flag h) (λ i ne. refl)
 
 -- The numbers of a block.
-
-pub same_block : (k i : ℕ) → k ≤ i → i < (k / 16 + 1) * 16 → i / 16 ≡ k / 16
-same_block k i le lt =
-    omega (arith, div_below i 16 (k / 16 + 1) (omega arith) lt, le-div (k / 16) i 16 (omega arith) (omega (arith, le, div-add-mod' k 16)))
 
 pub record IsWithin (k i : ℕ) : Type 0 where
   pub low : k / 16 * 16 ≤ i
@@ -111,12 +96,6 @@ within k i e =
     let some : 0 < 16 = omega arith in
     let small : i % 16 < 16 = mod-lt i some in
     record { low = omega (arith, split); high = omega (arith, split, small) }
-
-pub later_block : (k : ℕ) → k ≤ (k / 16 + 1) * 16
-later_block k =
-    let some : 0 < 16 = omega arith in
-    let small : k % 16 < 16 = mod-lt k some in
-    omega (arith, div-add-mod' k 16, small)
 
 -- Passing over a block whose flag isn't set.
 

@@ -3,18 +3,19 @@ use Rattle.std.proofs.Common.{◌≡◌, ℕ, ◌<◌, ◌≤◌, zero, suc, Lis
 use Rattle.std.proofs.lemmas.Bool.{cases_eq, ne_eqb, eq-eqb}
 use Rattle.std.specs.List.{slice_get}
 use Rattle.std.specs.Option.{option_map, option_map_or, option_and_then}
+use Rattle.muck_laws.proofs.Mapped.{length_map}
 use Rattle.muck_model.specs.declared.dbref.Dbref.{Dbref}
 use Rattle.spec_live.specs.declared.object.Object.{Object}
 use Rattle.spec_live.specs.declared.saving.Saving.{Saving}
 use Rattle.spec_live.specs.declared.saving.Saving.TheVariants.{Due}
-use Rattle.spec_live.specs.Chain.{walk, IsChain, Ends, Member, follower, without, put_at}
-use Rattle.spec_live.specs.Objects.{Entry, dbref_of, list_in, place_in, path_in, number_in, changed_at, is_exit, is_garbage, object_in, object_at, kind_in, fits_in, is_vehicle_in, is_player}
+use Rattle.spec_live.specs.Chain.{walk, IsChain, Ends, Member, follower, without_number, put_at}
+use Rattle.spec_live.specs.Objects.{Entry, dbref_of, list_in, place_in, places_from, number_in, changed_at, is_exit, is_garbage, object_in, object_at, kind_in, fits_in, is_vehicle_in, is_player}
 use Rattle.spec_live.specs.Moving.{set_down, moved, with_place}
-use Rattle.spec_live.specs.Saving.{front, next_in, links_in, saving_in}
+use Rattle.spec_live.specs.Saving.{first_of_list, next_in, links_in, saving_in}
 use Rattle.spec_live.specs.Consistent.{MayMove, IsOrdered, IsConsistent, StandsIn}
 use Rattle.spec_live.specs.Seen.{listed_in}
 use Rattle.spec_live.proofs.Chains.{ends_from, walk_is, walk_next, walk_none, member_none, without_same}
-use Rattle.spec_live.proofs.Lists.{length_changed, length_map, put_other}
+use Rattle.spec_live.proofs.Lists.{length_changed, put_other}
 use Rattle.spec_live.proofs.Dues.{saving_down}
 use Rattle.spec_live.proofs.KindLaws.{standing_alive}
 use Rattle.spec_live.proofs.Orders.{ordered_moved, list_short}
@@ -24,10 +25,11 @@ use Rattle.muck_db.specs.inner.Slots.{next_at, first_at, place_at, kind_at, path
 use Rattle.muck_db.specs.inner.Limits.{IsWithinLimits}
 use Rattle.spec_live.proofs.Ties.{consistent_moved}
 use Rattle.muck_db.proofs.LimitLaws.{limits_moved}
-use Rattle.muck_db.proofs.Tables.{first-on_slot, next-on_slot, mark-on_slot, object-on_slot_same, object-on_slot_other, saving_other}
+use Rattle.spec_live.proofs.Tracing.{stood_moved}
+use Rattle.muck_db.proofs.Tables.{first-on_slot, next-on_slot, mark-on_slot, stood-on_slot, object-on_slot_same, object-on_slot_other, saving_other}
 use Rattle.muck_db.proofs.Leads.{relinked_due, IsWithout, next_without, saving_without, follower_put}
 use Rattle.muck_db.proofs.Linked.{chain_at, chain_over, led_from}
-use Rattle.muck_db.proofs.Readers.{length-entries_of, object_in-entries_of, list_in-entries_of, place_in-entries_of, is_exit-entries_of, kind_in-entries_of, flags_in-entries_of, home_in-entries_of, owner_in-entries_of, mark_in-entries_of, saving_in-entries_of}
+use Rattle.muck_db.proofs.Readers.{length-entries_of, object_in-entries_of, list_in-entries_of, place_in-entries_of, is_exit-entries_of, kind_in-entries_of, flags_in-entries_of, home_in-entries_of, owner_in-entries_of, mark_in-entries_of, saving_in-entries_of, stood_in-entries_of}
 
 pub walk_same : (k : ℕ) (f g : ℕ → Option ℕ) (s : Option ℕ) → ((x : ℕ) → g x ≡ f x) → walk k g s ≡ walk k f s
 unfolding walk
@@ -35,8 +37,8 @@ walk_same zero f g s h = refl
 walk_same (suc k) f g None h = refl
 walk_same (suc k) f g (Some x) h = rw (h x) (ap (λ t. x ∷ t) (walk_same k f g (f x) h))
 
-pub path_in-entries_of : (slots : List Slot) (k : ℕ) → path_in (entries_of slots) k ≡ path_at slots k
-unfolding path_in path_at
+pub path_in-entries_of : (slots : List Slot) (k : ℕ) → places_from (entries_of slots) k ≡ path_at slots k
+unfolding places_from path_at
 path_in-entries_of slots k = rw (length-entries_of slots) (walk_same (length slots) (place_at slots) (place_in (entries_of slots)) (Some k) (place_in-entries_of slots))
 
 pub order_up : (slots : List Slot) → HasOrder slots → (k : ℕ) → k < length slots → Ends (length slots) (place_at slots) (Some k)
@@ -82,6 +84,7 @@ unlinked_none d slots h none = record {
   same_length = refl;
   same_objects = λ k. refl;
   same_marks = λ k. refl;
+  same_stood = λ k. refl;
   due = λ k leads. let m : (v : Bool) × (q : ℕ) × Member d (list_at v slots q) = led_from slots d k leads in absurd (cc ((h.stands m.0 m.1 d m.2).place, none));
   same_savings = λ k leads. refl;
   chains = λ v p. chain_over _ _ _ _ _ _ _ _ refl refl (without_same d (list_at v slots p) (λ m. absurd (cc ((h.stands v p d m).place, none)))) (λ x m. refl) (chain_at slots h v p);
@@ -95,8 +98,8 @@ chain_on_slot n f old mid new v p xs is_new h =
     (rw is_new (length_changed mid n (on_slot f))) (rw is_new (first-on_slot v mid n p f)) refl (λ x m. rw is_new (next-on_slot mid n x f)) h
 
 pub placed_chain : (d : ℕ) (f : Object → Object) (old mid new : List Slot) → IsUnlinked d old mid → new ≡ changed_at d (on_slot f) mid
-    → (v : Bool) (p : ℕ) → IsChain (length new) (next_at new) (first_at v new p) (without d (list_at v old p))
-placed_chain d f old mid new u is_new v p = chain_on_slot d f old mid new v p (without d (list_at v old p)) is_new (u.chains v p)
+    → (v : Bool) (p : ℕ) → IsChain (length new) (next_at new) (first_at v new p) (without_number d (list_at v old p))
+placed_chain d f old mid new u is_new v p = chain_on_slot d f old mid new v p (without_number d (list_at v old p)) is_new (u.chains v p)
 
 -- The marks behind a move.
 
@@ -119,16 +122,16 @@ next_down es d to k lt other =
     let same : object_in fs k ≡ object_in es k = object_not_down es d to k other in
     rw (place_alike es fs k same, kind_alike es fs k same) (by_cases (place_in es k))
   where
-    by_cases : (o : Option ℕ) → option_and_then (λ p. follower k (list_in (is_exit (kind_in es k)) (set_down d to es) p)) o ≡ option_and_then (λ p. follower k (without d (list_in (is_exit (kind_in es k)) es p))) o
+    by_cases : (o : Option ℕ) → option_and_then (λ p. follower k (list_in (is_exit (kind_in es k)) (set_down d to es) p)) o ≡ option_and_then (λ p. follower k (without_number d (list_in (is_exit (kind_in es k)) es p))) o
     by_cases None = refl
     by_cases (Some p) =
         let v : Bool = is_exit (kind_in es k) in
-        ap (λ l. follower k l) (list_down v es d to p lt) ∙ follower_put (is_exit (kind_in es d)) v d to p k (without d (list_in v es p)) other
+        ap (λ l. follower k l) (list_down v es d to p lt) ∙ follower_put (is_exit (kind_in es d)) v d to p k (without_number d (list_in v es p)) other
 
 down_without : (es : List Entry) (d to k : ℕ) → to < length es → (k ≡ d → ⊥) → (k ≡ to → ⊥) → IsWithout d es (set_down d to es) k
 down_without es d to k lt other elsewhere = record {
   other = other;
-  fronts = λ v. ap front (list_down v es d to k lt ∙ put_other (is_exit (kind_in es d)) to d v k (without d (list_in v es k)) (λ a. elsewhere));
+  fronts = λ v. ap first_of_list (list_down v es d to k lt ∙ put_other (is_exit (kind_in es d)) to d v k (without_number d (list_in v es k)) (λ a. elsewhere));
   next = next_down es d to k lt other;
 }
 
@@ -164,10 +167,11 @@ entries_moved d to w old mid placed new exit lt alive u is_placed l =
       | inr e ↦ rw is_placed (object-on_slot_other mid d k (with_place to) e) ∙ u.same_objects k ∙ sym (object_in-entries_of old k) ∙ sym (object_unmoved (entries_of old) d to k e)
     ])
     (λ v k. list_in-entries_of v new k ∙ list_is v new k _ (l.chains v k)
-    ∙ ap (λ t. put_at w to d v k t) (list_is v placed k (without d (list_at v old k)) (placed_chain d (with_place to) old mid placed u is_placed v k))
+    ∙ ap (λ t. put_at w to d v k t) (list_is v placed k (without_number d (list_at v old k)) (placed_chain d (with_place to) old mid placed u is_placed v k))
     ∙ sym (rw (is_exit-entries_of old d, exit, list_in-entries_of v old k) at (list_moved v (entries_of old) d to k (omega (arith, length-entries_of old)))))
     (λ k. mark_in-entries_of new k ∙ l.same_marks k ∙ rw is_placed (mark-on_slot mid d k (with_place to)) ∙ u.same_marks k ∙ sym (mark_in-entries_of old k) ∙ sym (mark_moved (entries_of old) d to k))
     (λ k. saving_in-entries_of new k ∙ saving_placed d to w old mid placed new lt u is_placed l k)
+    (λ k. stood_in-entries_of new k ∙ l.same_stood k ∙ rw is_placed (stood-on_slot mid d k (with_place to)) ∙ u.same_stood k ∙ sym (stood_in-entries_of old k) ∙ sym (stood_moved d to (entries_of old) k))
 
 pub order_moved : (d to : ℕ) (w : Bool) (old placed new : List Slot) → HasOrder old → MayMove (entries_of old) d to → IsLinked w to d placed new → entries_of new ≡ moved d to (entries_of old) → HasOrder new
 order_moved d to w old placed new s may l is = record {

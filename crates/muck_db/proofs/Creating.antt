@@ -11,7 +11,7 @@ use Rattle.spec_live.specs.declared.object.Object.{Object}
 use Rattle.spec_live.specs.Chain.{Ends}
 use Rattle.muck_match.specs.inner.Listed.{IsAmong}
 use Rattle.spec_live.specs.Objects.{Entry, dbref_of, changed_at, with_object, is_garbage, object_in, kind_in, mark_in, is_vehicle_in, is_player}
-use Rattle.spec_live.specs.Making.{grown, free_in, new_object, created, create_check, Creates}
+use Rattle.spec_live.specs.Making.{objects_grown, free_in, new_object, created, create_check, Creates}
 use Rattle.spec_live.specs.Moving.{moved}
 use Rattle.spec_live.specs.Consistent.{IsOrdered, IsConsistent, MayMove}
 use Rattle.spec_live.proofs.Readers.{kind_moved, mark_moved, mark_named}
@@ -31,7 +31,7 @@ free_at slots r le before here = free_is (entries_of slots) r (omega (arith, len
 
 -- the object is put, and may now be moved to its place
 pub record Put (old mid : List Slot) (n to : ℕ) (kind : Kind) (name : List ℕ) (owner : Dbref) : Type 0 where
-  pub is : entries_of mid ≡ changed_at n (with_object (new_object n kind name owner)) (grown n (entries_of old))
+  pub is : entries_of mid ≡ changed_at n (with_object (new_object n kind name owner)) (objects_grown n (entries_of old))
   pub order : HasOrder mid
   pub may : MayMove (entries_of mid) n to
 
@@ -40,8 +40,8 @@ pub put_begins : (old mid : List Slot) (n to : ℕ) (kind : Kind) (name : List �
 put_begins old mid n to kind name owner place o order passed is_new is_put =
     let es : List Entry = entries_of old in
     let b : Begins es kind owner n to = begins es kind owner n to (may_create kind owner place es (n, to) passed) in
-    let is : entries_of mid ≡ changed_at n (with_object (new_object n kind name owner)) (grown n es) =
-    ap (λ (z : List Slot). entries_of z) is_put ∙ entries_put n o old order.ends ∙ ap (λ (z : Object). changed_at n (with_object z) (grown n es)) is_new in
+    let is : entries_of mid ≡ changed_at n (with_object (new_object n kind name owner)) (objects_grown n es) =
+    ap (λ (z : List Slot). entries_of z) is_put ∙ entries_put n o old order.ends ∙ ap (λ (z : Object). changed_at n (with_object z) (objects_grown n es)) is_new in
     let E : List Slot → Type 0 = λ z. (v : Bool) (p : ℕ) → Ends (length z) (next_at z) (first_at v z p) in
     let O : List Entry → Type 0 = λ z. IsOrdered z in
     let M : List Entry → Type 0 = λ z. MayMove z n to in
@@ -49,7 +49,7 @@ put_begins old mid n to kind name owner place o order passed is_new is_put =
       is = is;
       order = record {
         ends = subst E (sym is_put) (ends_put n o old order.ends);
-        ordered = subst O (sym is) (ordered_named (grown n es) n kind name owner b.known b.garbage (ordered_grown es n (may_create kind owner place es (n, to) passed).few order.ordered));
+        ordered = subst O (sym is) (ordered_named (objects_grown n es) n kind name owner b.known b.garbage (ordered_grown es n (may_create kind owner place es (n, to) passed).few order.ordered));
       };
       may = subst M (sym is) (create_checked kind name owner place es (n, to) passed order.ordered);
     }
@@ -69,7 +69,7 @@ below_free (e ∷ es) k lt = by_cases (is_garbage e.object.kind) refl (below_fre
     by_cases false q rest zero lt = q
     by_cases false q rest (suc j) lt = rest j (omega arith)
 
-grown_mark : (n k : ℕ) (es : List Entry) → mark_in (grown n es) k ≡ mark_in es k
+grown_mark : (n k : ℕ) (es : List Entry) → mark_in (objects_grown n es) k ≡ mark_in es k
 grown_mark n k es = elim (cases_eq n (length es)) [
   | inl e ↦ ap (λ (z : List Entry). mark_in z k) (grown_more n es e) ∙ mark_blank es k
   | inr e ↦ ap (λ (z : List Entry). mark_in z k) (grown_same n es e)
@@ -88,20 +88,20 @@ kept_created old mid new n to lowest told players kind name owner place passed p
     let b : Begins es kind owner n to = begins es kind owner n to m in
     let o : Object = new_object n kind name owner in
     let C : List Entry → Type 0 = λ z. IsConsistent z in
-    let kinds : (k : ℕ) → kind_at new k ≡ kind_in (changed_at n (with_object o) (grown n es)) k =
+    let kinds : (k : ℕ) → kind_at new k ≡ kind_in (changed_at n (with_object o) (objects_grown n es)) k =
     λ k. sym (kind_in-entries_of new k) ∙ ap (λ (z : List Entry). kind_in z k) is ∙ kind_moved (entries_of mid) n to k ∙ ap (λ (z : List Entry). kind_in z k) put.is in
     let marks : (k : ℕ) → mark_at new k ≡ mark_at old k =
-    λ k. sym (mark_in-entries_of new k) ∙ ap (λ (z : List Entry). mark_in z k) is ∙ mark_moved (entries_of mid) n to k ∙ ap (λ (z : List Entry). mark_in z k) put.is ∙ mark_named n k o (grown n es) ∙ grown_mark n k es ∙ mark_in-entries_of old k in
+    λ k. sym (mark_in-entries_of new k) ∙ ap (λ (z : List Entry). mark_in z k) is ∙ mark_moved (entries_of mid) n to k ∙ ap (λ (z : List Entry). mark_in z k) put.is ∙ mark_named n k o (objects_grown n es) ∙ grown_mark n k es ∙ mark_in-entries_of old k in
     record {
       sound = record { ends = order.ends; world = subst C (sym (created_from old mid new n to kind name owner put is)) (consistent_created kind name owner place es (n, to) passed kept.sound.world); limits = subst IsWithinLimits (sym (created_from old mid new n to kind name owner put is)) (limits_created n kind name owner to es some short kept.sound.limits) };
       full = λ k lt. elim (cases_eq k n) [
-        | inl e ↦ ap is_garbage (kinds k ∙ ap (λ z. kind_in (changed_at n (with_object o) (grown n es)) z) e ∙ named_kind (grown n es) n kind name owner b.known) ∙ standing_alive kind (kind_in es to) (is_vehicle_in es to) m.fits
-        | inr e ↦ ap is_garbage (kinds k ∙ other_kind (grown n es) n k o e ∙ grown_kind n k es) ∙ below_free es k (omega (arith, m.free))
+        | inl e ↦ ap is_garbage (kinds k ∙ ap (λ z. kind_in (changed_at n (with_object o) (objects_grown n es)) z) e ∙ named_kind (objects_grown n es) n kind name owner b.known) ∙ standing_alive kind (kind_in es to) (is_vehicle_in es to) m.fits
+        | inr e ↦ ap is_garbage (kinds k ∙ other_kind (objects_grown n es) n k o e ∙ grown_kind n k es) ∙ below_free es k (omega (arith, m.free))
       ];
       unmarked = λ k lt. marks k ∙ kept.unmarked k lt;
       listed = λ k h. elim (cases_eq k n) [
-        | inl e ↦ subst (IsAmong players) (sym e) (among (sym (ap is_player (kinds k ∙ ap (λ z. kind_in (changed_at n (with_object o) (grown n es)) z) e ∙ named_kind (grown n es) n kind name owner b.known)) ∙ h))
-        | inr e ↦ kept.listed k (sym (ap is_player (kinds k ∙ other_kind (grown n es) n k o e ∙ grown_kind n k es ∙ kind_in-entries_of old k)) ∙ h)
+        | inl e ↦ subst (IsAmong players) (sym e) (among (sym (ap is_player (kinds k ∙ ap (λ z. kind_in (changed_at n (with_object o) (objects_grown n es)) z) e ∙ named_kind (objects_grown n es) n kind name owner b.known)) ∙ h))
+        | inr e ↦ kept.listed k (sym (ap is_player (kinds k ∙ other_kind (objects_grown n es) n k o e ∙ grown_kind n k es ∙ kind_in-entries_of old k)) ∙ h)
       ];
     }
 

@@ -6,14 +6,14 @@ use Rattle.std.specs.List.{slice_get}
 use Rattle.std.specs.Option.{option_map, option_map_or, option_and_then}
 use Rattle.std.specs.FinMap.{entries}
 use Rattle.muck_model.specs.declared.dbref.Dbref.{Dbref}
-use Rattle.muck_prop.specs.Store.{PropMap, behind}
+use Rattle.muck_prop.specs.Store.{PropMap, path_behind}
 use Rattle.muck_prop.specs.declared.value.PropValue.{PropValue}
 use Rattle.spec_live.specs.declared.object.Object.{Object}
 use Rattle.spec_live.specs.Chain.{walk, follower, IsChain, Ends, Member}
-use Rattle.spec_live.specs.Objects.{Entry, dbref_of, garbage, is_exit, kind_in, place_in, list_of, list_in, object_in}
+use Rattle.spec_live.specs.Objects.{Entry, dbref_of, garbage, is_exit, kind_in, place_in, entry_list, list_in, object_in}
 use Rattle.spec_live.proofs.Chains.{walk_none, walk_next}
 use Rattle.muck_codec.specs.declared.stored.Stored.{Stored}
-use Rattle.muck_store.specs.Forms.{property_of, properties_of, first_of, link_of, next_in, stored_of}
+use Rattle.muck_store.specs.Forms.{property_of, properties_of, first_in_list, link_to_number, next_in, stored_of}
 use Rattle.muck_db.specs.declared.slot.Slot.{Slot}
 use Rattle.muck_db.specs.inner.Slots.{shown, object_at, kept_at, next_at, first_at, place_at, list_at, entries_of, HasOrder}
 use Rattle.muck_db.specs.inner.Shown.{dbref_at}
@@ -25,23 +25,23 @@ use Rattle.muck_db.proofs.Showing.{place_standing}
 
 -- Properties.
 
-listed_stored : (es : List (List (List ℕ) × PropValue)) → map property_at (map (behind 0) es) ≡ map property_of es
+listed_stored : (es : List (List (List ℕ) × PropValue)) → map property_at (map (path_behind 0) es) ≡ map property_of es
 listed_stored [] = refl
 listed_stored (e ∷ es) = ap (λ ps. property_of e ∷ ps) (listed_stored es)
 
-pub all_stored : (m : PropMap) → map property_at (map (behind 0) (entries m)) ≡ properties_of m
+pub all_stored : (m : PropMap) → map property_at (map (path_behind 0) (entries m)) ≡ properties_of m
 all_stored m = listed_stored (entries m)
 
 -- Links.
 
-first_walk : (n : ℕ) (f : ℕ → Option ℕ) (s : Option ℕ) → Ends n f s → first_of (walk n f s) ≡ dbref_at s
-first_walk n f None h = ap (λ (l : List ℕ). first_of l) (walk_none n f)
-first_walk n f (Some x) h = ap (λ (l : List ℕ). first_of l) (walk_next n f (Some x) (f x) x refl refl h)
+first_walk : (n : ℕ) (f : ℕ → Option ℕ) (s : Option ℕ) → Ends n f s → first_in_list (walk n f s) ≡ dbref_at s
+first_walk n f None h = ap (λ (l : List ℕ). first_in_list l) (walk_none n f)
+first_walk n f (Some x) h = ap (λ (l : List ℕ). first_in_list l) (walk_next n f (Some x) (f x) x refl refl h)
 
 -- the head of a list is where its chain begins
-pub first_stored : (slots : List Slot) → HasOrder slots → (v : Bool) (k : ℕ) → first_of (list_in v (entries_of slots) k) ≡ dbref_at (first_at v slots k)
+pub first_stored : (slots : List Slot) → HasOrder slots → (v : Bool) (k : ℕ) → first_in_list (list_in v (entries_of slots) k) ≡ dbref_at (first_at v slots k)
 unfolding list_at
-first_stored slots s v k = ap (λ (l : List ℕ). first_of l) (list_in-entries_of v slots k) ∙ first_walk (length slots) (next_at slots) (first_at v slots k) (s.ends v k)
+first_stored slots s v k = ap (λ (l : List ℕ). first_in_list l) (list_in-entries_of v slots k) ∙ first_walk (length slots) (next_at slots) (first_at v slots k) (s.ends v k)
 
 next_placed : (es : List Entry) (k p : ℕ) → place_in es k ≡ Some p → next_in es k ≡ follower k (list_in (is_exit (kind_in es k)) es p)
 unfolding next_in
@@ -60,7 +60,7 @@ unfolding next_in
 next_unplaced slots k h = rw (place_in-entries_of slots k ∙ h) refl
 
 -- a number as it is written in a record
-pub linked : (at : Option ℕ) → dbref_at at ≡ link_of at
+pub linked : (at : Option ℕ) → dbref_at at ≡ link_to_number at
 linked None = refl
 linked (Some k) = refl
 
@@ -99,14 +99,14 @@ stored_with k o content exit next = record {
 }
 
 record_by : (es : List Entry) (k : ℕ) (o : Object) (q : Option Entry) → option_map (λ (e : Entry). e.object) q ≡ Some o
-    → option_map (stored_of es k) q ≡ Some (stored_with k o (first_of (option_map_or (list_of false) q [])) (first_of (option_map_or (list_of true) q [])) (link_of (next_in es k)))
+    → option_map (stored_of es k) q ≡ Some (stored_with k o (first_in_list (option_map_or (entry_list false) q [])) (first_in_list (option_map_or (entry_list true) q [])) (link_to_number (next_in es k)))
 unfolding stored_of
 record_by es k o None h = absurd (cc h)
 record_by es k o (Some e) h =
     let same : e.object ≡ o = cc h in
-    ap (λ (x : Object). Some (stored_with k x (first_of e.contents) (first_of e.exits) (link_of (next_in es k)))) same
+    ap (λ (x : Object). Some (stored_with k x (first_in_list e.contents) (first_in_list e.exits) (link_to_number (next_in es k)))) same
 
 pub record_is : (es : List Entry) (k : ℕ) (o : Object) → object_in es k ≡ Some o
-    → option_map (stored_of es k) (slice_get es k) ≡ Some (stored_with k o (first_of (list_in false es k)) (first_of (list_in true es k)) (link_of (next_in es k)))
+    → option_map (stored_of es k) (slice_get es k) ≡ Some (stored_with k o (first_in_list (list_in false es k)) (first_in_list (list_in true es k)) (link_to_number (next_in es k)))
 unfolding object_in list_in
 record_is es k o h = record_by es k o (slice_get es k) h

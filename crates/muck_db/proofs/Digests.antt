@@ -5,7 +5,8 @@ use Rattle.std.proofs.lemmas.Bool.Decides.{nat_tests}
 use Rattle.std.proofs.lemmas.List.Elements.{All-nil, All-cons}
 use Rattle.std.proofs.lemmas.List.Quantifiers.{position-Some}
 use Rattle.std.specs.List.{AllPass, position}
-use Rattle.std.specs.Int.{byte_at, bytes_high_first}
+use Rattle.std.specs.Int.{bytes_high_first}
+use Rattle.muck_laws.proofs.Texts.{byte_small, length-bytes_high}
 use Rattle.hex.specs.Hex.{IsBytes, encode_with, encode_lower, decode_of, lower_digits}
 use Rattle.hex.proofs.HexLemmas.{length-encode_with, decode_of-ok}
 use Rattle.sha2.specs.Sha256.{digest_bytes, sha256}
@@ -20,18 +21,10 @@ bytes_append [] ys h k i = k i
 bytes_append (x ∷ xs) ys h k zero = h zero
 bytes_append (x ∷ xs) ys h k (suc i) = bytes_append xs ys (λ j. h (suc j)) k i
 
-byte_small : (k n : ℕ) → byte_at k n < 256
-byte_small zero n = omega arith
-byte_small (suc k) n = omega arith
-
 pub bytes_high : (k n : ℕ) → IsBytes (bytes_high_first k n)
 bytes_high zero n i = omega arith
 bytes_high (suc k) n zero = byte_small k n
 bytes_high (suc k) n (suc i) = bytes_high k n i
-
-pub length-bytes_high : (k n : ℕ) → length (bytes_high_first k n) ≡ k
-length-bytes_high zero n = refl
-length-bytes_high (suc k) n = let e : length (bytes_high_first k n) ≡ k = length-bytes_high k n in omega arith
 
 words_bytes : (h : List ℕ) (n : ℕ) → IsBytes (digest_bytes h n)
 unfolding digest_bytes

@@ -4,9 +4,11 @@ use Rattle.std.proofs.lemmas.Bool.{cases_eq, false≢true}
 use Rattle.std.proofs.lemmas.Option.{slice_get-map}
 use Rattle.std.specs.List.{slice_get}
 use Rattle.std.specs.Option.{option_map, option_and_then, option_map_or}
+use Rattle.muck_laws.proofs.Places.{get_ext}
+use Rattle.muck_laws.proofs.Truths.{whether}
 use Rattle.muck_model.specs.declared.dbref.Kind.TheVariants.{Garbage}
 use Rattle.spec_live.specs.declared.object.Object.{Object}
-use Rattle.spec_live.specs.Chain.{walk, IsChain, Ends, Member, IsApart, without}
+use Rattle.spec_live.specs.Chain.{walk, IsChain, Ends, Member, IsApart, without_number}
 use Rattle.spec_live.specs.Objects.{Entry, changed_at, list_in}
 use Rattle.spec_live.specs.Recycling.{is_exit_of}
 use Rattle.spec_live.specs.Consistent.{StandsIn}
@@ -18,15 +20,14 @@ use Rattle.muck_db.specs.inner.Exits.{exit_at, ListsExits}
 use Rattle.muck_db.proofs.Readers.{list_in-entries_of}
 use Rattle.muck_db.proofs.Linked.{chain_over}
 use Rattle.muck_db.proofs.Bridge.{list_is}
-use Rattle.muck_db.proofs.Writes.{get_ext}
-use Rattle.muck_db.proofs.Leaving.{unwiped_is, exit_same, exit_bridge, exit_stands_in, place_stays, whether}
+use Rattle.muck_db.proofs.Leaving.{unwiped_is, exit_same, exit_bridge, exit_stands_in, place_stays}
 
 -- what has left its list is still in that of its exits
 pub lists_exits : (d : ℕ) (old mid : List Slot) → HasOrder old → IsUnlinked d old mid → ListsExits d mid
 lists_exits d old mid s u =
     let es : List Entry = entries_of old in
     record {
-      ends = ends_from (length mid) (next_at mid) (first_at true mid d) (without d (list_at true old d)) (u.chains true d);
+      ends = ends_from (length mid) (next_at mid) (first_at true mid d) (without_number d (list_at true old d)) (u.chains true d);
       listed = λ k h.
           let is : exit_at d old k ≡ true = sym (exit_same d k old mid u) ∙ h in
           let stands : StandsIn es true d k = exit_stands_in d k es (exit_bridge d k old ∙ is) in
@@ -34,7 +35,7 @@ lists_exits d old mid s u =
           let other : k ≡ d → ⊥ =
           λ e. let own : StandsIn es true d d = subst (λ (z : ℕ). StandsIn es true d z) e stands in
           false≢true (sym (sym (exit_bridge d d old) ∙ place_stays d d d es s.ordered own.place) ∙ subst (λ (z : ℕ). exit_at d old z ≡ true) e is) in
-          subst (Member k) (sym (list_is true mid d (without d (list_at true old d)) (u.chains true d))) (member_without d k (list_at true old d) other here);
+          subst (Member k) (sym (list_is true mid d (without_number d (list_at true old d)) (u.chains true d))) (member_without d k (list_at true old d) other here);
     }
 
 -- a walk over the exits of d: what is still before it is as it was, and everything else is done

@@ -1,6 +1,7 @@
 -- Whether something in a list passes a test.
-use Rattle.std.proofs.Common.{◌≡◌, ℕ, List, [], ◌∷◌, Option, Some, None, refl, ◌∙◌, ap, length, Bool, true, false, ◌||◌}
+use Rattle.std.proofs.Common.{◌≡◌, ℕ, List, Option, Some, None, refl, ◌∙◌, ap, length, Bool, true, false, ◌||◌}
 use Rattle.std.specs.List.{list_any}
+use Rattle.muck_laws.proofs.Tests.{any_same}
 use Rattle.spec_live.specs.Chain.{walk, Ends}
 use Rattle.spec_live.specs.Objects.{is_player, kind_in, list_in}
 use Rattle.spec_live.specs.Setting.{holds_player}
@@ -17,10 +18,6 @@ any_later f n next s t x e to h fails = ap (λ (l : List ℕ). list_any f l) (wa
 
 pub any_none : (f : ℕ → Bool) (n : ℕ) (next : ℕ → Option ℕ) (s : Option ℕ) → s ≡ None → list_any f (walk n next s) ≡ false
 any_none f n next s e = ap (λ (o : Option ℕ). list_any f (walk n next o)) e ∙ ap (λ (l : List ℕ). list_any f l) (walk_none n next)
-
-any_same : (f g : ℕ → Bool) (xs : List ℕ) → ((x : ℕ) → f x ≡ g x) → list_any f xs ≡ list_any g xs
-any_same f g [] h = refl
-any_same f g (x ∷ xs) h = ap (λ b. b || list_any f xs) (h x) ∙ ap (λ b. g x || b) (any_same f g xs h)
 
 pub holds_is : (slots : List Slot) (n : ℕ) → holds_player (entries_of slots) n ≡ list_any (λ x. is_player (kind_at slots x)) (walk (length slots) (next_at slots) (first_at false slots n))
 unfolding holds_player list_at

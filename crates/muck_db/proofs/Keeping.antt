@@ -1,10 +1,10 @@
 -- What a dump leaves out of a table.
 use Rattle.std.proofs.Common.{◌≡◌, ℕ, ◌+◌, ◌<◌, ◌≤◌, suc, List, [], ◌∷◌, ◌++◌, Option, Some, None, inl, inr, refl, sym, ◌∙◌, ap, subst, length, map, take, drop, arith, true, false, append_assoc, append-nil}
 use Rattle.std.proofs.lemmas.List.{drop_all}
-use Rattle.std.proofs.lemmas.Option.{slice_get_cases, slice_get_within, get_or_from_slice_get}
-use Rattle.std.proofs.Math.Seq.{drop-cons}
+use Rattle.std.proofs.lemmas.Option.{slice_get_cases}
 use Rattle.std.specs.List.{slice_get}
 use Rattle.std.specs.Option.{option_map, option_and_then}
+use Rattle.muck_laws.proofs.Places.{drop_here}
 use Rattle.muck_prop.specs.Store.{PropMap}
 use Rattle.muck_prop.specs.declared.value.PropValue.{PropValue}
 use Rattle.spec_live.specs.declared.object.Object.{Object}
@@ -12,14 +12,14 @@ use Rattle.spec_live.specs.Objects.{Entry, index_of, list_in, object_in}
 use Rattle.muck_codec.specs.declared.stored.Stored.{Stored}
 use Rattle.muck_codec.specs.declared.stored.Property.{Property}
 use Rattle.muck_store.specs.inner.Changes.{IsKept, LeavesOut, none, takes, leaves}
-use Rattle.muck_store.specs.Forms.{property_of, properties_of, first_of, link_of, next_in, stored_of, stored_from, persist}
+use Rattle.muck_store.specs.Forms.{property_of, properties_of, first_in_list, link_to_number, next_in, stored_of, stored_from, persist}
 use Rattle.muck_db.specs.inner.Kept.{stored_at, HasFields, HasLinks, HasTexts}
 use Rattle.muck_db.proofs.Cutting.{stored_with, record_is}
 
 -- A record that has everything is what is stored.
 
 same_stored : (es : List Entry) (k : ℕ) (o : Object) (s : Stored) → HasFields o s → HasLinks es k s → HasTexts o s
-    → s ≡ stored_with k o (first_of (list_in false es k)) (first_of (list_in true es k)) (link_of (next_in es k))
+    → s ≡ stored_with k o (first_in_list (list_in false es k)) (first_in_list (list_in true es k)) (link_to_number (next_in es k))
 same_stored es k o s f l t =
     rw (← l.dbref, ← f.kind, ← f.flags, ← f.level, ← f.owner, ← f.place, ← f.link, ← f.home, ← l.content, ← l.exit, ← l.next, ← t.name, ← t.props, ← t.lines, ← t.digest) refl
 
@@ -40,9 +40,6 @@ unfolding stored_from
 left_ends base es k records past left =
     let nothing : LeavesOut base (stored_from es k (drop k es)) [] = subst (λ (xs : List Entry). LeavesOut base (stored_from es k xs) []) (sym (drop_all k es past)) none in
     subst (LeavesOut base (persist es)) (append-nil records) (left [] nothing)
-
-drop_here : {X : Type 0} (xs : List X) (k : ℕ) (x : X) → slice_get xs k ≡ Some x → drop k xs ≡ x ∷ drop (suc k) xs
-drop_here xs k x h = drop-cons xs k x (slice_get_within xs k x h) ∙ ap (λ y. y ∷ drop (suc k) xs) (get_or_from_slice_get xs k x x h)
 
 -- what is stored from there on
 from_here : (es : List Entry) (k : ℕ) (r : Stored) → Some r ≡ stored_at es k → stored_from es k (drop k es) ≡ r ∷ stored_from es (k + 1) (drop (k + 1) es)

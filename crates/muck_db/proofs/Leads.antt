@@ -2,20 +2,21 @@
 use Rattle.std.proofs.Common.{◌≡◌, ◌⊎◌, ℕ, List, [], ◌∷◌, Option, Some, None, inl, inr, refl, sym, ◌∙◌, ap, subst, Bool, true, false, not, cond}
 use Rattle.std.proofs.lemmas.Bool.{cases_eq, ne_eqb, eq-eqb}
 use Rattle.std.specs.Option.{option_and_then}
+use Rattle.muck_laws.proofs.Numbers.{same_place}
 use Rattle.spec_live.specs.declared.saving.Saving.{Saving}
 use Rattle.spec_live.specs.declared.saving.Saving.TheVariants.{Due}
-use Rattle.spec_live.specs.Chain.{Member, IsApart, follower, without, put_at}
+use Rattle.spec_live.specs.Chain.{Member, IsApart, follower, without_number, put_at}
 use Rattle.spec_live.specs.Objects.{Entry, is_exit, kind_in, place_in, list_in}
-use Rattle.spec_live.specs.Saving.{Links, front, next_in, links_in, saving_in, same_links, relinked}
+use Rattle.spec_live.specs.Saving.{Links, first_of_list, next_in, links_in, saving_in, same_links, relinked}
 use Rattle.spec_live.proofs.Chains.{without_gone}
-use Rattle.spec_live.proofs.Lists.{same_place, put_same, put_other}
+use Rattle.spec_live.proofs.Lists.{put_same, put_other}
 use Rattle.spec_live.proofs.Savings.{saving_relinked}
 use Rattle.spec_live.proofs.Dues.{same_equal, saving_linked}
 use Rattle.muck_db.specs.inner.Slots.{LeadsTo}
 
 -- What a list leads to is in it.
 
-pub front_member : (d : ℕ) (xs : List ℕ) → front xs ≡ Some d → Member d xs
+pub front_member : (d : ℕ) (xs : List ℕ) → first_of_list xs ≡ Some d → Member d xs
 unfolding Member
 front_member d [] h = absurd (cc h)
 front_member d (x ∷ xs) h = let e : x ≡ d = cc h in inl (sym e)
@@ -60,7 +61,7 @@ follower_further k x xs ne = rw (ne_eqb x k ne) refl
 -- A list without the same number twice leads to each from one place.
 
 -- nothing stands before the first
-pub first_behind_none : (k d : ℕ) (xs : List ℕ) → IsApart xs → front xs ≡ Some d → follower k xs ≡ Some d → ⊥
+pub first_behind_none : (k d : ℕ) (xs : List ℕ) → IsApart xs → first_of_list xs ≡ Some d → follower k xs ≡ Some d → ⊥
 first_behind_none k d [] apart h f = absurd (cc h)
 first_behind_none k d (x ∷ xs) apart h f =
     let e : x ≡ d = cc h in
@@ -84,29 +85,29 @@ one_before k i d (x ∷ y ∷ ys) apart h f = elim (cases_eq x k) [
 
 -- A number left out.
 
-without_here : (d x : ℕ) (xs : List ℕ) → x ≡ d → without d (x ∷ xs) ≡ without d xs
-unfolding without
+without_here : (d x : ℕ) (xs : List ℕ) → x ≡ d → without_number d (x ∷ xs) ≡ without_number d xs
+unfolding without_number
 without_here d x xs e = rw (eq-eqb x d e) refl
 
-without_other : (d x : ℕ) (xs : List ℕ) → (x ≡ d → ⊥) → without d (x ∷ xs) ≡ x ∷ without d xs
-unfolding without
+without_other : (d x : ℕ) (xs : List ℕ) → (x ≡ d → ⊥) → without_number d (x ∷ xs) ≡ x ∷ without_number d xs
+unfolding without_number
 without_other d x xs ne = rw (ne_eqb x d ne) refl
 
-without_none : (d : ℕ) → without d [] ≡ []
-unfolding without
+without_none : (d : ℕ) → without_number d [] ≡ []
+unfolding without_number
 without_none d = refl
 
-front_without : (d : ℕ) (xs : List ℕ) → (front xs ≡ Some d → ⊥) → front (without d xs) ≡ front xs
-front_without d [] h = ap front (without_none d)
-front_without d (x ∷ xs) h = ap front (without_other d x xs (λ e. h (ap (λ z. Some z) e)))
+front_without : (d : ℕ) (xs : List ℕ) → (first_of_list xs ≡ Some d → ⊥) → first_of_list (without_number d xs) ≡ first_of_list xs
+front_without d [] h = ap first_of_list (without_none d)
+front_without d (x ∷ xs) h = ap first_of_list (without_other d x xs (λ e. h (ap (λ z. Some z) e)))
 
-front_gone : (d : ℕ) (xs : List ℕ) → front (without d xs) ≡ Some d → ⊥
-front_gone d xs h = without_gone d xs (front_member d (without d xs) h)
+front_gone : (d : ℕ) (xs : List ℕ) → first_of_list (without_number d xs) ≡ Some d → ⊥
+front_gone d xs h = without_gone d xs (front_member d (without_number d xs) h)
 
-follower_gone : (k d : ℕ) (xs : List ℕ) → follower k (without d xs) ≡ Some d → ⊥
-follower_gone k d xs h = without_gone d xs (follower_member k d (without d xs) h)
+follower_gone : (k d : ℕ) (xs : List ℕ) → follower k (without_number d xs) ≡ Some d → ⊥
+follower_gone k d xs h = without_gone d xs (follower_member k d (without_number d xs) h)
 
-follower_without : (k d : ℕ) (xs : List ℕ) → (k ≡ d → ⊥) → (follower k xs ≡ Some d → ⊥) → follower k (without d xs) ≡ follower k xs
+follower_without : (k d : ℕ) (xs : List ℕ) → (k ≡ d → ⊥) → (follower k xs ≡ Some d → ⊥) → follower k (without_number d xs) ≡ follower k xs
 follower_without k d [] other h = ap (λ l. follower k l) (without_none d)
 follower_without k d (x ∷ []) other h = elim (cases_eq x d) [
   | inl e ↦ ap (λ l. follower k l) (without_here d x [] e ∙ without_none d) ∙ sym (follower_further k x [] (λ q. other (sym q ∙ e)))
@@ -120,10 +121,10 @@ follower_without k d (x ∷ y ∷ ys) other h = elim (cases_eq x d) [
     | inl a ↦
         let here : follower k (x ∷ y ∷ ys) ≡ Some y = follower_here k x y ys a in
         let stays : y ≡ d → ⊥ = λ q. h (here ∙ ap (λ z. Some z) q) in
-        ap (λ l. follower k (x ∷ l)) (without_other d y ys stays) ∙ follower_here k x y (without d ys) a ∙ sym here
+        ap (λ l. follower k (x ∷ l)) (without_other d y ys stays) ∙ follower_here k x y (without_number d ys) a ∙ sym here
     | inr a ↦
         let further : follower k (x ∷ y ∷ ys) ≡ follower k (y ∷ ys) = follower_further k x (y ∷ ys) a in
-        follower_further k x (without d (y ∷ ys)) a ∙ follower_without k d (y ∷ ys) other (λ q. h (further ∙ q)) ∙ sym further
+        follower_further k x (without_number d (y ∷ ys)) a ∙ follower_without k d (y ∷ ys) other (λ q. h (further ∙ q)) ∙ sym further
   ]
 ]
 
@@ -155,18 +156,18 @@ leads_cases d l = elim (is_some l.content) [
 
 -- what stands behind k where d is left out
 unfoldable pub next_without : ℕ → List Entry → ℕ → Option ℕ
-next_without d es k = option_and_then (λ p. follower k (without d (list_in (is_exit (kind_in es k)) es p))) (place_in es k)
+next_without d es k = option_and_then (λ p. follower k (without_number d (list_in (is_exit (kind_in es k)) es p))) (place_in es k)
 
 pub record IsWithout (d : ℕ) (es fs : List Entry) (k : ℕ) : Type 0 where
   pub other : k ≡ d → ⊥
-  pub fronts : (v : Bool) → front (list_in v fs k) ≡ front (without d (list_in v es k))
+  pub fronts : (v : Bool) → first_of_list (list_in v fs k) ≡ first_of_list (without_number d (list_in v es k))
   pub next : next_in fs k ≡ next_without d es k
 
 next_gone : (d : ℕ) (es : List Entry) (k : ℕ) → next_without d es k ≡ Some d → ⊥
 unfolding next_without
 next_gone d es k h = by_cases (place_in es k) h
   where
-    by_cases : (o : Option ℕ) → option_and_then (λ p. follower k (without d (list_in (is_exit (kind_in es k)) es p))) o ≡ Some d → ⊥
+    by_cases : (o : Option ℕ) → option_and_then (λ p. follower k (without_number d (list_in (is_exit (kind_in es k)) es p))) o ≡ Some d → ⊥
     by_cases None q = absurd (cc q)
     by_cases (Some p) q = follower_gone k d (list_in (is_exit (kind_in es k)) es p) q
 
@@ -175,7 +176,7 @@ unfolding next_without next_in
 next_stays d es k other h = by_cases (place_in es k) h
   where
     by_cases : (o : Option ℕ) → (option_and_then (λ p. follower k (list_in (is_exit (kind_in es k)) es p)) o ≡ Some d → ⊥)
-        → option_and_then (λ p. follower k (without d (list_in (is_exit (kind_in es k)) es p))) o ≡ option_and_then (λ p. follower k (list_in (is_exit (kind_in es k)) es p)) o
+        → option_and_then (λ p. follower k (without_number d (list_in (is_exit (kind_in es k)) es p))) o ≡ option_and_then (λ p. follower k (list_in (is_exit (kind_in es k)) es p)) o
     by_cases None q = refl
     by_cases (Some p) q = follower_without k d (list_in (is_exit (kind_in es k)) es p) other q
 
@@ -195,9 +196,9 @@ pub led_as_before : (d : ℕ) (es fs : List Entry) (k : ℕ) → IsWithout d es 
 unfolding links_in
 led_as_before d es fs k w h =
     let make : Option ℕ → Option ℕ → Option ℕ → Links = λ c x n. record { content = c; exit = x; next = n } in
-    ap (λ c. make c (front (list_in true fs k)) (next_in fs k)) (w.fronts false ∙ front_without d (list_in false es k) (λ q. h (inl q)))
-    ∙ ap (λ x. make (front (list_in false es k)) x (next_in fs k)) (w.fronts true ∙ front_without d (list_in true es k) (λ q. h (inr (inl q))))
-    ∙ ap (λ n. make (front (list_in false es k)) (front (list_in true es k)) n) (w.next ∙ next_stays d es k w.other (λ q. h (inr (inr q))))
+    ap (λ c. make c (first_of_list (list_in true fs k)) (next_in fs k)) (w.fronts false ∙ front_without d (list_in false es k) (λ q. h (inl q)))
+    ∙ ap (λ x. make (first_of_list (list_in false es k)) x (next_in fs k)) (w.fronts true ∙ front_without d (list_in true es k) (λ q. h (inr (inl q))))
+    ∙ ap (λ n. make (first_of_list (list_in false es k)) (first_of_list (list_in true es k)) n) (w.next ∙ next_stays d es k w.other (λ q. h (inr (inr q))))
 
 -- The marks of a world that is relinked.
 

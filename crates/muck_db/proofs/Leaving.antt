@@ -1,5 +1,9 @@
 -- The steps of recycling, from the table to its entries.
 use Rattle.std.proofs.Common.{◌≡◌, ℕ, ◌<◌, List, [], ◌∷◌, Option, Some, None, Result, Ok, inl, inr, refl, sym, ◌∙◌, ap, subst, length, arith, Bool, true, false, cond, map}
+use Rattle.muck_laws.proofs.Mapped.{length_map}
+use Rattle.muck_laws.proofs.Options.{kept_then}
+use Rattle.muck_laws.proofs.Places.{some_at}
+use Rattle.muck_laws.proofs.Truths.{whether}
 use Rattle.muck_model.proofs.Dbrefs.{eq_same}
 use Rattle.std.proofs.lemmas.Bool.{cases_eq, ne_eqb, eq-eqb, false≢true, and_parts}
 use Rattle.std.proofs.lemmas.Option.{slice_get-map}
@@ -13,26 +17,27 @@ use Rattle.spec_live.specs.declared.object.Object.{Object}
 use Rattle.spec_live.specs.declared.mark.Mark.TheVariants.{Gone}
 use Rattle.spec_live.specs.declared.saving.Saving.{Saving}
 use Rattle.spec_live.specs.declared.saving.Saving.TheVariants.{Due}
-use Rattle.spec_live.specs.Chain.{walk, IsChain, Ends, Member, follower, without}
-use Rattle.spec_live.specs.Objects.{Entry, dbref_of, index_of, same, is_exit, is_player, may_stand, changed_at, garbage, list_of, object_in, list_in, mark_in, kind_in, place_in, fits_in, is_vehicle_in}
-use Rattle.spec_live.specs.Saving.{front, next_in, links_in, saving_in}
+use Rattle.spec_live.specs.Chain.{walk, IsChain, Ends, Member, follower, without_number}
+use Rattle.spec_live.specs.Objects.{Entry, dbref_of, index_of, same, is_exit, is_player, may_stand, changed_at, garbage, entry_list, object_in, list_in, mark_in, kind_in, place_in, fits_in, is_vehicle_in}
+use Rattle.spec_live.specs.Saving.{first_of_list, next_in, links_in, saving_in}
 use Rattle.spec_live.specs.Moving.{left_out, moved, Does}
 use Rattle.spec_live.specs.Recycling.{untie, untied, way_home, sent_home, gone_entry, is_exit_of, exit_gone, without_exits, exits_gone, vanished, taken_away, recycled, recycle_check}
 use Rattle.spec_live.specs.Consistent.{StandsIn, IsOrdered, IsConsistent, MayMove}
 use Rattle.spec_live.proofs.Chains.{ends_from, walk_none, walk_next, without_gone, without_member}
-use Rattle.spec_live.proofs.Lists.{length_map, length_changed, get_changed_same, get_changed_other, some_at}
+use Rattle.spec_live.proofs.Lists.{length_changed, get_changed_same, get_changed_other, read_kept}
 use Rattle.spec_live.proofs.Readers.{entries_ext, kind_alike, place_alike}
 use Rattle.spec_live.proofs.KindLaws.{place_alive, only_exit, none_in_exit}
 use Rattle.spec_live.proofs.Checks.{alive_known}
 use Rattle.spec_live.proofs.HomeLaws.{IsUntied, is_untied, ordered_untied, list_untied, length_untied, length_sent_home, kind_untied, kind_sent_home, HomeStep, home_step}
 use Rattle.spec_live.proofs.RecyclingLaws.{is_exit_at, exit_stands, stands_exit, length_taken, object_taken, list_taken, mark_taken, kind_taken, consistent_recycled}
 use Rattle.spec_live.proofs.Dues.{saving_exits, saving_vanished}
+use Rattle.spec_live.proofs.Tracing.{stood_taken}
 use Rattle.muck_db.specs.declared.slot.Slot.{Slot}
-use Rattle.muck_db.specs.inner.Slots.{shown, object_at, kind_at, next_at, first_of, first_at, mark_at, place_at, list_at, saving_at, untied_slot, new_slot, wiped, exit_wiped, entry_of, entries_of, LeadsTo, Stands, HasOrder, HasPlayers, IsSound, IsKept, IsUnlinked}
+use Rattle.muck_db.specs.inner.Slots.{shown, object_at, kind_at, next_at, first_of, first_at, mark_at, place_at, list_at, saving_at, stood_at, untied_slot, wiped, exit_wiped, entry_of, entries_of, LeadsTo, Stands, HasOrder, HasPlayers, IsSound, IsKept, IsUnlinked}
 use Rattle.muck_db.specs.inner.Limits.{IsWithinLimits}
 use Rattle.muck_db.specs.inner.Exits.{exit_at}
 use Rattle.muck_db.proofs.LimitLaws.{limits_recycled}
-use Rattle.muck_db.proofs.Readers.{length-entries_of, object_in-entries_of, kind_in-entries_of, list_in-entries_of, mark_in-entries_of, saving_in-entries_of}
+use Rattle.muck_db.proofs.Readers.{length-entries_of, object_in-entries_of, kind_in-entries_of, list_in-entries_of, mark_in-entries_of, saving_in-entries_of, stood_in-entries_of}
 use Rattle.muck_db.proofs.Leads.{relinked_due, IsWithout, next_without, saving_without}
 use Rattle.muck_db.proofs.Linked.{chain_over}
 use Rattle.muck_db.proofs.Bridge.{list_is, ends_none, order_chains}
@@ -131,10 +136,10 @@ left_object d o = cond (is_exit_of d o) garbage o
 pub length_wiped : (d : ℕ) (old new : List Slot) → new ≡ map (exit_wiped d) old → length new ≡ length old
 length_wiped d old new is = ap (λ (z : List Slot). length z) is ∙ length_map (exit_wiped d) old
 
-get_wiped : (d : ℕ) (mid left new : List Slot) → d < length mid → left ≡ map (exit_wiped d) mid → new ≡ changed_at d wiped left → slice_get new d ≡ Some (new_slot None (Some Gone))
+get_wiped : (d : ℕ) (mid left new : List Slot) → d < length mid → left ≡ map (exit_wiped d) mid → new ≡ changed_at d wiped left → (s : Slot) × (slice_get new d ≡ Some (wiped s))
 get_wiped d mid left new lt l n =
     let s : (x : Slot) × (slice_get left d ≡ Some x) = some_at left d (omega (arith, lt, length_wiped d mid left l)) in
-    ap (λ (z : List Slot). slice_get z d) n ∙ get_changed_same left d wiped ∙ ap (λ (o : Option Slot). option_map wiped o) s.1
+    (s.0, ap (λ (z : List Slot). slice_get z d) n ∙ get_changed_same left d wiped ∙ ap (λ (o : Option Slot). option_map wiped o) s.1)
 
 get_other : (d k : ℕ) (mid left new : List Slot) → (k ≡ d → ⊥) → left ≡ map (exit_wiped d) mid → new ≡ changed_at d wiped left → slice_get new k ≡ option_map (exit_wiped d) (slice_get mid k)
 get_other d k mid left new ne l n = ap (λ (z : List Slot). slice_get z k) n ∙ get_changed_other left d k wiped ne ∙ ap (λ (z : List Slot). slice_get z k) l ∙ slice_get-map (exit_wiped d) mid k
@@ -210,12 +215,8 @@ pub exit_same : (d k : ℕ) (old mid : List Slot) → IsUnlinked d old mid → e
 unfolding exit_at
 exit_same d k old mid u = ap (λ (o : Option Object). option_map_or (is_exit_of d) o false) (u.same_objects k)
 
-pub whether : (b : Bool) (P : Type 0) → (b ≡ true → P) → (b ≡ false → P) → P
-whether true P so other = so refl
-whether false P so other = other refl
-
 -- a list that isn't of d holds no exit of d
-others_stay : (v : Bool) (d p y : ℕ) (old mid : List Slot) → HasOrder old → IsUnlinked d old mid → (p ≡ d → ⊥) → Member y (without d (list_at v old p)) → exit_at d mid y ≡ false
+others_stay : (v : Bool) (d p y : ℕ) (old mid : List Slot) → HasOrder old → IsUnlinked d old mid → (p ≡ d → ⊥) → Member y (without_number d (list_at v old p)) → exit_at d mid y ≡ false
 others_stay v d p y old mid s u ne m = whether (exit_at d mid y) (exit_at d mid y ≡ false)
     (λ h. let t : Stands old v p y = (order_chains old s).stands v p y (without_member d y (list_at v old p) m) in
     let place : place_at old y ≡ Some d = exit_place d y old (sym (exit_same d y old mid u) ∙ h) in
@@ -223,7 +224,7 @@ others_stay v d p y old mid s u ne m = whether (exit_at d mid y) (exit_at d mid 
     (λ h. h)
 
 unfoldable left_list : ℕ → List Slot → Bool → ℕ → List ℕ
-left_list d old v p = cond (exit_at d old p) [] (without d (list_at v old p))
+left_list d old v p = cond (exit_at d old p) [] (without_number d (list_at v old p))
 
 chain_empty : (n : ℕ) (f : ℕ → Option ℕ) (s : Option ℕ) → s ≡ None → IsChain n f s []
 unfolding IsChain
@@ -235,17 +236,17 @@ unfolding left_list
 chain_left v d p old mid left new s u l n ne =
     let first : first_at v new p ≡ cond (exit_at d mid p) None (first_at v mid p) = first_kept_at v d p mid left new ne l n in
     let same_length : length new ≡ length mid = ap (λ (z : List Slot). length z) n ∙ length_changed left d wiped ∙ length_wiped d mid left l in
-    whether (exit_at d old p) (IsChain (length new) (next_at new) (first_at v new p) (cond (exit_at d old p) [] (without d (list_at v old p))))
+    whether (exit_at d old p) (IsChain (length new) (next_at new) (first_at v new p) (cond (exit_at d old p) [] (without_number d (list_at v old p))))
     (λ h. rw h (chain_empty (length new) (next_at new) (first_at v new p) (first ∙ ap (λ b. cond b None (first_at v mid p)) (exit_same d p old mid u ∙ h))))
-    (λ h. rw h (chain_over (length mid) (length new) (next_at mid) (next_at new) (first_at v mid p) (first_at v new p) (without d (list_at v old p)) (without d (list_at v old p)) same_length
+    (λ h. rw h (chain_over (length mid) (length new) (next_at mid) (next_at new) (first_at v mid p) (first_at v new p) (without_number d (list_at v old p)) (without_number d (list_at v old p)) same_length
     (first ∙ ap (λ b. cond b None (first_at v mid p)) (exit_same d p old mid u ∙ h)) refl
-    (λ y m. next_kept_at d y mid left new (λ e. without_gone d (list_at v old p) (let M : ℕ → Type 0 = λ z. Member z (without d (list_at v old p)) in subst M e m)) (others_stay v d p y old mid s u ne m) l n)
+    (λ y m. next_kept_at d y mid left new (λ e. without_gone d (list_at v old p) (let M : ℕ → Type 0 = λ z. Member z (without_number d (list_at v old p)) in subst M e m)) (others_stay v d p y old mid s u ne m) l n)
     (u.chains v p)))
 
 first_here : (v : Bool) (d : ℕ) (mid left new : List Slot) → d < length mid → left ≡ map (exit_wiped d) mid → new ≡ changed_at d wiped left → first_at v new d ≡ None
 unfolding first_at
-first_here true d mid left new lt l n = ap (λ (o : Option Slot). option_and_then (first_of true) o) (get_wiped d mid left new lt l n)
-first_here false d mid left new lt l n = ap (λ (o : Option Slot). option_and_then (first_of false) o) (get_wiped d mid left new lt l n)
+first_here true d mid left new lt l n = ap (λ (o : Option Slot). option_and_then (first_of true) o) (get_wiped d mid left new lt l n).1
+first_here false d mid left new lt l n = ap (λ (o : Option Slot). option_and_then (first_of false) o) (get_wiped d mid left new lt l n).1
 
 pub ends_vanished : (d : ℕ) (old mid left new : List Slot) → HasOrder old → d < length old → IsUnlinked d old mid → left ≡ map (exit_wiped d) mid → new ≡ changed_at d wiped left
     → (v : Bool) (p : ℕ) → Ends (length new) (next_at new) (first_at v new p)
@@ -259,25 +260,25 @@ ends_vanished d old mid left new s lt u l n v p = elim (cases_eq p d) [
 
 -- The same of the entries.
 
-get_gone : (d : ℕ) (es : List Entry) → d < length es → slice_get (vanished d (exits_gone d es)) d ≡ Some gone_entry
+get_gone : (d : ℕ) (es : List Entry) → d < length es → (e : Entry) × (slice_get (vanished d (exits_gone d es)) d ≡ Some (gone_entry e))
 unfolding vanished exits_gone
 get_gone d es lt =
     let xs : List Entry = changed_at d without_exits (map (exit_gone d) es) in
     let s : (x : Entry) × (slice_get (map (left_out d) xs) d ≡ Some x) = some_at (map (left_out d) xs) d (omega (arith, lt, length_map (left_out d) xs, length_changed (map (exit_gone d) es) d without_exits, length_map (exit_gone d) es)) in
-    get_changed_same (map (left_out d) xs) d (λ e. gone_entry) ∙ ap (λ (o : Option Entry). option_map (λ (e : Entry). gone_entry) o) s.1
+    (s.0, get_changed_same (map (left_out d) xs) d gone_entry ∙ ap (λ (o : Option Entry). option_map gone_entry o) s.1)
 
 get_left : (d k : ℕ) (es : List Entry) → (k ≡ d → ⊥) → slice_get (vanished d (exits_gone d es)) k ≡ option_map (left_out d) (option_map (exit_gone d) (slice_get es k))
 unfolding vanished exits_gone
 get_left d k es ne =
     let xs : List Entry = changed_at d without_exits (map (exit_gone d) es) in
-    get_changed_other (map (left_out d) xs) d k (λ e. gone_entry) ne ∙ slice_get-map (left_out d) xs k
+    get_changed_other (map (left_out d) xs) d k gone_entry ne ∙ slice_get-map (left_out d) xs k
     ∙ ap (λ (o : Option Entry). option_map (left_out d) o) (get_changed_other (map (exit_gone d) es) d k without_exits ne ∙ slice_get-map (exit_gone d) es k)
 
-gone_is : (d : ℕ) (e : Entry) → is_exit_of d e.object ≡ true → exit_gone d e ≡ gone_entry
-gone_is d e h = ap (λ b. cond b gone_entry e) h
+gone_is : (d : ℕ) (e : Entry) → is_exit_of d e.object ≡ true → exit_gone d e ≡ gone_entry e
+gone_is d e h = ap (λ b. cond b (gone_entry e) e) h
 
 stays_is : (d : ℕ) (e : Entry) → is_exit_of d e.object ≡ false → exit_gone d e ≡ e
-stays_is d e h = ap (λ b. cond b gone_entry e) h
+stays_is d e h = ap (λ b. cond b (gone_entry e) e) h
 
 gone_object : (d : ℕ) (e : Entry) (b : Bool) → is_exit_of d e.object ≡ b → (exit_gone d e).object ≡ left_object d e.object
 unfolding left_object gone_entry
@@ -289,12 +290,12 @@ unfolding gone_entry
 gone_mark d e true h = ap (λ (z : Entry). z.mark) (gone_is d e h)
 gone_mark d e false h = ap (λ (z : Entry). z.mark) (stays_is d e h)
 
-gone_list : (v : Bool) (d : ℕ) (e : Entry) (b : Bool) → is_exit_of d e.object ≡ b → list_of v (left_out d (exit_gone d e)) ≡ cond b [] (without d (list_of v e))
-unfolding gone_entry without
-gone_list true d e true h = ap (λ (z : Entry). list_of true (left_out d z)) (gone_is d e h)
-gone_list false d e true h = ap (λ (z : Entry). list_of false (left_out d z)) (gone_is d e h)
-gone_list true d e false h = ap (λ (z : Entry). list_of true (left_out d z)) (stays_is d e h)
-gone_list false d e false h = ap (λ (z : Entry). list_of false (left_out d z)) (stays_is d e h)
+gone_list : (v : Bool) (d : ℕ) (e : Entry) (b : Bool) → is_exit_of d e.object ≡ b → entry_list v (left_out d (exit_gone d e)) ≡ cond b [] (without_number d (entry_list v e))
+unfolding gone_entry without_number
+gone_list true d e true h = ap (λ (z : Entry). entry_list true (left_out d z)) (gone_is d e h)
+gone_list false d e true h = ap (λ (z : Entry). entry_list false (left_out d z)) (gone_is d e h)
+gone_list true d e false h = ap (λ (z : Entry). entry_list true (left_out d z)) (stays_is d e h)
+gone_list false d e false h = ap (λ (z : Entry). entry_list false (left_out d z)) (stays_is d e h)
 
 unfoldable pub exit_in : ℕ → List Entry → ℕ → Bool
 exit_in d es k = option_map_or (is_exit_of d) (object_in es k) false
@@ -315,15 +316,15 @@ mark_left_in d k es ne = ap (λ (o : Option Entry). option_and_then (λ (e : Ent
     by_cases None = refl
     by_cases (Some e) = gone_mark d e (is_exit_of d e.object) refl
 
-without_none : (d : ℕ) → without d [] ≡ []
-unfolding without
+without_none : (d : ℕ) → without_number d [] ≡ []
+unfolding without_number
 without_none d = refl
 
-list_left_in : (v : Bool) (d k : ℕ) (es : List Entry) → (k ≡ d → ⊥) → list_in v (vanished d (exits_gone d es)) k ≡ cond (exit_in d es k) [] (without d (list_in v es k))
+list_left_in : (v : Bool) (d k : ℕ) (es : List Entry) → (k ≡ d → ⊥) → list_in v (vanished d (exits_gone d es)) k ≡ cond (exit_in d es k) [] (without_number d (list_in v es k))
 unfolding list_in exit_in object_in
-list_left_in v d k es ne = ap (λ (o : Option Entry). option_map_or (list_of v) o []) (get_left d k es ne) ∙ by_cases (slice_get es k)
+list_left_in v d k es ne = ap (λ (o : Option Entry). option_map_or (entry_list v) o []) (get_left d k es ne) ∙ by_cases (slice_get es k)
   where
-    by_cases : (o : Option Entry) → option_map_or (list_of v) (option_map (left_out d) (option_map (exit_gone d) o)) [] ≡ cond (option_map_or (is_exit_of d) (option_map (λ (e : Entry). e.object) o) false) [] (without d (option_map_or (list_of v) o []))
+    by_cases : (o : Option Entry) → option_map_or (entry_list v) (option_map (left_out d) (option_map (exit_gone d) o)) [] ≡ cond (option_map_or (is_exit_of d) (option_map (λ (e : Entry). e.object) o) false) [] (without_number d (option_map_or (entry_list v) o []))
     by_cases None = sym (without_none d)
     by_cases (Some e) = gone_list v d e (is_exit_of d e.object) refl
 
@@ -334,15 +335,15 @@ exit_bridge d k slots = ap (λ (o : Option Object). option_map_or (is_exit_of d)
 
 gone_here : (d : ℕ) (es : List Entry) → d < length es → (object_in (vanished d (exits_gone d es)) d ≡ Some garbage) × (mark_in (vanished d (exits_gone d es)) d ≡ Some Gone) × ((v : Bool) → list_in v (vanished d (exits_gone d es)) d ≡ [])
 unfolding object_in mark_in list_in gone_entry
-gone_here d es lt = (ap (λ (o : Option Entry). option_map (λ (e : Entry). e.object) o) (get_gone d es lt), ap (λ (o : Option Entry). option_and_then (λ (e : Entry). e.mark) o) (get_gone d es lt), λ v. ap (λ (o : Option Entry). option_map_or (list_of v) o []) (get_gone d es lt) ∙ none v)
+gone_here d es lt = (ap (λ (o : Option Entry). option_map (λ (e : Entry). e.object) o) (get_gone d es lt).1, ap (λ (o : Option Entry). option_and_then (λ (e : Entry). e.mark) o) (get_gone d es lt).1, λ v. ap (λ (o : Option Entry). option_map_or (entry_list v) o []) (get_gone d es lt).1 ∙ none v)
   where
-    none : (v : Bool) → list_of v gone_entry ≡ []
+    none : (v : Bool) → entry_list v (gone_entry (get_gone d es lt).0) ≡ []
     none true = refl
     none false = refl
 
 wiped_here : (d : ℕ) (mid left new : List Slot) → d < length mid → left ≡ map (exit_wiped d) mid → new ≡ changed_at d wiped left → (object_at new d ≡ Some garbage) × (mark_at new d ≡ Some Gone)
 unfolding object_at mark_at
-wiped_here d mid left new lt l n = (ap (λ (o : Option Slot). option_map shown o) (get_wiped d mid left new lt l n), ap (λ (o : Option Slot). option_and_then (λ (s : Slot). s.mark) o) (get_wiped d mid left new lt l n))
+wiped_here d mid left new lt l n = (ap (λ (o : Option Slot). option_map shown o) (get_wiped d mid left new lt l n).1, ap (λ (o : Option Slot). option_and_then (λ (s : Slot). s.mark) o) (get_wiped d mid left new lt l n).1)
 
 -- The marks of what is left.
 
@@ -399,8 +400,8 @@ object_stays_in : (d k : ℕ) (es : List Entry) → (k ≡ d → ⊥) → exit_i
 unfolding exit_in
 object_stays_in d k es ne stays = object_left_in d k es ne ∙ left_object_same d (object_in es k) stays
 
-list_stays_in : (v : Bool) (d k : ℕ) (es : List Entry) → (k ≡ d → ⊥) → exit_in d es k ≡ false → list_in v (vanished d (exits_gone d es)) k ≡ without d (list_in v es k)
-list_stays_in v d k es ne stays = list_left_in v d k es ne ∙ ap (λ b. cond b [] (without d (list_in v es k))) stays
+list_stays_in : (v : Bool) (d k : ℕ) (es : List Entry) → (k ≡ d → ⊥) → exit_in d es k ≡ false → list_in v (vanished d (exits_gone d es)) k ≡ without_number d (list_in v es k)
+list_stays_in v d k es ne stays = list_left_in v d k es ne ∙ ap (λ b. cond b [] (without_number d (list_in v es k))) stays
 
 next_left : (d k : ℕ) (es : List Entry) → IsOrdered es → list_in false es d ≡ [] → (k ≡ d → ⊥) → exit_in d es k ≡ false → next_in (vanished d (exits_gone d es)) k ≡ next_without d es k
 unfolding next_in next_without
@@ -410,14 +411,14 @@ next_left d k es c empty ne stays =
     rw (place_alike es fs k same, kind_alike es fs k same) (by_cases (place_in es k) refl)
   where
     by_cases : (o : Option ℕ) → place_in es k ≡ o
-        → option_and_then (λ p. follower k (list_in (is_exit (kind_in es k)) (vanished d (exits_gone d es)) p)) o ≡ option_and_then (λ p. follower k (without d (list_in (is_exit (kind_in es k)) es p))) o
+        → option_and_then (λ p. follower k (list_in (is_exit (kind_in es k)) (vanished d (exits_gone d es)) p)) o ≡ option_and_then (λ p. follower k (without_number d (list_in (is_exit (kind_in es k)) es p))) o
     by_cases None e = refl
     by_cases (Some p) e = ap (λ l. follower k l) (list_stays_in (is_exit (kind_in es k)) d p es (place_other d k p es c empty stays e) (place_stays d k p es c e))
 
 left_without : (d k : ℕ) (es : List Entry) → IsOrdered es → list_in false es d ≡ [] → (k ≡ d → ⊥) → exit_in d es k ≡ false → IsWithout d es (vanished d (exits_gone d es)) k
 left_without d k es c empty ne stays = record {
   other = ne;
-  fronts = λ v. ap front (list_stays_in v d k es ne stays);
+  fronts = λ v. ap first_of_list (list_stays_in v d k es ne stays);
   next = next_left d k es c empty ne stays;
 }
 
@@ -437,7 +438,7 @@ taken_else d k es s c empty ne stays is_due same =
 
 wiped_due : (d : ℕ) (mid left new : List Slot) → d < length mid → left ≡ map (exit_wiped d) mid → new ≡ changed_at d wiped left → saving_at new d ≡ Due
 unfolding saving_at
-wiped_due d mid left new lt l n = ap (λ (o : Option Slot). option_map_or (λ (s : Slot). s.saving) o Due) (get_wiped d mid left new lt l n)
+wiped_due d mid left new lt l n = ap (λ (o : Option Slot). option_map_or (λ (s : Slot). s.saving) o Due) (get_wiped d mid left new lt l n).1
 
 saving_taken : (d : ℕ) (old mid left new : List Slot) → HasOrder old → list_in false (entries_of old) d ≡ [] → d < length old → IsUnlinked d old mid → left ≡ map (exit_wiped d) mid → new ≡ changed_at d wiped left
     → (k : ℕ) → saving_at new k ≡ saving_in (taken_away d (entries_of old)) k
@@ -453,6 +454,16 @@ saving_taken d old mid left new s empty lt u l n k =
           (λ h. let since : saving_at new k ≡ saving_at mid k = kept ∙ ap (λ b. cond b Due (saving_at mid k)) h in
           taken_else d k es (saving_at new k) s.ordered empty ne h (λ q. since ∙ u.due k q) (λ q. since ∙ u.same_savings k q ∙ sym (saving_in-entries_of old k)))
     ]
+
+stood_wiped : (d : ℕ) (s : Slot) → (exit_wiped d s).stood ≡ s.stood
+stood_wiped d s = whether (is_exit_of d (shown s)) ((exit_wiped d s).stood ≡ s.stood) (λ h. ap (λ (z : Slot). z.stood) (wiped_is d s h)) (λ h. ap (λ (z : Slot). z.stood) (unwiped_is d s h))
+
+stood_left : (d k : ℕ) (mid left new : List Slot) → left ≡ map (exit_wiped d) mid → new ≡ changed_at d wiped left → stood_at new k ≡ stood_at mid k
+unfolding stood_at
+stood_left d k mid left new l n =
+    ap (λ (z : List Slot). option_and_then (λ (s : Slot). s.stood) (slice_get z k)) n ∙ read_kept (λ (s : Slot). s.stood) left d k wiped (λ s. refl)
+    ∙ ap (λ (z : List Slot). option_and_then (λ (s : Slot). s.stood) (slice_get z k)) l
+    ∙ ap (λ (o : Option Slot). option_and_then (λ (s : Slot). s.stood) o) (slice_get-map (exit_wiped d) mid k) ∙ kept_then (λ (s : Slot). s.stood) (exit_wiped d) (slice_get mid k) (stood_wiped d)
 
 pub entries_vanished : (d : ℕ) (old mid left new : List Slot) → HasOrder old → list_in false (entries_of old) d ≡ [] → d < length old → IsUnlinked d old mid → left ≡ map (exit_wiped d) mid → new ≡ changed_at d wiped left
     → entries_of new ≡ taken_away d (entries_of old)
@@ -474,8 +485,8 @@ entries_vanished d old mid left new s empty lt u l n =
     (λ v k. list_in-entries_of v new k ∙ (elim (cases_eq k d) [
       | inl e ↦ ap (λ z. list_at v new z) e ∙ list_is v new d [] (chain_empty (length new) (next_at new) (first_at v new d) (first_here v d mid left new within l n)) ∙ sym (gone.2 v) ∙ ap (λ z. list_in v (vanished d (exits_gone d es)) z) (sym e)
       | inr ne ↦ list_is v new k (left_list d old v k) (chain_left v d k old mid left new s u l n ne)
-          ∙ ap (λ b. cond b [] (without d (list_at v old k))) (sym (exit_bridge d k old))
-          ∙ ap (λ z. cond (exit_in d es k) [] (without d z)) (sym (list_in-entries_of v old k))
+          ∙ ap (λ b. cond b [] (without_number d (list_at v old k))) (sym (exit_bridge d k old))
+          ∙ ap (λ z. cond (exit_in d es k) [] (without_number d z)) (sym (list_in-entries_of v old k))
           ∙ sym (list_left_in v d k es ne)
     ]) ∙ sym (list_taken v es d k))
     (λ k. mark_in-entries_of new k ∙ (elim (cases_eq k d) [
@@ -483,6 +494,7 @@ entries_vanished d old mid left new s empty lt u l n =
       | inr ne ↦ mark_kept_at d k mid left new ne l n ∙ ap (λ b. cond b (Some Gone) (mark_at mid k)) (exits k) ∙ ap (λ z. cond (exit_in d es k) (Some Gone) z) (u.same_marks k ∙ sym (mark_in-entries_of old k)) ∙ sym (mark_left_in d k es ne)
     ]) ∙ sym (mark_taken es d k))
     (λ k. saving_in-entries_of new k ∙ saving_taken d old mid left new s empty lt u l n k)
+    (λ k. stood_in-entries_of new k ∙ stood_left d k mid left new l n ∙ u.same_stood k ∙ sym (stood_in-entries_of old k) ∙ sym (stood_taken d es k))
 
 -- All steps.
 
@@ -503,9 +515,9 @@ length_cleared d old mid lt e = omega (
 
 vanished_kind : (d : ℕ) (es : List Entry) → kind_in (vanished d es) d ≡ Garbage
 unfolding vanished kind_in object_in gone_entry garbage
-vanished_kind d es = rw (get_changed_same (map (left_out d) es) d (λ e. gone_entry)) (by_cases (slice_get (map (left_out d) es) d))
+vanished_kind d es = rw (get_changed_same (map (left_out d) es) d gone_entry) (by_cases (slice_get (map (left_out d) es) d))
   where
-    by_cases : (a : Option Entry) → option_map_or (λ (o : Object). o.kind) (option_map (λ (e : Entry). e.object) (option_map (λ e. gone_entry) a)) Garbage ≡ Garbage
+    by_cases : (a : Option Entry) → option_map_or (λ (o : Object). o.kind) (option_map (λ (e : Entry). e.object) (option_map gone_entry a)) Garbage ≡ Garbage
     by_cases None = refl
     by_cases (Some e) = refl
 

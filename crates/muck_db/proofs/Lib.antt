@@ -27,3 +27,5 @@ pub mod Listing
 pub mod Bounds
 pub mod Blocked
 pub mod Passing
+pub mod Moved
+pub mod Heard

@@ -1,5 +1,6 @@
 -- Every change keeps a world within its limits.
 use Rattle.std.proofs.Common.{Bor, ◌≡◌, ℕ, ◌<◌, ◌≤◌, ◌^◌, zero, suc, List, [], ◌∷◌, ◌++◌, Option, Some, None, Ok, inl, inr, refl, sym, ◌∙◌, ap, subst, length, arith, Bool, true, false, ◌&&◌, ◌||◌, cond, map}
+use Rattle.muck_laws.proofs.Texts.{length-bytes_high}
 use Rattle.muck_model.specs.Bytes.{lines_most}
 use Rattle.std.specs.Prelude.{nat_lt}
 use Rattle.std.proofs.lemmas.Bool.{and_parts, cases_eq}
@@ -16,9 +17,10 @@ use Rattle.spec_live.specs.declared.mark.Mark.{Mark}
 use Rattle.spec_live.specs.declared.saving.Saving.{Saving}
 use Rattle.spec_live.specs.Objects.{Entry, changed_at, on_object, with_object, garbage, object_in, object_at, number_in, kind_in, is_exit, is_program, is_player}
 use Rattle.spec_live.specs.Moving.{left_out, put_first, with_place, set_down, moved}
-use Rattle.spec_live.specs.Making.{blank_entry, grown, new_object, created}
-use Rattle.spec_live.specs.Marks.{unmarked, marked_from, change_told}
+use Rattle.spec_live.specs.Making.{blank_entry, objects_grown, new_object, created}
+use Rattle.spec_live.specs.Marks.{entry_unmarked, marked_from, change_told}
 use Rattle.spec_live.specs.Password.{salt_bytes, first_salt, first_password}
+use Rattle.spec_live.specs.Stood.{still, stilled}
 use Rattle.spec_live.specs.Recycling.{without_ties, untie, untied, way_home, sent_home, gone_entry, is_exit_of, exit_gone, without_exits, exits_gone, vanished, taken_away, recycled}
 use Rattle.spec_live.specs.Saving.{relinked, all_saving}
 use Rattle.spec_live.specs.Setting.{set_at, with_name, with_owner, with_link, with_home, with_flags, level_check, with_level, with_lines, lines_set, with_password, with_prop, without_prop}
@@ -29,7 +31,7 @@ use Rattle.spec_live.proofs.Savings.{object_relinked, object_resaved}
 use Rattle.spec_live.proofs.Checks.{checked_ok}
 use Rattle.spec_live.proofs.CreationLaws.{object_more, object_last, grown_same, grown_more}
 use Rattle.muck_db.specs.inner.Limits.{IsDigest, FitsLimits, IsWithinLimits}
-use Rattle.muck_db.proofs.Digests.{bytes_high, length-bytes_high, is_digest}
+use Rattle.muck_db.proofs.Digests.{bytes_high, is_digest}
 
 -- Objects.
 
@@ -160,7 +162,7 @@ limits_moved d to es h = limits_relinked es (set_down d to es) (limits_down d to
 
 -- Creation.
 
-limits_grown : (n : ℕ) (es : List Entry) → IsWithinLimits es → IsWithinLimits (grown n es)
+limits_grown : (n : ℕ) (es : List Entry) → IsWithinLimits es → IsWithinLimits (objects_grown n es)
 limits_grown n es h = elim (cases_eq n (length es)) [
   | inl next ↦ subst IsWithinLimits (sym (grown_more n es next)) (limits_more es h)
   | inr there ↦ subst IsWithinLimits (sym (grown_same n es there)) h
@@ -174,7 +176,7 @@ pub limits_created : (n : ℕ) (kind : Kind) (name : List ℕ) (owner : Dbref) (
 unfolding created
 limits_created n kind name owner to es some short h =
     let o : Object = new_object n kind name owner in
-    limits_moved n to (changed_at n (with_object o) (grown n es)) (limits_at n (with_object o) (grown n es) (λ e l. new_fits n kind name owner some short) (limits_grown n es h))
+    limits_moved n to (changed_at n (with_object o) (objects_grown n es)) (limits_at n (with_object o) (objects_grown n es) (λ e l. new_fits n kind name owner some short) (limits_grown n es h))
 
 -- Recycling.
 
@@ -182,20 +184,24 @@ limits_untied : (d : ℕ) (es : List Entry) → IsWithinLimits es → IsWithinLi
 unfolding untied
 limits_untied d es h = limits_map (untie d) es (λ e. fits_same e.object (without_ties d e.object) (record { name = refl; level = refl; flags = refl; lines = refl; digest = refl })) h
 
+pub limits_stilled : (es : List Entry) → IsWithinLimits es → IsWithinLimits (stilled es)
+unfolding stilled
+limits_stilled es h = limits_map still es (λ e l. l) h
+
 limits_sent_home : (xs : List ℕ) (es : List Entry) → IsWithinLimits es → IsWithinLimits (sent_home xs es)
 unfolding sent_home
 limits_sent_home [] es h = h
 limits_sent_home (x ∷ xs) es h = limits_sent_home xs (moved x (way_home x es) es) (limits_moved x (way_home x es) es h)
 
-gone_fits : FitsLimits gone_entry.object
+gone_fits : (e : Entry) → FitsLimits (gone_entry e).object
 unfolding gone_entry
-gone_fits = garbage_fits
+gone_fits e = garbage_fits
 
 exit_fits : (d : ℕ) (e : Entry) → FitsLimits e.object → FitsLimits (exit_gone d e).object
 exit_fits d e h = by_cases (is_exit_of d e.object)
   where
-    by_cases : (b : Bool) → FitsLimits (cond b gone_entry e).object
-    by_cases true = gone_fits
+    by_cases : (b : Bool) → FitsLimits (cond b (gone_entry e) e).object
+    by_cases true = gone_fits e
     by_cases false = h
 
 limits_exits_gone : (d : ℕ) (es : List Entry) → IsWithinLimits es → IsWithinLimits (exits_gone d es)
@@ -204,7 +210,7 @@ limits_exits_gone d es h = limits_at d without_exits (map (exit_gone d) es) (λ 
 
 limits_vanished : (d : ℕ) (es : List Entry) → IsWithinLimits es → IsWithinLimits (vanished d es)
 unfolding vanished
-limits_vanished d es h = limits_at d (λ e. gone_entry) (map (left_out d) es) (λ e l. gone_fits) (limits_map (left_out d) es (λ e l. l) h)
+limits_vanished d es h = limits_at d gone_entry (map (left_out d) es) (λ e l. gone_fits e) (limits_map (left_out d) es (λ e l. l) h)
 
 pub limits_recycled : (d : ℕ) (es : List Entry) → IsWithinLimits es → IsWithinLimits (recycled d es)
 unfolding recycled taken_away
@@ -216,9 +222,9 @@ pub limits_told : (es : List Entry) → IsWithinLimits es → IsWithinLimits (ch
 unfolding change_told
 limits_told es h = by_cases (marked_from 0 es)
   where
-    by_cases : (o : Option (ℕ × Mark)) → IsWithinLimits (option_map_or (λ p. changed_at p.0 unmarked es) o es)
+    by_cases : (o : Option (ℕ × Mark)) → IsWithinLimits (option_map_or (λ p. changed_at p.0 entry_unmarked es) o es)
     by_cases None = h
-    by_cases (Some p) = limits_at p.0 unmarked es (λ e l. l) h
+    by_cases (Some p) = limits_at p.0 entry_unmarked es (λ e l. l) h
 
 zero_fits : FitsLimits room_zero
 unfolding room_zero

@@ -2,15 +2,16 @@
 use Rattle.std.proofs.Common.{◌≡◌, ◌⊎◌, ℕ, ◌<◌, List, [], ◌∷◌, Option, Some, None, inl, inr, refl, sym, ◌∙◌, ap, subst, length, arith, Bool, true, false}
 use Rattle.std.proofs.lemmas.Bool.{cases_eq, ne_eqb, eq-eqb}
 use Rattle.std.specs.Option.{option_and_then}
+use Rattle.muck_laws.proofs.Numbers.{same_place}
 use Rattle.spec_live.specs.declared.saving.Saving.TheVariants.{Due}
-use Rattle.spec_live.specs.Chain.{IsChain, Ends, Member, IsApart, follower, without, put_at}
+use Rattle.spec_live.specs.Chain.{IsChain, Ends, Member, IsApart, follower, without_number, put_at}
 use Rattle.spec_live.specs.Objects.{Entry, changed_at, is_exit, kind_in, place_in, list_in}
-use Rattle.spec_live.specs.Saving.{front, next_in, links_in}
+use Rattle.spec_live.specs.Saving.{first_of_list, next_in, links_in}
 use Rattle.spec_live.proofs.Chains.{chain_frame, chain_below, chain_apart, chain_without_first, chain_without, without_same}
-use Rattle.spec_live.proofs.Lists.{same_place, put_same, put_other, length_changed}
+use Rattle.spec_live.proofs.Lists.{put_same, put_other, length_changed}
 use Rattle.muck_db.specs.declared.slot.Slot.{Slot}
 use Rattle.muck_db.specs.inner.Slots.{next_at, first_at, place_at, list_at, saving_at, with_next, with_first, entries_of, LeadsTo, Stands, HasChains, IsUnlinked, IsLinked}
-use Rattle.muck_db.proofs.Tables.{object-with_next, object-with_first, mark-with_next, mark-with_first, first-with_next, next-with_first, next-with_next_same, next-with_next_other, first-with_first_same, first-with_first_other, saving_due, saving_other, with_first_due}
+use Rattle.muck_db.proofs.Tables.{object-with_next, object-with_first, mark-with_next, mark-with_first, stood-with_next, stood-with_first, first-with_next, next-with_first, next-with_next_same, next-with_next_other, first-with_first_same, first-with_first_other, saving_due, saving_other, with_first_due}
 use Rattle.muck_db.proofs.Readers.{list_in-entries_of, place_in-entries_of, is_exit-entries_of}
 use Rattle.muck_db.proofs.Leads.{front_member, follower_member, first_behind_none, one_before}
 
@@ -86,7 +87,7 @@ next_standing slots h w p i m =
 -- a list of k begins with d
 record Begins (slots : List Slot) (d k : ℕ) : Type 0 where
   which : Bool
-  leads : front (list_at which slots k) ≡ Some d
+  leads : first_of_list (list_at which slots k) ≡ Some d
 
 -- k stands before d
 record Precedes (slots : List Slot) (d k : ℕ) : Type 0 where
@@ -94,8 +95,8 @@ record Precedes (slots : List Slot) (d k : ℕ) : Type 0 where
   place : ℕ
   leads : follower k (list_at which slots place) ≡ Some d
 
-front_by : (v : Bool) (slots : List Slot) (k d : ℕ) → front (list_in v (entries_of slots) k) ≡ Some d → front (list_at v slots k) ≡ Some d
-front_by v slots k d h = ap front (sym (list_in-entries_of v slots k)) ∙ h
+front_by : (v : Bool) (slots : List Slot) (k d : ℕ) → first_of_list (list_in v (entries_of slots) k) ≡ Some d → first_of_list (list_at v slots k) ≡ Some d
+front_by v slots k d h = ap first_of_list (sym (list_in-entries_of v slots k)) ∙ h
 
 next_by : (slots : List Slot) (k d : ℕ) → next_in (entries_of slots) k ≡ Some d → Precedes slots d k
 unfolding next_in
@@ -124,25 +125,25 @@ led_from slots d k h = elim (led_by slots d k h) [
   | inr b ↦ (b.which, b.place, follower_member k d (list_at b.which slots b.place) b.leads)
 ]
 
-chain_begins : (n : ℕ) (f : ℕ → Option ℕ) (s : Option ℕ) (xs : List ℕ) → IsChain n f s xs → front xs ≡ s
+chain_begins : (n : ℕ) (f : ℕ → Option ℕ) (s : Option ℕ) (xs : List ℕ) → IsChain n f s xs → first_of_list xs ≡ s
 unfolding IsChain
 chain_begins n f s [] h = sym h
 chain_begins n f s (x ∷ xs) h = sym h.0
 
-list_begins : (slots : List Slot) → HasChains slots → (w : Bool) (p : ℕ) → front (list_at w slots p) ≡ first_at w slots p
+list_begins : (slots : List Slot) → HasChains slots → (w : Bool) (p : ℕ) → first_of_list (list_at w slots p) ≡ first_at w slots p
 list_begins slots h w p = chain_begins (length slots) (next_at slots) (first_at w slots p) (list_at w slots p) (chain_at slots h w p)
 
-leads_first : (slots : List Slot) (w : Bool) (p d : ℕ) → front (list_at w slots p) ≡ Some d → LeadsTo d (links_in (entries_of slots) p)
+leads_first : (slots : List Slot) (w : Bool) (p d : ℕ) → first_of_list (list_at w slots p) ≡ Some d → LeadsTo d (links_in (entries_of slots) p)
 unfolding links_in
-leads_first slots true p d h = inr (inl (ap front (list_in-entries_of true slots p) ∙ h))
-leads_first slots false p d h = inl (ap front (list_in-entries_of false slots p) ∙ h)
+leads_first slots true p d h = inr (inl (ap first_of_list (list_in-entries_of true slots p) ∙ h))
+leads_first slots false p d h = inl (ap first_of_list (list_in-entries_of false slots p) ∙ h)
 
 leads_next : (slots : List Slot) (i d : ℕ) → next_in (entries_of slots) i ≡ Some d → LeadsTo d (links_in (entries_of slots) i)
 unfolding links_in
 leads_next slots i d h = inr (inr h)
 
 -- where d is the first, only its place leads to it
-first_leads : (slots : List Slot) → HasChains slots → (w : Bool) (p d k : ℕ) → Member d (list_at w slots p) → front (list_at w slots p) ≡ Some d → LeadsTo d (links_in (entries_of slots) k) → k ≡ p
+first_leads : (slots : List Slot) → HasChains slots → (w : Bool) (p d k : ℕ) → Member d (list_at w slots p) → first_of_list (list_at w slots p) ≡ Some d → LeadsTo d (links_in (entries_of slots) k) → k ≡ p
 first_leads slots h w p d k here first leads = elim (led_by slots d k leads) [
   | inl b ↦ (same_list slots h b.which w k p d here (front_member d (list_at b.which slots k) b.leads)).place
   | inr b ↦
@@ -151,7 +152,7 @@ first_leads slots h w p d k here first leads = elim (led_by slots d k leads) [
 ]
 
 -- where it isn't, only the one before it does
-later_leads : (slots : List Slot) → HasChains slots → (w : Bool) (p d i k : ℕ) → Member d (list_at w slots p) → (front (list_at w slots p) ≡ Some d → ⊥) → follower i (list_at w slots p) ≡ Some d → LeadsTo d (links_in (entries_of slots) k) → k ≡ i
+later_leads : (slots : List Slot) → HasChains slots → (w : Bool) (p d i k : ℕ) → Member d (list_at w slots p) → (first_of_list (list_at w slots p) ≡ Some d → ⊥) → follower i (list_at w slots p) ≡ Some d → LeadsTo d (links_in (entries_of slots) k) → k ≡ i
 later_leads slots h w p d i k here later before leads = elim (led_by slots d k leads) [
   | inl b ↦
       let e : IsIn slots b.which w k p = same_list slots h b.which w k p d here (front_member d (list_at b.which slots k) b.leads) in
@@ -177,12 +178,13 @@ unlinked_first w p d old h here lt first = record {
   same_length = length_changed old p (with_first w (next_at old d));
   same_objects = λ k. object-with_first w old p k (next_at old d);
   same_marks = λ k. mark-with_first w old p k (next_at old d);
+  same_stood = λ k. stood-with_first w old p k (next_at old d);
   due = λ k. led_due d p k old (changed_at p (with_first w (next_at old d)) old) (first_leads old h w p d k here (list_begins old h w p ∙ first)) (saving_due old p (with_first w (next_at old d)) (with_first_due w (next_at old d)));
   same_savings = λ k. led_same d p k old (changed_at p (with_first w (next_at old d)) old) (leads_first old w p d (list_begins old h w p ∙ first)) (saving_other old p k (with_first w (next_at old d)));
   chains = λ v q. elim (same_place v w q p) [
     | inl e ↦
         let P : Option ℕ → Type 0 = λ z. IsChain (length old) (next_at old) z (list_at w old p) in
-        let V : Bool → ℕ → Type 0 = λ y z. IsChain (length (changed_at p (with_first w (next_at old d)) old)) (next_at (changed_at p (with_first w (next_at old d)) old)) (first_at y (changed_at p (with_first w (next_at old d)) old) z) (without d (list_at y old z)) in
+        let V : Bool → ℕ → Type 0 = λ y z. IsChain (length (changed_at p (with_first w (next_at old d)) old)) (next_at (changed_at p (with_first w (next_at old d)) old)) (first_at y (changed_at p (with_first w (next_at old d)) old) z) (without_number d (list_at y old z)) in
         let at_place : V w p = chain_over _ _ _ _ _ _ _ _ (length_changed old p (with_first w (next_at old d))) (first-with_first_same w old p (next_at old d) lt) refl (λ x m. next-with_first w old p x (next_at old d))
         (chain_without_first (length old) (next_at old) d (list_at w old p) (subst P first (chain_at old h w p))) in
         let A : Bool → Type 0 = λ y. V y q in
@@ -198,13 +200,14 @@ unlinked_later w p d i old h here before leads first = record {
   same_length = length_changed old i (with_next (next_at old d));
   same_objects = λ k. object-with_next old i k (next_at old d);
   same_marks = λ k. mark-with_next old i k (next_at old d);
+  same_stood = λ k. stood-with_next old i k (next_at old d);
   due = λ k. led_due d i k old (changed_at i (with_next (next_at old d)) old)
       (later_leads old h w p d i k here (λ e. first (sym (list_begins old h w p) ∙ e)) (follower_is (length old) (next_at old) (first_at w old p) (list_at w old p) i (chain_at old h w p) before ∙ leads))
       (saving_due old i (with_next (next_at old d)) (λ s. refl));
   same_savings = λ k. led_same d i k old (changed_at i (with_next (next_at old d)) old) (leads_next old i d (next_standing old h w p i before ∙ leads)) (saving_other old i k (with_next (next_at old d)));
   chains = λ v q. elim (same_place v w q p) [
     | inl e ↦
-        let V : Bool → ℕ → Type 0 = λ y z. IsChain (length (changed_at i (with_next (next_at old d)) old)) (next_at (changed_at i (with_next (next_at old d)) old)) (first_at y (changed_at i (with_next (next_at old d)) old) z) (without d (list_at y old z)) in
+        let V : Bool → ℕ → Type 0 = λ y z. IsChain (length (changed_at i (with_next (next_at old d)) old)) (next_at (changed_at i (with_next (next_at old d)) old)) (first_at y (changed_at i (with_next (next_at old d)) old) z) (without_number d (list_at y old z)) in
         let at_place : V w p = chain_over _ _ _ _ _ _ _ _ (length_changed old i (with_next (next_at old d))) (first-with_next w old i p (next_at old d)) refl (λ x m. refl)
         (chain_without (length old) (next_at old) (next_at (changed_at i (with_next (next_at old d)) old)) i d (first_at w old p) (list_at w old p) leads
         (next-with_next_same old i (next_at old d) (member_below old h w p i before)) (λ x ne. next-with_next_other old i x (next_at old d) ne) before first (chain_at old h w p)) in
@@ -240,6 +243,7 @@ linked w to d old mid new ends nowhere known place is_mid is_new =
       same_length = new_length;
       same_objects = λ k. rw (is_new, object-with_first w mid to k (Some d), is_mid) (object-with_next old d k (first_at w old to));
       same_marks = λ k. rw (is_new, mark-with_first w mid to k (Some d), is_mid) (mark-with_next old d k (first_at w old to));
+      same_stood = λ k. rw (is_new, stood-with_first w mid to k (Some d), is_mid) (stood-with_next old d k (first_at w old to));
       due = ap (λ (z : List Slot). saving_at z d) is_new ∙ linked_due (cases_eq d to) (ap (λ (z : List Slot). saving_at z d) is_mid ∙ saving_due old d (with_next (first_at w old to)) (λ s. refl));
       place_due = ap (λ (z : List Slot). saving_at z to) is_new ∙ saving_due mid to (with_first w (Some d)) (with_first_due w (Some d));
       same_savings = λ k other elsewhere. ap (λ (z : List Slot). saving_at z k) is_new ∙ saving_other mid to k (with_first w (Some d)) elsewhere ∙ ap (λ (z : List Slot). saving_at z k) is_mid ∙ saving_other old d k (with_next (first_at w old to)) other;

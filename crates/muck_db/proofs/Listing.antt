@@ -1,10 +1,11 @@
 -- The numbers of the players.
-use Rattle.std.proofs.Common.{◌≡◌, ℕ, zero, suc, pos, ◌<◌, ◌++◌, Bool, cond, List, [], ◌∷◌, Option, Some, None, refl, sym, ap, subst, ◌∙◌, true, false, length}
+use Rattle.std.proofs.Common.{◌≡◌, ℕ, pos, ◌<◌, ◌++◌, Bool, cond, List, [], ◌∷◌, Option, Some, None, refl, sym, ap, subst, ◌∙◌, true, false, length}
 use Rattle.std.proofs.lemmas.Bool.{false≢true}
 use Rattle.std.proofs.lemmas.Option.{slice_get_within}
 use Rattle.std.specs.Prelude.{slice_get}
 use Rattle.std.specs.Option.{option_map, option_map_or, option_and_then}
-use Rattle.muck_model.specs.Numbers.{numbered}
+use Rattle.muck_laws.proofs.Places.{get_still, got_last}
+use Rattle.muck_model.specs.Numbers.{dbref_numbered}
 use Rattle.muck_model.specs.declared.dbref.Kind.TheVariants.{Garbage}
 use Rattle.spec_live.specs.declared.object.Object.{Object}
 use Rattle.spec_live.specs.Objects.{Entry, is_player, is_garbage, kind_in, object_in, number_in, object_at as seen_at}
@@ -15,20 +16,11 @@ use Rattle.muck_db.specs.declared.slot.Slot.{Slot}
 use Rattle.muck_db.specs.inner.Slots.{shown, object_at, kind_at, entries_of, HasPlayers}
 use Rattle.muck_db.proofs.Readers.{kind_in-entries_of}
 
-get_before : (ns : List ℕ) (n at k : ℕ) → slice_get ns at ≡ Some k → slice_get (ns ++ n ∷ []) at ≡ Some k
-get_before [] n at k e = absurd (cc (e))
-get_before (m ∷ ns) n zero k e = e
-get_before (m ∷ ns) n (suc at) k e = get_before ns n at k e
-
-get_last : (ns : List ℕ) (n : ℕ) → slice_get (ns ++ n ∷ []) (length ns) ≡ Some n
-get_last [] n = refl
-get_last (m ∷ ns) n = get_last ns n
-
 pub among_more : (ns ms : List ℕ) (n k : ℕ) → ms ≡ ns ++ n ∷ [] → IsAmong ns k → IsAmong ms k
-among_more ns ms n k is a = record { at = a.at; is = ap (λ (l : List ℕ). slice_get l a.at) is ∙ get_before ns n a.at k a.is }
+among_more ns ms n k is a = record { at = a.at; is = ap (λ (l : List ℕ). slice_get l a.at) is ∙ get_still ns n a.at k a.is }
 
 pub among_last : (ns ms : List ℕ) (n : ℕ) → ms ≡ ns ++ n ∷ [] → IsAmong ms n
-among_last ns ms n is = record { at = length ns; is = ap (λ (l : List ℕ). slice_get l (length ns)) is ∙ get_last ns n }
+among_last ns ms n is = record { at = length ns; is = ap (λ (l : List ℕ). slice_get l (length ns)) is ∙ got_last ns n }
 
 -- a player is one of the slots
 pub player_known : (slots : List Slot) (k : ℕ) → is_player (kind_at slots k) ≡ true → k < length slots
@@ -40,7 +32,7 @@ player_known slots k h = at (slice_get slots k) refl h
     at (Some s) e h = slice_get_within slots k s e
 
 -- who is seen as a player is one
-player_seen : (es : List Entry) (n : ℕ) → sees (λ s. is_player s.kind) (scenery_of es) (numbered (pos n)) ≡ true → is_player (kind_in es n) ≡ true
+player_seen : (es : List Entry) (n : ℕ) → sees (λ s. is_player s.kind) (scenery_of es) (dbref_numbered (pos n)) ≡ true → is_player (kind_in es n) ≡ true
 unfolding scenery_of number_in kind_in seen_at
 player_seen es n h = by_life (is_garbage (kind_in es n)) h
   where

@@ -4,7 +4,7 @@ use Rattle.std.proofs.lemmas.Bool.{cases_eq, ne_eqb, eq-eqb}
 use Rattle.std.specs.Prelude.{IfSome}
 use Rattle.std.specs.Option.{option_map}
 use Rattle.muck_model.specs.declared.dbref.Dbref.{Dbref}
-use Rattle.muck_match.specs.Scenery.{chain, upward, is_there}
+use Rattle.muck_match.specs.Scenery.{chain, upward, is_in_scenery}
 use Rattle.muck_lock.specs.inner.Chain as lock
 use Rattle.spec_live.specs.Chain.{walk, IsChain, Ends, Member}
 use Rattle.spec_live.specs.Objects.{Entry, dbref_of, index_of, nothing, is_exit, is_garbage, object_in, kind_in, place_in, list_in, number_in, object_at, fits_in, is_vehicle_in}
@@ -218,11 +218,11 @@ unfolding places_of
 places_none es d h = rw h refl
 
 upward_gone : (es : List Entry) (place : Dbref) → object_at place es ≡ None → upward (scenery_of es) (Some place) ≡ []
-unfolding upward is_there scenery_of
+unfolding upward is_in_scenery scenery_of
 upward_gone es place h = rw h refl
 
 upward_there : (es : List Entry) (place : Dbref) (o : Object) → object_at place es ≡ Some o → upward (scenery_of es) (Some place) ≡ place ∷ places_of es place
-unfolding upward is_there scenery_of
+unfolding upward is_in_scenery scenery_of
 upward_there es place o h = rw h refl
 
 nowhere : (es : List Entry) (place : Dbref) → index_of place ≡ None → object_at place es ≡ None

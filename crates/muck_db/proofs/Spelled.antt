@@ -1,10 +1,11 @@
 -- What is cut of an object has a spelling.
-use Rattle.std.proofs.Common.{◌≡◌, ℕ, ◌<◌, ◌≤◌, ◌^◌, List, [], ◌∷◌, ◌++◌, Bool, true, false, ◌&&◌, refl, sym, subst, length, map, arith}
+use Rattle.std.proofs.Common.{◌≡◌, ℕ, ◌<◌, ◌≤◌, ◌^◌, List, [], ◌∷◌, ◌++◌, true, refl, sym, subst, length, map, arith}
 use Rattle.std.specs.Prelude.{All, T, Option, Some, None}
 use Rattle.std.specs.List.{AllByRecursion}
 use Rattle.std.specs.FinMap.{entries, entries_sorted}
 use Rattle.std.specs.FinMap.Entries.{below_all, is_sorted}
 use Rattle.std.proofs.lemmas.List.Elements.{All-head, All-tail, All-push}
+use Rattle.muck_laws.proofs.Truths.{is_true, left_of, right_of}
 use Rattle.muck_model.specs.Bytes.{text_most, lines_most}
 use Rattle.muck_prop.specs.Order.{path_cmp}
 use Rattle.muck_prop.specs.Store.{PropMap, IsKept}
@@ -25,18 +26,6 @@ pub lines_spelled : (lines : List (List ℕ)) → length lines ≤ lines_most �
 lines_spelled lines few all = ((omega arith, few), lines_run None lines all)
 
 -- Properties: each is kept, and they rise.
-
-is_true : (b : Bool) → T b → b ≡ true
-is_true true h = refl
-is_true false h = absurd h
-
-left_of : (a b : Bool) → T (a && b) → T a
-left_of true b h = tt
-left_of false b h = h
-
-right_of : (a b : Bool) → T (a && b) → T b
-right_of true b h = h
-right_of false b h = absurd h
 
 -- the first stands behind a path
 abbrev begins : Option (List (List ℕ)) → List (List (List ℕ) × PropValue) → Type 0

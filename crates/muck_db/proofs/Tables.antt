@@ -3,12 +3,14 @@ use Rattle.std.proofs.Common.{◌≡◌, ℕ, ◌<◌, List, Option, Some, None,
 use Rattle.std.proofs.lemmas.Bool.{cases_eq, false≢true}
 use Rattle.std.specs.List.{slice_get}
 use Rattle.std.specs.Option.{option_map, option_and_then, option_map_or}
+use Rattle.muck_laws.proofs.Options.{kept_map}
+use Rattle.muck_laws.proofs.Places.{some_at}
 use Rattle.spec_live.specs.declared.object.Object.{Object}
 use Rattle.spec_live.specs.declared.saving.Saving.TheVariants.{Due}
 use Rattle.spec_live.specs.Objects.{changed_at, is_garbage, garbage}
-use Rattle.spec_live.proofs.Lists.{get_changed_same, get_changed_other, kept_map, read_kept, some_at}
+use Rattle.spec_live.proofs.Lists.{get_changed_same, get_changed_other, read_kept}
 use Rattle.muck_db.specs.declared.slot.Slot.{Slot}
-use Rattle.muck_db.specs.inner.Slots.{shown, object_at, kind_at, next_at, first_of, first_at, mark_at, saving_at, with_next, with_first, on_slot}
+use Rattle.muck_db.specs.inner.Slots.{shown, object_at, kind_at, next_at, first_of, first_at, mark_at, saving_at, stood_at, with_next, with_first, on_slot}
 
 pub object_kept : (slots : List Slot) (n k : ℕ) (f : Slot → Slot) → ((s : Slot) → shown (f s) ≡ shown s) → object_at (changed_at n f slots) k ≡ object_at slots k
 unfolding object_at
@@ -69,6 +71,10 @@ pub mark-on_slot : (slots : List Slot) (n k : ℕ) (f : Object → Object) → m
 unfolding mark_at
 mark-on_slot slots n k f = read_kept (λ (s : Slot). s.mark) slots n k (on_slot f) (λ s. refl)
 
+pub stood-on_slot : (slots : List Slot) (n k : ℕ) (f : Object → Object) → stood_at (changed_at n (on_slot f) slots) k ≡ stood_at slots k
+unfolding stood_at
+stood-on_slot slots n k f = read_kept (λ (s : Slot). s.stood) slots n k (on_slot f) (λ s. refl)
+
 pub object-on_slot_same : (slots : List Slot) (n : ℕ) (f : Object → Object) → is_garbage (kind_at slots n) ≡ false → object_at (changed_at n (on_slot f) slots) n ≡ option_map f (object_at slots n)
 unfolding object_at kind_at garbage
 object-on_slot_same slots n f alive = rw (get_changed_same slots n (on_slot f)) (by_cases (slice_get slots n) refl)
@@ -94,6 +100,15 @@ pub mark-with_first : (w : Bool) (slots : List Slot) (n k : ℕ) (to : Option �
 unfolding mark_at
 mark-with_first true slots n k to = read_kept (λ (s : Slot). s.mark) slots n k (with_first true to) (λ s. refl)
 mark-with_first false slots n k to = read_kept (λ (s : Slot). s.mark) slots n k (with_first false to) (λ s. refl)
+
+pub stood-with_next : (slots : List Slot) (n k : ℕ) (to : Option ℕ) → stood_at (changed_at n (with_next to) slots) k ≡ stood_at slots k
+unfolding stood_at
+stood-with_next slots n k to = read_kept (λ (s : Slot). s.stood) slots n k (with_next to) (λ s. refl)
+
+pub stood-with_first : (w : Bool) (slots : List Slot) (n k : ℕ) (to : Option ℕ) → stood_at (changed_at n (with_first w to) slots) k ≡ stood_at slots k
+unfolding stood_at
+stood-with_first true slots n k to = read_kept (λ (s : Slot). s.stood) slots n k (with_first true to) (λ s. refl)
+stood-with_first false slots n k to = read_kept (λ (s : Slot). s.stood) slots n k (with_first false to) (λ s. refl)
 
 -- What is written is due, and nothing else.
 

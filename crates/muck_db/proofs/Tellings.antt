@@ -8,7 +8,7 @@ use Rattle.spec_live.specs.declared.object.Object.{Object}
 use Rattle.spec_live.specs.declared.mark.Mark.{Mark}
 use Rattle.spec_live.specs.declared.fault.DbFault.{DbFault}
 use Rattle.spec_live.specs.Objects.{Entry, changed_at, is_garbage, garbage, mark_in, is_player}
-use Rattle.spec_live.specs.Marks.{unmarked, marked_from, told_of, next_change, change_told}
+use Rattle.spec_live.specs.Marks.{entry_unmarked, marked_from, told_of, next_change, change_told}
 use Rattle.spec_live.specs.Moving.{Does}
 use Rattle.spec_live.specs.Setting.{with_lines, lines_set}
 use Rattle.spec_live.specs.Consistent.{IsConsistent}
@@ -52,7 +52,7 @@ pub next_some : (es : List Entry) (n : ℕ) (mark : Mark) → marked_from 0 es �
 unfolding next_change
 next_some es n mark h = rw h refl
 
-told_some : (es : List Entry) (n : ℕ) (mark : Mark) → marked_from 0 es ≡ Some (n, mark) → change_told es ≡ changed_at n unmarked es
+told_some : (es : List Entry) (n : ℕ) (mark : Mark) → marked_from 0 es ≡ Some (n, mark) → change_told es ≡ changed_at n entry_unmarked es
 unfolding change_told
 told_some es n mark h = rw h refl
 

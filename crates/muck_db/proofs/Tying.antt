@@ -1,14 +1,15 @@
 -- Who is tied to a number is noted there.
-use Rattle.std.proofs.Common.{◌≡◌, ◌⊎◌, ℕ, zero, suc, get_or, ◌+◌, ◌<◌, ◌≤◌, List, [], ◌∷◌, ◌++◌, Option, Some, None, inl, inr, refl, sym, ◌∙◌, ap, subst, length, length-append, arith, Bool, true, false, cond, ◌||◌, map, Ok}
-use Rattle.std.proofs.lemmas.Bool.{cases_eq, cases_lt, false≢true}
+use Rattle.std.proofs.Common.{◌≡◌, ◌⊎◌, ℕ, zero, suc, get_or, ◌+◌, ◌<◌, ◌≤◌, List, [], ◌∷◌, ◌++◌, Option, Some, None, inl, inr, refl, sym, ◌∙◌, ap, subst, length, length-append, arith, Bool, true, false, cond, map, Ok}
+use Rattle.std.proofs.lemmas.Bool.{cases_eq, cases_lt, false≢true, or_left, or_parts, or_right}
 use Rattle.std.proofs.lemmas.Option.{slice_get-map, slice_get_past, slice_get_read, get_or_from_slice_get}
-use Rattle.std.proofs.lemmas.Map.Lookups.{exact_unsigned}
-use Rattle.std.specs.declared.cmp.Ordering.{Ordering}
-use Rattle.std.specs.declared.cmp.Ordering.TheVariants.{Less, Equal, Greater}
-use Rattle.std.specs.Ordering.{is_eq, nat_cmp}
+use Rattle.std.specs.Ordering.{nat_cmp}
 use Rattle.std.specs.BTreeMap.{is_at}
 use Rattle.std.specs.List.{slice_get, slice_set, list_any}
 use Rattle.std.specs.Option.{option_map, option_and_then, option_map_or}
+use Rattle.muck_laws.proofs.Found.{later}
+use Rattle.muck_laws.proofs.Mapped.{length_map}
+use Rattle.muck_laws.proofs.Places.{get_ext, get_more}
+use Rattle.muck_laws.proofs.Truths.{either_so, whether}
 use Rattle.muck_model.specs.declared.dbref.Dbref.{Dbref}
 use Rattle.muck_model.specs.declared.dbref.Kind.{Kind}
 use Rattle.muck_model.specs.declared.dbref.Kind.TheVariants.{Thing, Player}
@@ -19,68 +20,55 @@ use Rattle.spec_live.specs.declared.saving.Saving.{Saving}
 use Rattle.spec_live.specs.Objects.{Entry, dbref_of, nothing, home, index_of, same, changed_at, with_object, garbage, object_in, kind_in}
 use Rattle.spec_live.specs.Moving.{with_place, moved}
 use Rattle.spec_live.specs.Setting.{may_live}
-use Rattle.spec_live.specs.Making.{blank_entry, grown, has_home, new_object, create_check}
-use Rattle.spec_live.specs.Recycling.{without_ties, is_tied}
+use Rattle.spec_live.specs.Making.{blank_entry, objects_grown, has_home, new_object, create_check}
+use Rattle.spec_live.specs.Recycling.{without_ties, is_tied_to_number}
 use Rattle.spec_live.specs.Consistent.{IsTied, HasLink, HasHome, IsConsistent}
 use Rattle.spec_live.proofs.Checks.{index_only, alive_known}
 use Rattle.spec_live.proofs.KindLaws.{linked_alive, home_alive}
 use Rattle.spec_live.proofs.HomeLaws.{not_nothing}
 use Rattle.spec_live.proofs.CreationLaws.{may_create, Begins, begins, grown_more, grown_same, object_more}
-use Rattle.spec_live.proofs.Lists.{length_map, length_changed, get_changed_same, get_changed_other, get_more}
+use Rattle.spec_live.proofs.Lists.{length_changed, get_changed_same, get_changed_other}
 use Rattle.spec_live.proofs.Readers.{length_moved, object_moved, object_unmoved, object_named, object_unnamed}
 use Rattle.muck_db.specs.declared.slot.Slot.{Slot}
 use Rattle.muck_db.specs.declared.ties.Tied.{Tied}
 use Rattle.muck_db.specs.declared.ties.Tether.{Tether}
+use Rattle.muck_db.specs.inner.Moves.{rested}
 use Rattle.muck_db.specs.inner.Slots.{shown, object_at, home_at, on_slot, with_saving, with_mark, with_source, with_slot_lines, entries_of, untied_slot, IsUnlinked}
 use Rattle.muck_db.specs.inner.Ties.{is_tied_at, link_at, Tethers, Notes, IsNoted, HasTies}
 use Rattle.muck_db.proofs.Readers.{length-entries_of, object_in-entries_of}
-use Rattle.muck_db.proofs.Writes.{get_ext}
 use Rattle.muck_db.proofs.Creating.{Put}
-use Rattle.muck_db.proofs.Leaving.{whether}
 
 -- What a tie is.
-
-either : (a b : Bool) (P : Type 0) → (a ≡ true → P) → (b ≡ true → P) → (a || b) ≡ true → P
-either true b P f g h = f refl
-either false b P f g h = g h
-
-first_so : (a b : Bool) → a ≡ true → (a || b) ≡ true
-first_so true b e = refl
-first_so false b e = absurd (false≢true e)
-
-second_so : (a b : Bool) → b ≡ true → (a || b) ≡ true
-second_so true b e = refl
-second_so false b e = e
 
 tied_leads : (d k : ℕ) (slots : List Slot) → is_tied_at d slots k ≡ true → (home_at slots k ≡ Some d) ⊎ (link_at slots k ≡ Some d)
 unfolding is_tied_at home_at link_at
 tied_leads d k slots h = by_cases (object_at slots k) h
   where
-    by_cases : (q : Option Object) → option_map_or (is_tied d) q false ≡ true → (option_and_then (λ (o : Object). index_of o.home) q ≡ Some d) ⊎ (option_and_then (λ (o : Object). index_of o.link) q ≡ Some d)
+    by_cases : (q : Option Object) → option_map_or (is_tied_to_number d) q false ≡ true → (option_and_then (λ (o : Object). index_of o.home) q ≡ Some d) ⊎ (option_and_then (λ (o : Object). index_of o.link) q ≡ Some d)
     by_cases None e = absurd (false≢true e)
     by_cases (Some o) e =
-        either (same o.home (dbref_of d)) (same o.link (dbref_of d)) ((index_of o.home ≡ Some d) ⊎ (index_of o.link ≡ Some d))
+        either_so (same o.home (dbref_of d)) (same o.link (dbref_of d)) ((index_of o.home ≡ Some d) ⊎ (index_of o.link ≡ Some d))
         (λ q. inl (ap (λ z. index_of z) (eq_same o.home (dbref_of d) q))) (λ q. inr (ap (λ z. index_of z) (eq_same o.link (dbref_of d) q))) e
 
 home_tied : (d k : ℕ) (slots : List Slot) → home_at slots k ≡ Some d → is_tied_at d slots k ≡ true
 unfolding is_tied_at home_at
 home_tied d k slots h = by_cases (object_at slots k) h
   where
-    by_cases : (q : Option Object) → option_and_then (λ (o : Object). index_of o.home) q ≡ Some d → option_map_or (is_tied d) q false ≡ true
+    by_cases : (q : Option Object) → option_and_then (λ (o : Object). index_of o.home) q ≡ Some d → option_map_or (is_tied_to_number d) q false ≡ true
     by_cases None e = absurd (cc e)
-    by_cases (Some o) e = first_so (same o.home (dbref_of d)) (same o.link (dbref_of d)) (same_eq o.home (dbref_of d) (index_only o.home d e))
+    by_cases (Some o) e = or_left (same o.home (dbref_of d)) (same o.link (dbref_of d)) (same_eq o.home (dbref_of d) (index_only o.home d e))
 
 link_tied : (d k : ℕ) (slots : List Slot) → link_at slots k ≡ Some d → is_tied_at d slots k ≡ true
 unfolding is_tied_at link_at
 link_tied d k slots h = by_cases (object_at slots k) h
   where
-    by_cases : (q : Option Object) → option_and_then (λ (o : Object). index_of o.link) q ≡ Some d → option_map_or (is_tied d) q false ≡ true
+    by_cases : (q : Option Object) → option_and_then (λ (o : Object). index_of o.link) q ≡ Some d → option_map_or (is_tied_to_number d) q false ≡ true
     by_cases None e = absurd (cc e)
-    by_cases (Some o) e = second_so (same o.home (dbref_of d)) (same o.link (dbref_of d)) (same_eq o.link (dbref_of d) (index_only o.link d e))
+    by_cases (Some o) e = or_right (same o.home (dbref_of d)) (same o.link (dbref_of d)) (same_eq o.link (dbref_of d) (index_only o.link d e))
 
 tied_past : (d k : ℕ) (slots : List Slot) → length slots ≤ k → is_tied_at d slots k ≡ false
 unfolding is_tied_at object_at
-tied_past d k slots past = ap (λ (o : Option Slot). option_map_or (is_tied d) (option_map shown o) false) (slice_get_past slots k past)
+tied_past d k slots past = ap (λ (o : Option Slot). option_map_or (is_tied_to_number d) (option_map shown o) false) (slice_get_past slots k past)
 
 -- A write of what is noted at one number.
 
@@ -180,64 +168,64 @@ pub ties_fewer : (old new : List Slot) (ties : List Tied) → FewerTies old new 
 ties_fewer old new ties f h = record { long = omega (arith, h.long, f.short); noted = λ d k low tied. h.noted d k low (f.fewer d k tied) }
 
 -- one slot changes, and its object keeps its home and its link
-fewer_changed : (n : ℕ) (f : Slot → Slot) (old new : List Slot) → new ≡ changed_at n f old → ((d : ℕ) (s : Slot) → is_tied d (shown (f s)) ≡ is_tied d (shown s)) → FewerTies old new
+fewer_changed : (n : ℕ) (f : Slot → Slot) (old new : List Slot) → new ≡ changed_at n f old → ((d : ℕ) (s : Slot) → is_tied_to_number d (shown (f s)) ≡ is_tied_to_number d (shown s)) → FewerTies old new
 unfolding is_tied_at object_at
 fewer_changed n f old new is same = record {
   short = omega (arith, ap (λ (z : List Slot). length z) is, length_changed old n f);
   fewer = λ d k h. elim (cases_eq k n) [
-    | inl e ↦ sym (by_cases d (slice_get old k)) ∙ sym (ap (λ (o : Option Slot). option_map_or (is_tied d) (option_map shown o) false) (here k e)) ∙ h
-    | inr ne ↦ sym (ap (λ (o : Option Slot). option_map_or (is_tied d) (option_map shown o) false) (ap (λ (z : List Slot). slice_get z k) is ∙ get_changed_other old n k f ne)) ∙ h
+    | inl e ↦ sym (by_cases d (slice_get old k)) ∙ sym (ap (λ (o : Option Slot). option_map_or (is_tied_to_number d) (option_map shown o) false) (here k e)) ∙ h
+    | inr ne ↦ sym (ap (λ (o : Option Slot). option_map_or (is_tied_to_number d) (option_map shown o) false) (ap (λ (z : List Slot). slice_get z k) is ∙ get_changed_other old n k f ne)) ∙ h
   ];
 }
   where
     here : (k : ℕ) → k ≡ n → slice_get new k ≡ option_map f (slice_get old k)
     here k e = subst (λ (z : ℕ). slice_get new z ≡ option_map f (slice_get old z)) (sym e) (ap (λ (z : List Slot). slice_get z n) is ∙ get_changed_same old n f)
 
-    by_cases : (d : ℕ) (o : Option Slot) → option_map_or (is_tied d) (option_map shown (option_map f o)) false ≡ option_map_or (is_tied d) (option_map shown o) false
+    by_cases : (d : ℕ) (o : Option Slot) → option_map_or (is_tied_to_number d) (option_map shown (option_map f o)) false ≡ option_map_or (is_tied_to_number d) (option_map shown o) false
     by_cases d None = refl
     by_cases d (Some s) = same d s
 
-pub ties_changed : (n : ℕ) (f : Slot → Slot) (old new : List Slot) (ties : List Tied) → new ≡ changed_at n f old → ((d : ℕ) (s : Slot) → is_tied d (shown (f s)) ≡ is_tied d (shown s)) → HasTies old ties → HasTies new ties
+pub ties_changed : (n : ℕ) (f : Slot → Slot) (old new : List Slot) (ties : List Tied) → new ≡ changed_at n f old → ((d : ℕ) (s : Slot) → is_tied_to_number d (shown (f s)) ≡ is_tied_to_number d (shown s)) → HasTies old ties → HasTies new ties
 ties_changed n f old new ties is same h = ties_fewer old new ties (fewer_changed n f old new is same) h
 
-fewer_mapped : (f : Slot → Slot) (old new : List Slot) → new ≡ map f old → ((d : ℕ) (s : Slot) → is_tied d (shown (f s)) ≡ is_tied d (shown s)) → FewerTies old new
+fewer_mapped : (f : Slot → Slot) (old new : List Slot) → new ≡ map f old → ((d : ℕ) (s : Slot) → is_tied_to_number d (shown (f s)) ≡ is_tied_to_number d (shown s)) → FewerTies old new
 unfolding is_tied_at object_at
 fewer_mapped f old new is same = record {
   short = omega (arith, ap (λ (z : List Slot). length z) is, length_map f old);
-  fewer = λ d k h. sym (by_cases d (slice_get old k)) ∙ sym (ap (λ (o : Option Slot). option_map_or (is_tied d) (option_map shown o) false) (ap (λ (z : List Slot). slice_get z k) is ∙ slice_get-map f old k)) ∙ h;
+  fewer = λ d k h. sym (by_cases d (slice_get old k)) ∙ sym (ap (λ (o : Option Slot). option_map_or (is_tied_to_number d) (option_map shown o) false) (ap (λ (z : List Slot). slice_get z k) is ∙ slice_get-map f old k)) ∙ h;
 }
   where
-    by_cases : (d : ℕ) (o : Option Slot) → option_map_or (is_tied d) (option_map shown (option_map f o)) false ≡ option_map_or (is_tied d) (option_map shown o) false
+    by_cases : (d : ℕ) (o : Option Slot) → option_map_or (is_tied_to_number d) (option_map shown (option_map f o)) false ≡ option_map_or (is_tied_to_number d) (option_map shown o) false
     by_cases d None = refl
     by_cases d (Some s) = same d s
 
-pub ties_mapped : (f : Slot → Slot) (old new : List Slot) (ties : List Tied) → new ≡ map f old → ((d : ℕ) (s : Slot) → is_tied d (shown (f s)) ≡ is_tied d (shown s)) → HasTies old ties → HasTies new ties
+pub ties_mapped : (f : Slot → Slot) (old new : List Slot) (ties : List Tied) → new ≡ map f old → ((d : ℕ) (s : Slot) → is_tied_to_number d (shown (f s)) ≡ is_tied_to_number d (shown s)) → HasTies old ties → HasTies new ties
 ties_mapped f old new ties is same h = ties_fewer old new ties (fewer_mapped f old new is same) h
 
 -- an object that is set another field
-pub set_tied : (f : Object → Object) → ((o : Object) → (f o).home ≡ o.home) → ((o : Object) → (f o).link ≡ o.link) → (d : ℕ) (s : Slot) → is_tied d (shown (on_slot f s)) ≡ is_tied d (shown s)
+pub set_tied : (f : Object → Object) → ((o : Object) → (f o).home ≡ o.home) → ((o : Object) → (f o).link ≡ o.link) → (d : ℕ) (s : Slot) → is_tied_to_number d (shown (on_slot f s)) ≡ is_tied_to_number d (shown s)
 set_tied f home link d s = by_cases s.object
   where
-    by_cases : (q : Option Object) → is_tied d (option_map_or (λ (o : Object). o) (option_map f q) garbage) ≡ is_tied d (option_map_or (λ (o : Object). o) q garbage)
+    by_cases : (q : Option Object) → is_tied_to_number d (option_map_or (λ (o : Object). o) (option_map f q) garbage) ≡ is_tied_to_number d (option_map_or (λ (o : Object). o) q garbage)
     by_cases None = refl
     by_cases (Some o) = rw (home o, link o) refl
 
 -- The same, of entries.
 
-tied_in : (d k : ℕ) (slots : List Slot) → option_map_or (is_tied d) (object_in (entries_of slots) k) false ≡ is_tied_at d slots k
+tied_in : (d k : ℕ) (slots : List Slot) → option_map_or (is_tied_to_number d) (object_in (entries_of slots) k) false ≡ is_tied_at d slots k
 unfolding is_tied_at
-tied_in d k slots = ap (λ (o : Option Object). option_map_or (is_tied d) o false) (object_in-entries_of slots k)
+tied_in d k slots = ap (λ (o : Option Object). option_map_or (is_tied_to_number d) o false) (object_in-entries_of slots k)
 
-tied_as : (d k : ℕ) (new : List Slot) (fs : List Entry) → entries_of new ≡ fs → is_tied_at d new k ≡ true → option_map_or (is_tied d) (object_in fs k) false ≡ true
-tied_as d k new fs is h = sym (ap (λ (z : List Entry). option_map_or (is_tied d) (object_in z k) false) is) ∙ tied_in d k new ∙ h
+tied_as : (d k : ℕ) (new : List Slot) (fs : List Entry) → entries_of new ≡ fs → is_tied_at d new k ≡ true → option_map_or (is_tied_to_number d) (object_in fs k) false ≡ true
+tied_as d k new fs is h = sym (ap (λ (z : List Entry). option_map_or (is_tied_to_number d) (object_in z k) false) is) ∙ tied_in d k new ∙ h
 
-moved_tied : (d k x to : ℕ) (es : List Entry) → option_map_or (is_tied d) (object_in (moved x to es) k) false ≡ option_map_or (is_tied d) (object_in es k) false
+moved_tied : (d k x to : ℕ) (es : List Entry) → option_map_or (is_tied_to_number d) (object_in (moved x to es) k) false ≡ option_map_or (is_tied_to_number d) (object_in es k) false
 moved_tied d k x to es = elim (cases_eq k x) [
-  | inl e ↦ ap (λ (z : ℕ). option_map_or (is_tied d) (object_in (moved x to es) z) false) e ∙ ap (λ (o : Option Object). option_map_or (is_tied d) o false) (object_moved es x to) ∙ by_cases (object_in es x) ∙ sym (ap (λ (z : ℕ). option_map_or (is_tied d) (object_in es z) false) e)
-  | inr ne ↦ ap (λ (o : Option Object). option_map_or (is_tied d) o false) (object_unmoved es x to k ne)
+  | inl e ↦ ap (λ (z : ℕ). option_map_or (is_tied_to_number d) (object_in (moved x to es) z) false) e ∙ ap (λ (o : Option Object). option_map_or (is_tied_to_number d) o false) (object_moved es x to) ∙ by_cases (object_in es x) ∙ sym (ap (λ (z : ℕ). option_map_or (is_tied_to_number d) (object_in es z) false) e)
+  | inr ne ↦ ap (λ (o : Option Object). option_map_or (is_tied_to_number d) o false) (object_unmoved es x to k ne)
 ]
   where
-    by_cases : (o : Option Object) → option_map_or (is_tied d) (option_map (with_place to) o) false ≡ option_map_or (is_tied d) o false
+    by_cases : (o : Option Object) → option_map_or (is_tied_to_number d) (option_map (with_place to) o) false ≡ option_map_or (is_tied_to_number d) o false
     by_cases None = refl
     by_cases (Some o) = refl
 
@@ -263,11 +251,11 @@ end_untied d e a z true q never h = absurd (never h)
 end_untied d e a z false q never h = ((λ is. false≢true (sym q ∙ subst (λ (y : ℕ). same a (dbref_of y) ≡ true) is h)), h)
 
 -- whoever is tied behind it was tied before, and to another number
-object_untied_so : (d e : ℕ) (o : Object) → (e ≡ 0 → ⊥) → is_tied e (without_ties d o) ≡ true → (e ≡ d → ⊥) × (is_tied e o ≡ true)
+object_untied_so : (d e : ℕ) (o : Object) → (e ≡ 0 → ⊥) → is_tied_to_number e (without_ties d o) ≡ true → (e ≡ d → ⊥) × (is_tied_to_number e o ≡ true)
 object_untied_so d e o low h =
-    either (same (cond (same o.home (dbref_of d)) (dbref_of 0) o.home) (dbref_of e)) (same (cond (same o.link (dbref_of d)) nothing o.link) (dbref_of e)) ((e ≡ d → ⊥) × (is_tied e o ≡ true))
-    (λ q. let s : (e ≡ d → ⊥) × (same o.home (dbref_of e) ≡ true) = end_untied d e o.home (dbref_of 0) (same o.home (dbref_of d)) refl (λ z. low (sym (same_number 0 e z))) q in (s.0, first_so (same o.home (dbref_of e)) (same o.link (dbref_of e)) s.1))
-    (λ q. let s : (e ≡ d → ⊥) × (same o.link (dbref_of e) ≡ true) = end_untied d e o.link nothing (same o.link (dbref_of d)) refl (λ z. not_nothing e (eq_same nothing (dbref_of e) z)) q in (s.0, second_so (same o.home (dbref_of e)) (same o.link (dbref_of e)) s.1))
+    either_so (same (cond (same o.home (dbref_of d)) (dbref_of 0) o.home) (dbref_of e)) (same (cond (same o.link (dbref_of d)) nothing o.link) (dbref_of e)) ((e ≡ d → ⊥) × (is_tied_to_number e o ≡ true))
+    (λ q. let s : (e ≡ d → ⊥) × (same o.home (dbref_of e) ≡ true) = end_untied d e o.home (dbref_of 0) (same o.home (dbref_of d)) refl (λ z. low (sym (same_number 0 e z))) q in (s.0, or_left (same o.home (dbref_of e)) (same o.link (dbref_of e)) s.1))
+    (λ q. let s : (e ≡ d → ⊥) × (same o.link (dbref_of e) ≡ true) = end_untied d e o.link nothing (same o.link (dbref_of d)) refl (λ z. not_nothing e (eq_same nothing (dbref_of e) z)) q in (s.0, or_right (same o.home (dbref_of e)) (same o.link (dbref_of e)) s.1))
     h
 
 garbage_untied : (d : ℕ) → without_ties d garbage ≡ garbage
@@ -282,14 +270,14 @@ shown_untied d s = by_cases s.object
     by_cases None = sym (garbage_untied d)
     by_cases (Some o) = refl
 
-slot_untied_so : (d e : ℕ) (s : Slot) → (e ≡ 0 → ⊥) → is_tied e (shown (untied_slot d s)) ≡ true → (e ≡ d → ⊥) × (is_tied e (shown s) ≡ true)
-slot_untied_so d e s low h = object_untied_so d e (shown s) low (subst (λ (o : Object). is_tied e o ≡ true) (shown_untied d s) h)
+slot_untied_so : (d e : ℕ) (s : Slot) → (e ≡ 0 → ⊥) → is_tied_to_number e (shown (untied_slot d s)) ≡ true → (e ≡ d → ⊥) × (is_tied_to_number e (shown s) ≡ true)
+slot_untied_so d e s low h = object_untied_so d e (shown s) low (subst (λ (o : Object). is_tied_to_number e o ≡ true) (shown_untied d s) h)
 
 table_untied_so : (d e k : ℕ) (old new : List Slot) → (e ≡ 0 → ⊥) → new ≡ map (untied_slot d) old → is_tied_at e new k ≡ true → (e ≡ d → ⊥) × (is_tied_at e old k ≡ true)
 unfolding is_tied_at object_at
-table_untied_so d e k old new low is h = by_cases (slice_get old k) (sym (ap (λ (o : Option Slot). option_map_or (is_tied e) (option_map shown o) false) (ap (λ (z : List Slot). slice_get z k) is ∙ slice_get-map (untied_slot d) old k)) ∙ h)
+table_untied_so d e k old new low is h = by_cases (slice_get old k) (sym (ap (λ (o : Option Slot). option_map_or (is_tied_to_number e) (option_map shown o) false) (ap (λ (z : List Slot). slice_get z k) is ∙ slice_get-map (untied_slot d) old k)) ∙ h)
   where
-    by_cases : (o : Option Slot) → option_map_or (is_tied e) (option_map shown (option_map (untied_slot d) o)) false ≡ true → (e ≡ d → ⊥) × (option_map_or (is_tied e) (option_map shown o) false ≡ true)
+    by_cases : (o : Option Slot) → option_map_or (is_tied_to_number e) (option_map shown (option_map (untied_slot d) o)) false ≡ true → (e ≡ d → ⊥) × (option_map_or (is_tied_to_number e) (option_map shown o) false ≡ true)
     by_cases None q = absurd (false≢true q)
     by_cases (Some s) q = slot_untied_so d e s low q
 
@@ -306,31 +294,27 @@ ties_untied d old new ties after is long others h = record {
 pub ties_emptied : (d : ℕ) (old new : List Slot) (ties : List Tied) (s : Tied) → new ≡ map (untied_slot d) old → HasTies old ties → HasTies new (slice_set ties d s)
 ties_emptied d old new ties s is h = ties_untied d old new ties (slice_set ties d s) is (set_long ties d s) (λ e ne. set_other ties d e s ne) h
 
-both_false : (a b : Bool) → (a || b) ≡ false → (a ≡ false) × (b ≡ false)
-both_false true b h = absurd (false≢true (sym h))
-both_false false b h = (refl, h)
-
-object_stays : (d : ℕ) (o : Object) → is_tied d o ≡ false → without_ties d o ≡ o
+object_stays : (d : ℕ) (o : Object) → is_tied_to_number d o ≡ false → without_ties d o ≡ o
 object_stays d o h =
-    let both : (same o.home (dbref_of d) ≡ false) × (same o.link (dbref_of d) ≡ false) = both_false (same o.home (dbref_of d)) (same o.link (dbref_of d)) h in
+    let both : (same o.home (dbref_of d) ≡ false) × (same o.link (dbref_of d) ≡ false) = or_parts (same o.home (dbref_of d)) (same o.link (dbref_of d)) h in
     rw (both.0, both.1) refl
 
-slot_stays : (d : ℕ) (s : Slot) → is_tied d (shown s) ≡ false → untied_slot d s ≡ s
+slot_stays : (d : ℕ) (s : Slot) → is_tied_to_number d (shown s) ≡ false → untied_slot d s ≡ s
 unfolding untied_slot
 slot_stays d s h = rw h (by_cases s.object refl h)
   where
-    by_cases : (q : Option Object) → s.object ≡ q → is_tied d (shown s) ≡ false → (record s { object = option_map (without_ties d) s.object; saving = s.saving }) ≡ s
+    by_cases : (q : Option Object) → s.object ≡ q → is_tied_to_number d (shown s) ≡ false → (record s { object = option_map (without_ties d) s.object; saving = s.saving }) ≡ s
     by_cases None e t = rw e (rw (← e) refl)
-    by_cases (Some o) e t = let same : without_ties d o ≡ o = object_stays d o (sym (ap (λ (z : Option Object). is_tied d (option_map_or (λ (x : Object). x) z garbage)) e) ∙ t) in rw (e, same) (rw (← e) refl)
+    by_cases (Some o) e t = let same : without_ties d o ≡ o = object_stays d o (sym (ap (λ (z : Option Object). is_tied_to_number d (option_map_or (λ (x : Object). x) z garbage)) e) ∙ t) in rw (e, same) (rw (← e) refl)
 
 slot_once : (d : ℕ) (s : Slot) → (d ≡ 0 → ⊥) → untied_slot d (untied_slot d s) ≡ untied_slot d s
-slot_once d s low = whether (is_tied d (shown (untied_slot d s))) (untied_slot d (untied_slot d s) ≡ untied_slot d s) (λ h. absurd ((slot_untied_so d d s low h).0 refl)) (λ h. slot_stays d (untied_slot d s) h)
+slot_once d s low = whether (is_tied_to_number d (shown (untied_slot d s))) (untied_slot d (untied_slot d s) ≡ untied_slot d s) (λ h. absurd ((slot_untied_so d d s low h).0 refl)) (λ h. slot_stays d (untied_slot d s) h)
 
 stays_at : (d k : ℕ) (slots : List Slot) → is_tied_at d slots k ≡ false → slice_get slots k ≡ option_map (untied_slot d) (slice_get slots k)
 unfolding is_tied_at object_at
 stays_at d k slots h = by_cases (slice_get slots k) h
   where
-    by_cases : (o : Option Slot) → option_map_or (is_tied d) (option_map shown o) false ≡ false → o ≡ option_map (untied_slot d) o
+    by_cases : (o : Option Slot) → option_map_or (is_tied_to_number d) (option_map shown o) false ≡ false → o ≡ option_map (untied_slot d) o
     by_cases None q = refl
     by_cases (Some s) q = ap (λ (z : Slot). Some z) (sym (slot_stays d s q))
 
@@ -348,18 +332,6 @@ unties_none d old left noted = record {
   same_length = refl;
   each = λ k. whether (is_tied_at d old k) ((slice_get old k ≡ option_map (untied_slot d) (slice_get old k)) ⊎ ((slice_get old k ≡ slice_get old k) × (list_any (is_at (nat_cmp k)) left ≡ true))) (λ h. inr (refl, noted k h)) (λ h. inl (stays_at d k old h));
 }
-
-at_same : (k x : ℕ) → is_at (nat_cmp k) x ≡ true → k ≡ x
-at_same k x h = exact_unsigned k x (equal_from (nat_cmp k x) h)
-  where
-    equal_from : (r : Ordering) → is_eq r ≡ true → r ≡ Equal
-    equal_from Less e = cc
-    equal_from Equal e = refl
-    equal_from Greater e = cc
-
--- the first of the numbers, or one of the others
-later : (k x : ℕ) (xs : List ℕ) → (k ≡ x → ⊥) → list_any (is_at (nat_cmp k)) (x ∷ xs) ≡ true → list_any (is_at (nat_cmp k)) xs ≡ true
-later k x xs ne h = either (is_at (nat_cmp k) x) (list_any (is_at (nat_cmp k)) xs) (list_any (is_at (nat_cmp k)) xs ≡ true) (λ q. absurd (ne (at_same k x q))) (λ q. q) h
 
 pub unties_more : (d x : ℕ) (old cur new : List Slot) (left rest : List ℕ) → (d ≡ 0 → ⊥) → left ≡ x ∷ rest → new ≡ changed_at x (untied_slot d) cur → UntiesOn d old cur left → UntiesOn d old new rest
 unties_more d x old cur new left rest low list is u = record {
@@ -385,7 +357,7 @@ unties_all d old cur left none u = get_ext cur (map (untied_slot d) old) (λ k. 
 
 pub ties_unlinked : (x : ℕ) (old mid : List Slot) (ties : List Tied) → IsUnlinked x old mid → HasTies old ties → HasTies mid ties
 unfolding is_tied_at
-ties_unlinked x old mid ties u h = ties_fewer old mid ties (record { short = omega (arith, u.same_length); fewer = λ d k t. sym (ap (λ (o : Option Object). option_map_or (is_tied d) o false) (u.same_objects k)) ∙ t }) h
+ties_unlinked x old mid ties u h = ties_fewer old mid ties (record { short = omega (arith, u.same_length); fewer = λ d k t. sym (ap (λ (o : Option Object). option_map_or (is_tied_to_number d) o false) (u.same_objects k)) ∙ t }) h
 
 -- Setting a field.
 
@@ -399,7 +371,7 @@ ties_set k f old new ties after t is home link long others noted h = record {
   long = omega (arith, h.long, long, ap (λ (z : List Slot). length z) is, length_changed old k f);
   noted = λ d j low tied. elim (cases_eq j k) [
     | inl e ↦ subst (IsNoted after d) (sym e) (noted d low (elim (tied_leads d k new (subst (λ z. is_tied_at d new z ≡ true) e tied)) [ inl q ↦ inl (home ∙ q) | inr q ↦ inr (link ∙ q) ]))
-    | inr ne ↦ others d j ne (h.noted d j low (sym (ap (λ (o : Option Slot). option_map_or (is_tied d) (option_map shown o) false) (ap (λ (z : List Slot). slice_get z j) is ∙ get_changed_other old k j f ne)) ∙ tied))
+    | inr ne ↦ others d j ne (h.noted d j low (sym (ap (λ (o : Option Slot). option_map_or (is_tied_to_number d) (option_map shown o) false) (ap (λ (z : List Slot). slice_get z j) is ∙ get_changed_other old k j f ne)) ∙ tied))
   ];
 }
 
@@ -429,11 +401,11 @@ tied_known d k slots c h = by_cases (object_in (entries_of slots) k) refl (tied_
     within : d < length (entries_of slots) → d < length slots
     within lt = omega (arith, lt, length-entries_of slots)
 
-    by_cases : (q : Option Object) → object_in (entries_of slots) k ≡ q → option_map_or (is_tied d) q false ≡ true → d < length slots
+    by_cases : (q : Option Object) → object_in (entries_of slots) k ≡ q → option_map_or (is_tied_to_number d) q false ≡ true → d < length slots
     by_cases None e t = absurd (false≢true t)
     by_cases (Some o) e t =
         let ties : IsTied (entries_of slots) o = c.tied k o e in
-        either (same o.home (dbref_of d)) (same o.link (dbref_of d)) (d < length slots)
+        either_so (same o.home (dbref_of d)) (same o.link (dbref_of d)) (d < length slots)
         (λ q. within (home_known (entries_of slots) d o o.kind (eq_same o.home (dbref_of d) q) ties.home)) (λ q. within (link_known (entries_of slots) d o (eq_same o.link (dbref_of d) q) ties.link)) t
 
 pub ties_roomy : (slots : List Slot) (ties more : List Tied) → IsConsistent (entries_of slots) → length ties ≤ length more → ((d j : ℕ) → d < length ties → IsNoted ties d j → IsNoted more d j) → HasTies slots ties → HasTies slots more
@@ -444,22 +416,22 @@ ties_roomy slots ties more c long others h = record {
 
 -- A new object is tied to nothing but #0.
 
-new_tied : (d n : ℕ) (kind : Kind) (name : List ℕ) (owner : Dbref) → (d ≡ 0 → ⊥) → is_tied d (new_object n kind name owner) ≡ true → ⊥
+new_tied : (d n : ℕ) (kind : Kind) (name : List ℕ) (owner : Dbref) → (d ≡ 0 → ⊥) → is_tied_to_number d (new_object n kind name owner) ≡ true → ⊥
 unfolding new_object
 new_tied d n kind name owner low h =
-    either (same (cond (has_home kind) (dbref_of 0) nothing) (dbref_of d)) (same nothing (dbref_of d)) ⊥ (λ q. by_cases (has_home kind) q) (λ q. not_nothing d (eq_same nothing (dbref_of d) q)) h
+    either_so (same (cond (has_home kind) (dbref_of 0) nothing) (dbref_of d)) (same nothing (dbref_of d)) ⊥ (λ q. by_cases (has_home kind) q) (λ q. not_nothing d (eq_same nothing (dbref_of d) q)) h
   where
     by_cases : (b : Bool) → same (cond b (dbref_of 0) nothing) (dbref_of d) ≡ true → ⊥
     by_cases true q = low (sym (same_number 0 d q))
     by_cases false q = not_nothing d (eq_same nothing (dbref_of d) q)
 
-grown_other : (n k : ℕ) (es : List Entry) → (k ≡ n → ⊥) → object_in (grown n es) k ≡ object_in es k
+grown_other : (n k : ℕ) (es : List Entry) → (k ≡ n → ⊥) → object_in (objects_grown n es) k ≡ object_in es k
 grown_other n k es ne = elim (cases_eq n (length es)) [
   | inl e ↦ ap (λ (z : List Entry). object_in z k) (grown_more n es e) ∙ object_more es k (λ q. ne (q ∙ sym e))
   | inr e ↦ ap (λ (z : List Entry). object_in z k) (grown_same n es e)
 ]
 
-grown_room : (n m : ℕ) (es : List Entry) → n < m → length es ≤ m → length (grown n es) ≤ m
+grown_room : (n m : ℕ) (es : List Entry) → n < m → length es ≤ m → length (objects_grown n es) ≤ m
 grown_room n m es lt le = elim (cases_eq n (length es)) [
   | inl e ↦ omega (arith, lt, e, ap (λ (z : List Entry). length z) (grown_more n es e), length-append es (blank_entry ∷ []))
   | inr e ↦ omega (arith, le, ap (λ (z : List Entry). length z) (grown_same n es e))
@@ -472,12 +444,12 @@ ties_created n to kind name owner place old mid new ties passed put is room h =
     let o : Object = new_object n kind name owner in
     let b : Begins es kind owner n to = begins es kind owner n to (may_create kind owner place es (n, to) passed) in
     ties_moved n to mid new ties is (record {
-      long = omega (arith, length-entries_of mid, ap (λ (z : List Entry). length z) put.is, length_changed (grown n es) n (with_object o), grown_room n (length ties) es room (omega (arith, h.long, length-entries_of old)));
+      long = omega (arith, length-entries_of mid, ap (λ (z : List Entry). length z) put.is, length_changed (objects_grown n es) n (with_object o), grown_room n (length ties) es room (omega (arith, h.long, length-entries_of old)));
       noted = λ d k low tied.
-          let now : option_map_or (is_tied d) (object_in (changed_at n (with_object o) (grown n es)) k) false ≡ true = tied_as d k mid (changed_at n (with_object o) (grown n es)) put.is tied in
+          let now : option_map_or (is_tied_to_number d) (object_in (changed_at n (with_object o) (objects_grown n es)) k) false ≡ true = tied_as d k mid (changed_at n (with_object o) (objects_grown n es)) put.is tied in
           elim (cases_eq k n) [
-            | inl e ↦ absurd (new_tied d n kind name owner low (sym (ap (λ (q : Option Object). option_map_or (is_tied d) q false) (subst (λ (z : ℕ). object_in (changed_at n (with_object o) (grown n es)) z ≡ Some o) (sym e) (object_named n o (grown n es) b.known))) ∙ now))
-            | inr ne ↦ h.noted d k low (sym (tied_in d k old) ∙ sym (ap (λ (q : Option Object). option_map_or (is_tied d) q false) (object_unnamed n k o (grown n es) ne ∙ grown_other n k es ne)) ∙ now)
+            | inl e ↦ absurd (new_tied d n kind name owner low (sym (ap (λ (q : Option Object). option_map_or (is_tied_to_number d) q false) (subst (λ (z : ℕ). object_in (changed_at n (with_object o) (objects_grown n es)) z ≡ Some o) (sym e) (object_named n o (objects_grown n es) b.known))) ∙ now))
+            | inr ne ↦ h.noted d k low (sym (tied_in d k old) ∙ sym (ap (λ (q : Option Object). option_map_or (is_tied_to_number d) q false) (object_unnamed n k o (objects_grown n es) ne ∙ grown_other n k es ne)) ∙ now)
           ];
     })
 
@@ -486,16 +458,19 @@ ties_created n to kind name owner place old mid new ties passed put is room h =
 pub ties_passed : (f : Saving → Saving) (old new : List Slot) (ties : List Tied) → new ≡ map (with_saving f) old → HasTies old ties → HasTies new ties
 ties_passed f old new ties is h = ties_mapped (with_saving f) old new ties is (λ d s. refl) h
 
+pub ties_rested : (old new : List Slot) (ties : List Tied) → new ≡ map rested old → HasTies old ties → HasTies new ties
+ties_rested old new ties is h = ties_mapped rested old new ties is (λ d s. refl) h
+
 pub ties_told : (n : ℕ) (mark : Option Mark) (old new : List Slot) (ties : List Tied) → new ≡ changed_at n (with_mark mark) old → HasTies old ties → HasTies new ties
 ties_told n mark old new ties is h = ties_changed n (with_mark mark) old new ties is (λ d s. refl) h
 
 pub ties_put : (n : ℕ) (f : Object → Object) (old new : List Slot) (ties : List Tied) → new ≡ changed_at n (on_slot f) old → ((o : Object) → (f o).home ≡ o.home) → ((o : Object) → (f o).link ≡ o.link) → HasTies old ties → HasTies new ties
 ties_put n f old new ties is home link h = ties_changed n (on_slot f) old new ties is (set_tied f home link) h
 
-lined_tied : (lines : List (List ℕ)) (d : ℕ) (s : Slot) → is_tied d (shown (with_slot_lines lines s)) ≡ is_tied d (shown s)
+lined_tied : (lines : List (List ℕ)) (d : ℕ) (s : Slot) → is_tied_to_number d (shown (with_slot_lines lines s)) ≡ is_tied_to_number d (shown s)
 lined_tied lines d s = by_cases s.object
   where
-    by_cases : (q : Option Object) → is_tied d (option_map_or (λ (o : Object). o) (option_map (with_source lines) q) garbage) ≡ is_tied d (option_map_or (λ (o : Object). o) q garbage)
+    by_cases : (q : Option Object) → is_tied_to_number d (option_map_or (λ (o : Object). o) (option_map (with_source lines) q) garbage) ≡ is_tied_to_number d (option_map_or (λ (o : Object). o) q garbage)
     by_cases None = refl
     by_cases (Some o) = refl
 

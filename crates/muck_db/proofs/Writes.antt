@@ -1,48 +1,37 @@
 -- Writes of whole slots, seen as changes of entries.
-use Rattle.std.proofs.Common.{◌≡◌, ℕ, ◌+◌, ◌<◌, ◌≤◌, zero, suc, List, [], ◌∷◌, ◌++◌, Option, Some, None, inl, inr, refl, sym, ◌∙◌, ap, subst, length, arith, length-append, Bool, true, false, map}
+use Rattle.std.proofs.Common.{◌≡◌, ℕ, ◌+◌, ◌<◌, ◌≤◌, List, [], ◌∷◌, ◌++◌, Option, Some, None, inl, inr, refl, sym, ◌∙◌, ap, subst, length, arith, length-append, Bool, true, false, map}
 use Rattle.std.proofs.lemmas.Bool.{cases_eq, cases_lt, ne_eqb, eq-eqb, false≢true}
 use Rattle.std.proofs.lemmas.Option.{slice_get-map, slice_get_past}
-use Rattle.std.specs.List.{slice_get, slice_set}
+use Rattle.std.specs.List.{slice_get}
 use Rattle.std.specs.Option.{option_map, option_map_or, option_and_then}
+use Rattle.muck_laws.proofs.Mapped.{length_map}
+use Rattle.muck_laws.proofs.Options.{kept_then}
+use Rattle.muck_laws.proofs.Places.{get_ext, get_more, got_last, read_more}
 use Rattle.spec_live.specs.declared.object.Object.{Object}
 use Rattle.spec_live.specs.declared.mark.Mark.{Mark}
 use Rattle.spec_live.specs.declared.saving.Saving.TheVariants.{Due}
 use Rattle.spec_live.specs.Chain.{walk, IsChain, Ends}
 use Rattle.spec_live.specs.Objects.{Entry, changed_at, is_garbage, garbage, on_object, with_object, object_in, mark_in}
-use Rattle.spec_live.specs.Making.{blank_entry, grown}
+use Rattle.spec_live.specs.Making.{blank_entry, objects_grown}
 use Rattle.spec_live.specs.Saving.{saving_in}
 use Rattle.spec_live.proofs.Chains.{ends_from}
-use Rattle.spec_live.proofs.Lists.{length_changed, length_map, get_changed_same, get_changed_other, get_more, get_last, read_more, read_kept, kept_then}
+use Rattle.spec_live.proofs.Lists.{length_changed, get_changed_same, get_changed_other, read_kept}
 use Rattle.spec_live.proofs.Dues.{saving_past, saving_here, saving_elsewhere, saving_more as entry_more}
 use Rattle.spec_live.proofs.Readers.{entries_ext, object_named, object_unnamed, list_named, mark_named}
+use Rattle.spec_live.proofs.Tracing.{stood_named, stood_more as stood_blank}
 use Rattle.spec_live.proofs.Orders.{chain_wider}
 use Rattle.spec_live.proofs.CreationLaws.{object_more, list_more, grown_same, grown_more}
 use Rattle.muck_db.specs.declared.slot.Slot.{Slot}
-use Rattle.muck_db.specs.inner.Slots.{shown, object_at, kept_at, next_at, first_of, first_at, mark_at, saving_at, kind_at, list_at, on_slot, with_mark, with_kept, new_slot, object_put, entry_of, entries_of}
-use Rattle.muck_db.proofs.Readers.{length-entries_of, object_in-entries_of, list_in-entries_of, mark_in-entries_of, saving_in-entries_of}
+use Rattle.muck_db.specs.inner.Slots.{shown, object_at, kept_at, next_at, first_of, first_at, mark_at, saving_at, stood_at, kind_at, list_at, on_slot, with_mark, with_kept, new_slot, object_put, entry_of, entries_of}
+use Rattle.muck_db.proofs.Readers.{length-entries_of, object_in-entries_of, list_in-entries_of, mark_in-entries_of, saving_in-entries_of, stood_in-entries_of}
 use Rattle.muck_db.proofs.Linked.{chain_over}
 use Rattle.muck_db.proofs.Bridge.{list_is, walk_same}
-
-pub get_ext : {X : Type 0} (xs ys : List X) → ((k : ℕ) → slice_get xs k ≡ slice_get ys k) → xs ≡ ys
-get_ext [] [] h = refl
-get_ext [] (y ∷ ys) h = absurd (cc (h 0))
-get_ext (x ∷ xs) [] h = absurd (cc (h 0))
-get_ext (x ∷ xs) (y ∷ ys) h =
-    let head : x ≡ y = cc (h 0) in
-    let rest : xs ≡ ys = get_ext xs ys (λ k. h (suc k)) in
-    cc
-
--- an item that is written where it stands
-pub set_back : {X : Type 0} (xs : List X) (n : ℕ) (x : X) → slice_get xs n ≡ Some x → slice_set xs n x ≡ xs
-set_back [] n x h = refl
-set_back (y ∷ ys) zero x h = let e : y ≡ x = cc (h) in ap (λ z. z ∷ ys) (sym e)
-set_back (y ∷ ys) (suc n) x h = let e : slice_set ys n x ≡ ys = set_back ys n x h in cc
 
 -- the same slot in another table with the same links
 entry_over : (old new : List Slot) (s : Slot) → length new ≡ length old → ((x : ℕ) → next_at new x ≡ next_at old x) → entry_of new s ≡ entry_of old s
 unfolding entry_of
 entry_over old new s n h =
-    let make : List ℕ → List ℕ → Entry = λ c x. record { object = shown s; contents = c; exits = x; mark = s.mark; saving = s.saving } in
+    let make : List ℕ → List ℕ → Entry = λ c x. record { object = shown s; contents = c; exits = x; mark = s.mark; saving = s.saving; stood = s.stood } in
     let at : (o : Option ℕ) → walk (length new) (next_at new) o ≡ walk (length old) (next_at old) o = λ o. rw n (walk_same (length old) (next_at old) (next_at new) o h) in
     ap (λ c. make c (walk (length new) (next_at new) s.first_exit)) (at s.first_content) ∙ ap (λ x. make (walk (length old) (next_at old) s.first_content) x) (at s.first_exit)
 
@@ -152,6 +141,10 @@ saving_more : (o : Object) (slots : List Slot) (k : ℕ) → saving_at (slots ++
 unfolding saving_at
 saving_more o slots k = read_more (λ (z : Option Slot). option_map_or (λ (s : Slot). s.saving) z Due) slots (new_slot (Some o) None) k refl
 
+stood_more : (o : Object) (slots : List Slot) (k : ℕ) → stood_at (slots ++ new_slot (Some o) None ∷ []) k ≡ stood_at slots k
+unfolding stood_at
+stood_more o slots k = read_more (λ (z : Option Slot). option_and_then (λ (s : Slot). s.stood) z) slots (new_slot (Some o) None) k refl
+
 -- one that wasn't there is due as it was
 saving_put : (o : Object) (es : List Entry) (k : ℕ) → saving_in (changed_at (length es) (with_object o) (es ++ blank_entry ∷ [])) k ≡ saving_in es k
 saving_put o es k = elim (cases_eq k (length es)) [
@@ -175,7 +168,7 @@ object_put_other o slots k ne = ap (λ (z : Option Slot). option_map shown z) (g
 
 object_put_last : (o : Object) (slots : List Slot) → object_at (slots ++ new_slot (Some o) None ∷ []) (length slots) ≡ Some o
 unfolding object_at
-object_put_last o slots = ap (λ (z : Option Slot). option_map shown z) (get_last slots (new_slot (Some o) None))
+object_put_last o slots = ap (λ (z : Option Slot). option_map shown z) (got_last slots (new_slot (Some o) None))
 
 length_put : (es : List Entry) (o : Object) → length (changed_at (length es) (with_object o) (es ++ blank_entry ∷ [])) ≡ length es + 1
 length_put es o = length_changed (es ++ blank_entry ∷ []) (length es) (with_object o) ∙ length-append es (blank_entry ∷ [])
@@ -203,6 +196,7 @@ entries_appended o slots ends =
     (λ v k. list_in-entries_of v new k ∙ list_is v new k (list_at v slots k) (chain_put o slots ends v k) ∙ sym (list_in-entries_of v slots k) ∙ sym (list_named v (length es) k o (es ++ blank_entry ∷ []) ∙ list_more v es k))
     (λ k. mark_in-entries_of new k ∙ mark_more o slots k ∙ sym (mark_in-entries_of slots k) ∙ sym (mark_named (length es) k o (es ++ blank_entry ∷ []) ∙ mark_blank es k))
     (λ k. saving_in-entries_of new k ∙ saving_more o slots k ∙ sym (saving_in-entries_of slots k) ∙ sym (saving_put o es k))
+    (λ k. stood_in-entries_of new k ∙ stood_more o slots k ∙ sym (stood_in-entries_of slots k) ∙ sym (stood_named (length es) o (es ++ blank_entry ∷ []) k ∙ stood_blank es k))
 
 put_more : (n : ℕ) (o : Object) (slots : List Slot) → n ≡ length slots → object_put n o slots ≡ slots ++ new_slot (Some o) None ∷ []
 unfolding object_put
@@ -214,7 +208,7 @@ put_same n o slots ne = rw (ne_eqb n (length slots) ne) refl
 
 -- an object that is put at a number of garbage or at the next one
 pub entries_put : (n : ℕ) (o : Object) (slots : List Slot) → ((v : Bool) (p : ℕ) → Ends (length slots) (next_at slots) (first_at v slots p))
-    → entries_of (object_put n o slots) ≡ changed_at n (with_object o) (grown n (entries_of slots))
+    → entries_of (object_put n o slots) ≡ changed_at n (with_object o) (objects_grown n (entries_of slots))
 entries_put n o slots ends =
     let es : List Entry = entries_of slots in
     elim (cases_eq n (length slots)) [

@@ -181,6 +181,7 @@ pub fn put_object(slots: &mut Slots, n: u32, object: Object) -> Result<(), DbFau
             next: None,
             mark: None,
             saving: Saving::Due,
+            stood: None,
         };
         return match slots.push(slot) {
             Ok(()) => Ok(()),

@@ -7,7 +7,7 @@ ghost use Rattle.muck_prop.specs.Store.{IsKept};
 ghost use Rattle.muck_codec.specs.inner.Stored.{AreLines, AreProperties, IsStored};
 ghost use Rattle.spec_live.specs.Objects.{garbage, list_in, object_in};
 ghost use Rattle.muck_store.specs.inner.Changes.{LeavesOut};
-ghost use Rattle.muck_store.specs.Forms.{first_of, link_of, next_in, persist, properties_of};
+ghost use Rattle.muck_store.specs.Forms.{first_in_list, link_to_number, next_in, persist, properties_of};
 ghost use Rattle.muck_db.specs.inner.Kept.{MayHold, stored_at};
 ghost use Rattle.muck_db.specs.inner.Dumps.{MayLook, passes};
 ghost use Rattle.muck_db.specs.inner.Limits.{IsWithinLimits};
@@ -70,7 +70,7 @@ fn properties_of(alloc: Global, props: &Props) -> Result<Row<Property>, NoMemory
 pub fn first_link(slots: &Slots, exits: bool, k: u32) -> Dbref
     requires order { HasOrder slots.now.items }
     requires known { k < length slots.now.items }
-    ensures { result ≡ first_of (list_in exits (entries_of slots.now.items) k) }
+    ensures { result ≡ first_in_list (list_in exits (entries_of slots.now.items) k) }
 {
     dbref_at(first_of(slots, exits, k))
 }
@@ -79,7 +79,7 @@ pub fn first_link(slots: &Slots, exits: bool, k: u32) -> Dbref
 pub fn next_link(slots: &Slots, k: u32) -> Dbref
     requires order { HasOrder slots.now.items }
     requires known { k < length slots.now.items }
-    ensures { result ≡ link_of (next_in (entries_of slots.now.items) k) }
+    ensures { result ≡ link_to_number (next_in (entries_of slots.now.items) k) }
 {
     match place_of(slots, k) {
         Some(_) => dbref_at(next_of(slots, k)),

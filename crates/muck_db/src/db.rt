@@ -1,25 +1,27 @@
 // The objects of the world.
 ghost use Rattle.std.specs.Prelude.{◌≡◌, ◌<◌, ◌≤◌, ◌^◌, true, false, length, IfOk, IfSome, OnOk, OnErr, is_ok, All};
-ghost use Rattle.std.specs.List.{count_by, list_all};
+ghost use Rattle.std.specs.List.{count_by, list_all, list_any};
 ghost use Rattle.std.specs.Option.{option_copied, option_map};
 ghost use Rattle.spec_live.specs.Objects.{object_at};
 ghost use Rattle.spec_live.specs.Making.{create_check, Creates};
 ghost use Rattle.spec_live.specs.Start.{first_objects};
 ghost use Rattle.spec_live.specs.Moving.{move_check, Moves, Does};
-ghost use Rattle.spec_live.specs.Setting.{any, checked, set_at, Tries, owner_check, link_check, home_check, flags_check, level_check, lines_check, password_check, lines_set, with_name, with_owner, with_link, with_home, with_flags, with_level, with_prop, without_prop, with_password};
+ghost use Rattle.spec_live.specs.Setting.{every_number, checked, set_at, Tries, owner_check, link_check, home_check, flags_check, level_check, lines_check, password_check, lines_set, with_name, with_owner, with_link, with_home, with_flags, with_level, with_prop, without_prop, with_password};
 ghost use Rattle.spec_live.specs.Recycling.{recycle_check, recycled};
 ghost use Rattle.spec_live.specs.Marks.{next_change, change_told};
 ghost use Rattle.spec_live.specs.Consistent.{IsConsistent};
-ghost use Rattle.spec_live.specs.Saving.{all_saving, pending, done, due_again};
+ghost use Rattle.spec_live.specs.Saving.{all_saving, pending, saving_done, due_again};
+ghost use Rattle.spec_live.specs.Stood.{stilled, moves_from};
 ghost use Rattle.spec_live.specs.Seen.{listed_in, places_of, scenery_of};
-ghost use Rattle.muck_match.specs.Naming.{found, player_named};
+ghost use Rattle.muck_match.specs.Naming.{thing_found, player_named};
 ghost use Rattle.muck_match.specs.Scenery.{chain, upward};
 ghost use Rattle.muck_lock.specs.inner.Chain.{IsChain};
 ghost use Rattle.muck_codec.specs.inner.Stored.{AreProperties, IsStored};
 ghost use Rattle.muck_store.specs.inner.Changes.{KeepsUndue, LeavesOut};
 ghost use Rattle.muck_store.specs.Forms.{loaded, persist};
-ghost use Rattle.muck_store.specs.Limits.{fits};
-ghost use Rattle.muck_store.specs.Whole.{is_whole};
+ghost use Rattle.muck_store.specs.Limits.{record_fits};
+ghost use Rattle.muck_store.specs.Whole.{is_whole_store};
+ghost use Rattle.muck_db.specs.inner.Hearing.{listens};
 ghost use Rattle.muck_db.specs.inner.Limits.{FitsLimits, IsWithinLimits};
 ghost use Rattle.muck_db.specs.inner.Settings.{MaySet, with_setting};
 ghost use Rattle.muck_db.specs.inner.Shown.{is_there, after_in, first_in, next_in, Knows};
@@ -31,7 +33,7 @@ use crate::cut::{Extent, records_of};
 use crate::links::dbref_of;
 use crate::load::slots_of;
 use crate::marking::{Moment, pass};
-use crate::moves::{check_move, count_there, found, list_of, relocate};
+use crate::moves::{check_move, count_there, found, list_of, number_of, relocate};
 use crate::password::{digest_word, is_digest_of};
 use crate::paths::KnownPaths;
 use crate::players::players_of;
@@ -42,6 +44,7 @@ use crate::setting::{
 };
 use crate::slots::Slots;
 use crate::start::first_slots;
+use crate::stood::{moves_of, settle};
 use crate::telling::{clear_mark, marked, told_of};
 use crate::ties::{Ties, tether_of};
 use crate::walks::{first_listed, next_listed};
@@ -49,7 +52,7 @@ use muck_codec::{Batch, Stored};
 use muck_match::{Found, find_among, player_among};
 use muck_model::{Dbref, Flags, Kind, Line, LineList, NoMemory, Tune};
 use muck_prop::{Path, PropValue};
-use spec_live::{Changed, DbFault, Object};
+use spec_live::{Changed, DbFault, Move, Object};
 use std::alloc::Global;
 use std::marker::Model;
 
@@ -113,8 +116,8 @@ impl Db {
     /// The objects that the records of a whole world stand for. No record may be outside the limits.
     pub fn load(alloc: Global, records: &[Stored]) -> Result<Db, NoMemory>
         requires few { length records.now ≤ 100000 }
-        requires whole { is_whole records.now ≡ true }
-        requires fits { list_all fits records.now ≡ true }
+        requires whole { is_whole_store records.now ≡ true }
+        requires fits { list_all record_fits records.now ≡ true }
         requires props { All (λ s. AreProperties s.props) records.now }
         ensures { IfOk result (λ db. db ≡ loaded records.now) }
     {
@@ -190,7 +193,7 @@ impl Db {
 
     /// What a text names for the player, as matching finds it. For `*player` it looks at the players alone.
     pub fn find(&self, player: Dbref, text: &Line) -> Found
-        ensures { result ≡ found (scenery_of self.now) player text.now }
+        ensures { result ≡ thing_found (scenery_of self.now) player text.now }
     {
         find_among(self, &self.players, player, text)
     }
@@ -209,6 +212,50 @@ impl Db {
         ensures short { length result ≤ length self.now }
     {
         list_of(&self.slots, true, d)
+    }
+
+    /// Whether something that is in a place, or a player there, has properties below `_listen`. It takes no memory, and where nothing that has them came since the server began it
+    /// looks at nothing else; in another place it looks at what is there.
+    pub fn is_heard_in(&self, place: Dbref) -> bool
+        ensures { result ≡ list_any (listens self.now) (listed_in false place self.now) }
+    {
+        if self.is_unheard(place) {
+            return false;
+        }
+        self.any_listens(place)
+    }
+
+    fn any_listens(&self, place: Dbref) -> bool
+        ensures { result ≡ list_any (listens self.now) (listed_in false place self.now) }
+    {
+        let mut left = self.contents(place);
+        while let Some(d) = left.next() {
+            if self.listens(d) {
+                return true;
+            }
+        }
+        false
+    }
+
+    // Whether it is known that nothing listens in a place.
+    fn is_unheard(&self, place: Dbref) -> bool
+        ensures { result ≡ true → list_any (listens self.now) (listed_in false place self.now) ≡ false }
+    {
+        match number_of(&self.slots, place) {
+            Some(p) => self.slots.is_unheard(p),
+            None => false,
+        }
+    }
+
+    // Whether an object has properties below `_listen`.
+    #[tactic(auto, unfolding(crate::specs::inner::Hearing::listens))]
+    fn listens(&self, d: Dbref) -> bool
+        ensures { result ≡ listens self.now d }
+    {
+        match self.get(d) {
+            Some(object) => object.props.is_dir(self.slots.listen()),
+            None => false,
+        }
     }
 
     /// What a dump hands to the log, over what is kept already: the stored form of each object that isn't kept so, and
@@ -250,7 +297,7 @@ impl Db {
 
     /// The dump that was cut last was stored: what was pending is done, unless it changed since. It takes no memory.
     pub fn stored(&mut self)
-        ensures { self.new ≡ all_saving done self.old }
+        ensures { self.new ≡ all_saving saving_done self.old }
     {
         pass(&mut self.slots, Moment::Kept);
     }
@@ -260,6 +307,20 @@ impl Db {
         ensures { self.new ≡ all_saving due_again self.old }
     {
         pass(&mut self.slots, Moment::Failed);
+    }
+
+    /// The players that stand elsewhere than when the event began, by rising number. It looks at no other numbers than those between which some moved.
+    pub fn moves(&self, alloc: Global) -> Result<Vec<Move>, NoMemory>
+        ensures { IfOk result (λ moves. moves.items ≡ moves_from 0 self.now) }
+    {
+        moves_of(alloc, &self.slots)
+    }
+
+    /// An event begins: nobody has moved since. It takes no memory, and looks at the numbers of `moves` alone.
+    pub fn settle(&mut self)
+        ensures { self.new ≡ stilled self.old }
+    {
+        settle(&mut self.slots);
     }
 
     /// Makes an object at the lowest number of garbage, or else at the next number, in front of a list of its place. A
@@ -314,7 +375,7 @@ impl Db {
     pub fn set_name(&mut self, d: Dbref, name: Line) -> Result<(), DbFault>
         requires some { 1 ≤ length name }
         requires short { length name ≤ 80 }
-        ensures { Does (set_at (with_name name)) (checked any d self.old) self.old self.new result }
+        ensures { Does (set_at (with_name name)) (checked every_number d self.old) self.old self.new result }
     {
         let checked = check_any(&self.slots, d);
         self.set(checked, Setting::Name(name))
@@ -382,7 +443,7 @@ impl Db {
     /// Stores a value at a path of an object, where an empty text or 0 removes the property. `NoSuchObject` comes where
     /// the object isn't there; nothing has changed then, and after `NoMemory`.
     pub fn put_prop(&mut self, d: Dbref, path: Path, value: PropValue) -> Result<(), DbFault>
-        ensures { Tries (set_at (with_prop path value)) (checked any d self.old) self.old self.new result }
+        ensures { Tries (set_at (with_prop path value)) (checked every_number d self.old) self.old self.new result }
     {
         let k = check_any(&self.slots, d)?;
         put_prop(&mut self.slots, k, path, value)?;
@@ -392,7 +453,7 @@ impl Db {
     /// Removes a property of an object, which need not have it. `NoSuchObject` comes exactly where the object isn't
     /// there; nothing has changed then.
     pub fn remove_prop(&mut self, d: Dbref, path: &Path) -> Result<(), DbFault>
-        ensures { Does (set_at (without_prop path.now)) (checked any d self.old) self.old self.new result }
+        ensures { Does (set_at (without_prop path.now)) (checked every_number d self.old) self.old self.new result }
     {
         let k = check_any(&self.slots, d)?;
         remove_prop(&mut self.slots, k, path);

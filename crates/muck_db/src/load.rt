@@ -2,12 +2,13 @@
 ghost use Rattle.std.specs.Prelude.{◌≡◌, IfOk, All, map};
 ghost use Rattle.std.specs.FinMap.{from_entries};
 ghost use Rattle.muck_codec.specs.inner.Stored.{AreProperties};
-ghost use Rattle.muck_store.specs.Forms.{entry_at, object_of};
+ghost use Rattle.muck_store.specs.Forms.{entry_at, stored_object};
 ghost use Rattle.muck_db.specs.inner.Loading.{object_kept, slot_of, slots_of};
 
 use crate::links::index_of;
 use crate::slot::Slot;
 use crate::slots::Slots;
+use crate::stood::standing;
 use muck_codec::{Property, Stored};
 use muck_model::{Kind, Line, LineList, NoMemory};
 use muck_prop::Props;
@@ -41,7 +42,7 @@ fn props_of(alloc: Global, properties: &[Property]) -> Result<Props, NoMemory>
 // The object of a record.
 fn object_of(alloc: Global, record: &Stored) -> Result<Object, NoMemory>
     requires { AreProperties record.now.props }
-    ensures { IfOk result (λ object. object ≡ object_of record.now) }
+    ensures { IfOk result (λ object. object ≡ stored_object record.now) }
 {
     Ok(Object {
         kind: record.kind,
@@ -83,6 +84,7 @@ fn slot_of(alloc: Global, record: &Stored) -> Result<Slot, NoMemory>
         next: index_of(record.next),
         mark: None,
         saving: Saving::Due,
+        stood: standing(record.kind, record.place),
     })
 }
 
@@ -92,7 +94,7 @@ pub fn slots_of(alloc: Global, records: &[Stored]) -> Result<Slots, NoMemory>
     requires { All (λ s. AreProperties s.props) records.now }
     ensures { IfOk result (λ slots. slots.items ≡ slots_of records.now) }
 {
-    let mut slots = Slots::new(alloc);
+    let mut slots = Slots::new(alloc)?;
     for record in records {
         slots.push(slot_of(alloc, record)?)?;
     }

@@ -143,7 +143,7 @@ pub fn count_there(slots: &Slots) -> usize
 }
 
 // The numbers of a move that is allowed, or the first refusal.
-#[tactic(auto, using(crate::proofs::Bridge::kinds), unfolding(spec_live::specs::Moving::move_check, spec_live::specs::Moving::judged))]
+#[tactic(auto, using(crate::proofs::Bridge::kinds), unfolding(spec_live::specs::Moving::move_check, spec_live::specs::Moving::move_judged))]
 pub fn check_move(slots: &Slots, d: Dbref, to: Dbref) -> Result<(u32, u32), DbFault>
     requires { HasOrder slots.now.items }
     ensures { result ≡ move_check d to (entries_of slots.now.items) }

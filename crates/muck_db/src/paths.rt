@@ -1,8 +1,11 @@
 // The paths that every world knows.
-ghost use Rattle.std.specs.Prelude.{◌≡◌, ◌∷◌, [], codes};
+ghost use Rattle.std.specs.Prelude.{◌≡◌, ◌∷◌, [], codes, IfOk};
+ghost use Rattle.spec_live.specs.Messages.{path_of};
+ghost use Rattle.spec_live.specs.declared.message.Message.TheVariants as known;
 
 use muck_model::NoMemory;
 use muck_prop::Path;
+use spec_live::Message;
 use std::alloc::Global;
 
 /// The paths at which objects keep their locks and their messages. They are made once, so that looking for one takes no
@@ -10,21 +13,28 @@ use std::alloc::Global;
 #[derive(Drop)]
 pub struct KnownPaths {
     pub lock: Path,
-    pub describe: Path,
-    pub success: Path,
-    pub others_success: Path,
-    pub fail: Path,
-    pub others_fail: Path,
-    pub drop: Path,
-    pub others_drop: Path,
+    describe: Path,
+    success: Path,
+    others_success: Path,
+    fail: Path,
+    others_fail: Path,
+    drop: Path,
+    others_drop: Path,
     pub ghost of_lock: { lock ≡ codes "_" ∷ codes "lok" ∷ [] },
-    pub ghost of_describe: { describe ≡ codes "_" ∷ codes "de" ∷ [] },
-    pub ghost of_success: { success ≡ codes "_" ∷ codes "sc" ∷ [] },
-    pub ghost of_others_success: { others_success ≡ codes "_" ∷ codes "osc" ∷ [] },
-    pub ghost of_fail: { fail ≡ codes "_" ∷ codes "fl" ∷ [] },
-    pub ghost of_others_fail: { others_fail ≡ codes "_" ∷ codes "ofl" ∷ [] },
-    pub ghost of_drop: { drop ≡ codes "_" ∷ codes "dr" ∷ [] },
-    pub ghost of_others_drop: { others_drop ≡ codes "_" ∷ codes "odr" ∷ [] },
+    ghost of_describe: { describe ≡ path_of known.Describe },
+    ghost of_success: { success ≡ path_of known.Success },
+    ghost of_others_success: { others_success ≡ path_of known.OthersSuccess },
+    ghost of_fail: { fail ≡ path_of known.Fail },
+    ghost of_others_fail: { others_fail ≡ path_of known.OthersFail },
+    ghost of_drop: { drop ≡ path_of known.Drop },
+    ghost of_others_drop: { others_drop ≡ path_of known.OthersDrop },
+}
+
+// The path of a message, as the table has it.
+fn path_of(alloc: Global, message: Message) -> Result<Path, NoMemory>
+    ensures { IfOk result (λ path. path ≡ path_of message) }
+{
+    Path::of_text(alloc, message.row().path)
 }
 
 impl KnownPaths {
@@ -32,13 +42,28 @@ impl KnownPaths {
     pub(crate) fn new(alloc: Global) -> Result<KnownPaths, NoMemory> {
         Ok(KnownPaths {
             lock: Path::of_text(alloc, b"_/lok")?,
-            describe: Path::of_text(alloc, b"_/de")?,
-            success: Path::of_text(alloc, b"_/sc")?,
-            others_success: Path::of_text(alloc, b"_/osc")?,
-            fail: Path::of_text(alloc, b"_/fl")?,
-            others_fail: Path::of_text(alloc, b"_/ofl")?,
-            drop: Path::of_text(alloc, b"_/dr")?,
-            others_drop: Path::of_text(alloc, b"_/odr")?,
+            describe: path_of(alloc, Message::Describe)?,
+            success: path_of(alloc, Message::Success)?,
+            others_success: path_of(alloc, Message::OthersSuccess)?,
+            fail: path_of(alloc, Message::Fail)?,
+            others_fail: path_of(alloc, Message::OthersFail)?,
+            drop: path_of(alloc, Message::Drop)?,
+            others_drop: path_of(alloc, Message::OthersDrop)?,
         })
+    }
+
+    /// The path of a message.
+    pub fn message(&self, message: Message) -> &Path
+        ensures { result.now ≡ path_of message }
+    {
+        match message {
+            Message::Describe => &self.describe,
+            Message::Success => &self.success,
+            Message::OthersSuccess => &self.others_success,
+            Message::Fail => &self.fail,
+            Message::OthersFail => &self.others_fail,
+            Message::Drop => &self.drop,
+            Message::OthersDrop => &self.others_drop,
+        }
     }
 }

@@ -3,12 +3,12 @@ ghost use Rattle.std.specs.Prelude.{◌≡◌, ◌≢◌, ◌<◌, ◌≤◌, �
 ghost use Rattle.spec_live.specs.declared.mark.Mark.TheVariants.{Gone};
 ghost use Rattle.spec_live.specs.Chain.{Ends};
 ghost use Rattle.spec_live.specs.Objects.{dbref_of, is_garbage, nothing, same, kind_in, list_in, changed_at};
-ghost use Rattle.spec_live.specs.Recycling.{is_tied, untied, wished_home, may_go, way_home, sent_home, is_exit_of, taken_away, recycle_check};
+ghost use Rattle.spec_live.specs.Recycling.{is_tied_to_number, untied, wished_home, may_go, way_home, sent_home, is_exit_of, taken_away, recycle_check};
 ghost use Rattle.std.specs.BTreeSet.{contains};
 ghost use Rattle.std.specs.Ordering.{nat_cmp};
 ghost use Rattle.muck_db.specs.inner.Exits.{ListsExits};
 ghost use Rattle.muck_db.specs.inner.Ties.{is_tied_at, Notes, HasTies};
-ghost use Rattle.muck_db.specs.inner.Slots.{home_at, owner_at, kind_at, mark_at, shown, next_at, first_at, entries_of, untied_slot, new_slot, exit_wiped, wiped, HasOrder};
+ghost use Rattle.muck_db.specs.inner.Slots.{home_at, owner_at, kind_at, mark_at, shown, next_at, first_at, entries_of, untied_slot, gone_slot, exit_wiped, wiped, HasOrder};
 
 use crate::links::{dbref_of, first_of, index_of, leads_to, next_of, take_out};
 use crate::moves::{fits, kind_of, number_of, relocate};
@@ -50,7 +50,7 @@ fn link_without(link: Dbref, gone: Dbref) -> Dbref
 #[tactic(auto, unfolding(spec_live::specs::Objects::garbage))]
 fn is_tied(slot: &Slot, d: u32) -> bool
     requires { d < 2 ^ 31 }
-    ensures { result ≡ is_tied d (shown slot.now) }
+    ensures { result ≡ is_tied_to_number d (shown slot.now) }
 {
     let gone = dbref_of(d);
     match &slot.object {
@@ -239,9 +239,9 @@ pub fn clear_out(slots: &mut Slots, ties: &mut Ties, d: u32)
     }
 }
 
-// What is left of an object, of which is to be told.
-fn gone_slot() -> Slot
-    ensures { result ≡ new_slot None (Some Gone) }
+// What is left of an object that stood there, of which is to be told.
+fn gone_slot(stood: Option<Dbref>) -> Slot
+    ensures { result ≡ gone_slot stood }
 {
     Slot {
         object: None,
@@ -250,6 +250,7 @@ fn gone_slot() -> Slot
         next: None,
         mark: Some(Mark::Gone),
         saving: Saving::Due,
+        stood,
     }
 }
 
@@ -272,7 +273,7 @@ fn wipe_slot(slot: &mut Slot, d: u32)
     ensures { slot.new ≡ exit_wiped d slot.old }
 {
     if is_exit_of(slot, d) {
-        *slot = gone_slot();
+        *slot = gone_slot(slot.stood);
     }
 }
 
@@ -326,7 +327,8 @@ fn wipe_at(slots: &mut Slots, d: u32)
     requires { d < length slots.old.items }
     ensures { slots.new.items ≡ changed_at d wiped slots.old.items }
 {
-    *slots.at_mut(d) = gone_slot();
+    let slot = slots.at_mut(d);
+    *slot = gone_slot(slot.stood);
 }
 
 // An object becomes garbage, and isn't noted any more where it lived or led.

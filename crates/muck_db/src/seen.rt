@@ -1,6 +1,7 @@
 // What matching and locks read of the objects.
-ghost use Rattle.std.specs.Prelude.{◌≡◌, IfOk};
+ghost use Rattle.std.specs.Prelude.{◌≡◌, None, IfOk};
 ghost use Rattle.std.specs.Fmt.{signed_decimal};
+ghost use Rattle.muck_model.specs.Bytes.{text_fault};
 ghost use Rattle.spec_live.specs.Worth.{value_is, value_text, has_value};
 
 use crate::db::Db;
@@ -12,39 +13,43 @@ use muck_prop::PropValue;
 use std::alloc::Global;
 
 // A number in decimal.
-fn number_text(alloc: Global, number: i32) -> Result<Line, NoMemory>
-    ensures { IfOk result (λ text. text ≡ signed_decimal number) }
+fn number_text(number: i32, buffer: &mut Buffer) -> &[u8]
+    ensures shown { result.now ≡ signed_decimal number }
+    ensures text { text_fault result.now ≡ None }
 {
-    let mut buffer = Buffer::new();
-    let text = Line::of_text(alloc, buffer.format(number).as_bytes())?;
-    Ok(text)
+    buffer.format(number).as_bytes()
+}
+
+// The bytes of a value as a text: a number is written in decimal.
+fn shown<'a>(value: &'a PropValue, buffer: &'a mut Buffer) -> &'a [u8]
+    ensures shown { result.now ≡ value_text value.now }
+    ensures text { text_fault result.now ≡ None }
+{
+    match value {
+        PropValue::Text(text) => text.as_slice(),
+        PropValue::Number(number) => number_text(*number, buffer),
+    }
 }
 
 /// The value of a property as a text: a number is written in decimal.
 pub fn value_text(alloc: Global, value: &PropValue) -> Result<Line, NoMemory>
     ensures { IfOk result (λ text. text ≡ value_text value.now) }
 {
-    match value {
-        PropValue::Text(text) => text.copy(alloc),
-        PropValue::Number(number) => number_text(alloc, *number),
-    }
+    let mut buffer = Buffer::new();
+    let text = Line::of_text(alloc, shown(value, &mut buffer))?;
+    Ok(text)
 }
 
 // Whether a value is that text, or that number in decimal.
 fn value_is(value: &PropValue, text: &[u8]) -> bool
     ensures { result ≡ value_is text.now value.now }
 {
-    match value {
-        PropValue::Text(kept) => kept.as_slice() == text,
-        PropValue::Number(number) => {
-            let mut buffer = Buffer::new();
-            buffer.format(*number).as_bytes() == text
-        }
-    }
+    let mut buffer = Buffer::new();
+    shown(value, &mut buffer) == text
 }
 
 // Whether the property of that path of an object has that text, or that number in decimal.
-#[tactic(auto, unfolding(spec_live::specs::Worth::has_value, spec_live::specs::Worth::value_at))]
+#[tactic(auto, unfolding(spec_live::specs::Worth::has_value, spec_live::specs::Worth::value_at_path))]
 fn has_value(db: &Db, d: Dbref, path: &[u8], value: &[u8]) -> bool
     ensures { result ≡ has_value db.now d path.now value.now }
 {

@@ -1,7 +1,7 @@
 // Setting a field: the checks and the writes.
 ghost use Rattle.std.specs.Prelude.{◌≡◌, ◌<◌, ℕ, List, length, false, IfOk, OnOk, OnErr, Ok, Err};
 ghost use Rattle.spec_live.specs.Objects.{is_garbage, is_player, is_exit, kind_in, changed_at};
-ghost use Rattle.spec_live.specs.Setting.{any, checked, checked_both, owner_check, link_check, home_check, flags_check, level_check, lines_check, password_check, keeps_seats, holds_player, may_link, may_live, has_link, lines_marked, with_prop, without_prop};
+ghost use Rattle.spec_live.specs.Setting.{every_number, checked, checked_both, owner_check, link_check, home_check, flags_check, level_check, lines_check, password_check, keeps_seats, holds_player, may_link, may_live, has_link, lines_marked, with_prop, without_prop};
 ghost use Rattle.muck_db.specs.inner.Slots.{kind_at, entries_of, on_slot, with_slot_lines, HasOrder};
 ghost use Rattle.muck_db.specs.inner.Settings.{with_setting};
 
@@ -16,7 +16,7 @@ use spec_live::{DbFault, Mark, Object, Saving, VEHICLE, has_flag};
 // The number of an object.
 #[tactic(auto, unfolding(spec_live::specs::Setting::checked))]
 pub fn check_any(slots: &Slots, d: Dbref) -> Result<u32, DbFault>
-    ensures is { result ≡ checked any d (entries_of slots.now.items) }
+    ensures is { result ≡ checked every_number d (entries_of slots.now.items) }
     ensures within { IfOk result (λ k. k < length slots.now.items) }
     ensures alive { IfOk result (λ k. is_garbage (kind_at slots.now.items k) ≡ false) }
 {
@@ -353,7 +353,7 @@ fn put_at(slot: &mut Slot, path: Path, value: PropValue) -> Result<(), DbFault>
 }
 
 // The same in the table.
-#[tactic(auto, using(crate::proofs::Writes::set_back), unfolding(spec_live::specs::Objects::changed_at))]
+#[tactic(auto, using(muck_laws::proofs::Places::set_back), unfolding(spec_live::specs::Objects::changed_at))]
 pub fn put_prop(slots: &mut Slots, k: u32, path: Path, value: PropValue) -> Result<(), DbFault>
     requires { k < length slots.old.items }
     ensures ok { OnOk result (slots.new.items ≡ changed_at k (on_slot (with_prop path value)) slots.old.items) }

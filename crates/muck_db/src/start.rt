@@ -64,7 +64,7 @@ fn player_one(alloc: Global) -> Result<Object, NoMemory>
 pub fn first_slots(alloc: Global) -> Result<Slots, NoMemory>
     ensures { IfOk result (λ slots. slots.items ≡ first_slots) }
 {
-    let mut slots = Slots::new(alloc);
+    let mut slots = Slots::new(alloc)?;
     slots.push(Slot {
         object: Some(room_zero(alloc)?),
         first_content: Some(1),
@@ -72,6 +72,7 @@ pub fn first_slots(alloc: Global) -> Result<Slots, NoMemory>
         next: None,
         mark: None,
         saving: Saving::Due,
+        stood: None,
     })?;
     slots.push(Slot {
         object: Some(player_one(alloc)?),
@@ -80,6 +81,7 @@ pub fn first_slots(alloc: Global) -> Result<Slots, NoMemory>
         next: None,
         mark: None,
         saving: Saving::Due,
+        stood: Some(Dbref(0)),
     })?;
     Ok(slots)
 }

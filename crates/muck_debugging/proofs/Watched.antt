@@ -7,7 +7,7 @@ use Rattle.spec_events.specs.World.{World}
 use Rattle.spec_events.specs.Steps.{effect, next_process}
 use Rattle.spec_events.specs.Histories.{History, now, after, entered, Grew, by_porter}
 use Rattle.spec_events.proofs.Runs.{grew_one, now-grew}
-use Rattle.muck_script.specs.Story.{Turn, of_line, next_turn, turn_entries, turn, turns}
+use Rattle.muck_script.specs.Story.{StoryTurn, of_line, next_turn, turn_entries, turn_followed, turns}
 use Rattle.muck_script.specs.inner.Settling.{entries_of, slice_of}
 use Rattle.spec_views.specs.Views.{views_of}
 use Rattle.muf_debug.specs.declared.view.View.{View}
@@ -42,28 +42,28 @@ views_sliced h k pid e is =
     ap (views_of pid) there ∙ sym (append-nil (views_of pid (effect (now h) (by_porter (Claim pid))))) ∙ ap (λ (o : Option ℤ). views_in (now h) (entries_of (slice_of o))) (sym e)
 
 -- nothing is seen of a line
-pub views_line : (w : World) (o : Option Turn) (d : ℕ) → o ≡ Some (of_line d) → views_in w (entries_of o) ≡ []
-views_line w o d e = ap (λ (x : Option Turn). views_in w (entries_of x)) e
+pub views_line : (w : World) (o : Option StoryTurn) (d : ℕ) → o ≡ Some (of_line d) → views_in w (entries_of o) ≡ []
+views_line w o d e = ap (λ (x : Option StoryTurn). views_in w (entries_of x)) e
 
 -- Turns.
 
 turns_next : (n : ℕ) (w : World) → is_some (next_turn w) ≡ true → turns (suc n) w ≡ entries_of (next_turn w) ++ turns n (after w (entries_of (next_turn w)))
 unfolding turns
 turns_next n w some = by (next_turn w) some where
-  by : (o : Option Turn) → is_some o ≡ true → turn o (λ t. turns n (after w (turn_entries t))) ≡ entries_of o ++ turns n (after w (entries_of o))
+  by : (o : Option StoryTurn) → is_some o ≡ true → turn_followed o (λ t. turns n (after w (turn_entries t))) ≡ entries_of o ++ turns n (after w (entries_of o))
   by None some = cc
   by (Some t) some = refl
 
 turns_none : (n : ℕ) (w : World) → next_turn w ≡ None → turns n w ≡ []
 unfolding turns
 turns_none zero w e = refl
-turns_none (suc n) w e = ap (λ (o : Option Turn). turn o (λ k. turns n (after w (turn_entries k)))) e
+turns_none (suc n) w e = ap (λ (o : Option StoryTurn). turn_followed o (λ k. turns n (after w (turn_entries k)))) e
 
 turns_zero : (w : World) → turns 0 w ≡ []
 unfolding turns
 turns_zero w = refl
 
-none_left : (o : Option Turn) → is_some o ≡ false → o ≡ None
+none_left : (o : Option StoryTurn) → is_some o ≡ false → o ≡ None
 none_left None e = refl
 none_left (Some t) e = cc
 
@@ -98,7 +98,7 @@ module _ {S : Type 0} (tells : S → View → S → Type 0) where
       let none : next_turn (now new) ≡ None = none_left (next_turn (now new)) nothing in
       told.more c
       (sees_as tells _ _ b c
-      (ap (λ (o : Option Turn). views_in (now new) (entries_of o)) none ∙ ap (views_in (now new)) (sym (turns_none told.left (now new) none))) seen)
+      (ap (λ (o : Option StoryTurn). views_in (now new) (entries_of o)) none ∙ ap (views_in (now new)) (sym (turns_none told.left (now new) none))) seen)
 
   -- all turns were taken
   pub told_over : (most done : ℕ) (old new : History) (a b : S) → IsTold tells most done old new a b → most ≤ done → SeesAll tells (views_in (now old) (turns most (now old))) a b

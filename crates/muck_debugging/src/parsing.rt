@@ -2,7 +2,7 @@
 ghost use Rattle.std.specs.Prelude.{◌≡◌, IfOk};
 ghost use Rattle.muck_script.specs.Script.{act_of};
 ghost use Rattle.muck_debugging.specs.declared.act.DebugAct.TheVariants.{Break, Clear};
-ghost use Rattle.muck_debugging.specs.Grammar.{at_line, debug_act_of, line_number};
+ghost use Rattle.muck_debugging.specs.Grammar.{at_line, debug_act_of, program_line_number};
 
 use crate::DebugAct;
 use muck_model::{Dbref, LINES_MOST, NoMemory, decimal};
@@ -56,7 +56,7 @@ fn clear_of(text: &[u8]) -> Option<DebugAct>
 
 // The number of a line of a program, from 1 to the most that there are.
 fn line_number(text: &[u8]) -> Option<u32>
-    ensures { result ≡ line_number text.now }
+    ensures { result ≡ program_line_number text.now }
 {
     let n = decimal(text, LAST_LINE)?;
     if n > 0 { Some(n as u32) } else { None }

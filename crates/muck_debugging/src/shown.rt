@@ -1,7 +1,7 @@
 // What is written of units.
 ghost use Rattle.std.specs.Prelude.{◌≡◌, true, IfOk, OnOk};
 ghost use Rattle.std.specs.List.{flat_map};
-ghost use Rattle.muck_debugging.specs.Seen.{ended};
+ghost use Rattle.muck_debugging.specs.Seen.{line_ended};
 ghost use Rattle.muck_debugging.specs.Laws.{are_texts};
 
 use muck_model::{LineList, NoMemory};
@@ -9,7 +9,7 @@ use std::alloc::Global;
 
 /// The text of these lines, each with its end.
 pub fn units_text(alloc: Global, lines: &LineList) -> Result<Vec<u8>, NoMemory>
-    ensures text { IfOk result (λ text. text.items ≡ flat_map ended lines.now) }
+    ensures text { IfOk result (λ text. text.items ≡ flat_map line_ended lines.now) }
     ensures texts { OnOk result (are_texts lines.now ≡ true) }
 {
     let mut text = Vec::new(alloc);

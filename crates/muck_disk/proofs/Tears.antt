@@ -2,14 +2,14 @@
 use Rattle.std.proofs.Common.{◌≡◌, ℕ, ◌+◌, ◌-◌, ◌<◌, ◌≤◌, max, min, List, [], ◌∷◌, ◌++◌, length, take, drop, reverse, get_or, replicate, Bool, true, false, leb, refl, sym, ◌∙◌, ap, subst, arith, length-append, length-take, length-drop}
 use Rattle.std.proofs.lemmas.Bool.{and_parts, leb-true, leb-false}
 use Rattle.std.proofs.lemmas.List.{take_at, length-replicate, take_all, append-nil, drop-drop, drop_at, append_assoc, take_more, take-append-drop, drop_all, reverse-append}
-use Rattle.muck_disk.specs.Images.{Torn, written}
+use Rattle.muck_disk.specs.Images.{Torn, bytes_written}
 use Rattle.muck_disk.specs.inner.Memory.{Torn-none}
 use Rattle.muck_disk.specs.inner.Replay.{seen_after, seen_at, left_after, left_at, all_within, is_within, torn_to, image_after, image_at, synced_length}
 use Rattle.muck_disk.specs.declared.memory.Call.{Call}
 use Rattle.muck_disk.specs.declared.memory.Call.TheVariants.{Asked, Wrote, Synced}
 
 -- any bytes in place of those of a write, as many or fewer, make one of its images
-pub torn_any : (at n : ℕ) (old x : List ℕ) → at ≤ length old → length x ≤ n → Torn at n old (written old at x)
+pub torn_any : (at n : ℕ) (old x : List ℕ) → at ≤ length old → length x ≤ n → Torn at n old (bytes_written old at x)
 torn_any at n old x within short =
     record {
       before = ap (take at) (append_assoc (take at old) x (drop (at + length x) old)) ∙ take_at (take at old) (x ++ drop (at + length x) old) at size;
@@ -24,26 +24,26 @@ torn_any at n old x within short =
     front : length (take at old ++ x) ≡ at + length x
     front = omega (arith, length-append (take at old) x, size)
 
-    total : length (written old at x) ≡ at + length x + (length old - (at + length x))
+    total : length (bytes_written old at x) ≡ at + length x + (length old - (at + length x))
     total = omega (arith, length-append (take at old ++ x) (drop (at + length x) old), front, length-drop (at + length x) old)
 
     places : at + n ≡ at + length x + (n - length x)
     places = omega (arith, short)
 
-    past : drop (at + n) (written old at x) ≡ drop (at + n) old
-    past = ap (λ k. drop k (written old at x)) places
-        ∙ sym (drop-drop (n - length x) (at + length x) (written old at x))
+    past : drop (at + n) (bytes_written old at x) ≡ drop (at + n) old
+    past = ap (λ k. drop k (bytes_written old at x)) places
+        ∙ sym (drop-drop (n - length x) (at + length x) (bytes_written old at x))
         ∙ ap (drop (n - length x)) (drop_at (take at old ++ x) (drop (at + length x) old) (at + length x) front)
         ∙ drop-drop (n - length x) (at + length x) old
         ∙ ap (λ k. drop k old) (sym places)
 
-length-written : (old x : List ℕ) (at : ℕ) → length (written old at x) ≡ min at (length old) + length x + (length old - (at + length x))
+length-written : (old x : List ℕ) (at : ℕ) → length (bytes_written old at x) ≡ min at (length old) + length x + (length old - (at + length x))
 length-written old x at = omega (arith, length-append (take at old ++ x) (drop (at + length x) old), length-append (take at old) x, length-drop (at + length x) old, length-take at old)
 
 -- where the file ends before the write, and may grow no more, the write leaves it as it is
 pub torn_past : (room byte : ℕ) (old : List ℕ) (at n : ℕ) → length old < at → min at room ≤ length old → torn_to room byte old at n ≡ old
 torn_past room byte old at n past full =
-    ap (λ k. written old at (replicate k byte)) none
+    ap (λ k. bytes_written old at (replicate k byte)) none
     ∙ ap (λ l. l ++ drop (at + 0) old) (append-nil (take at old) ∙ take_all at old (omega (arith, past)))
     ∙ ap (λ l. old ++ l) (drop_all (at + 0) old (omega (arith, past)))
     ∙ append-nil old

@@ -2,8 +2,8 @@
 use Rattle.std.specs.Prelude.{◌≡◌, ℕ, ◌+◌, ◌<◌, ◌≤◌, max, List, ◌++◌, length, take, drop}
 
 -- the bytes with these written at this place
-abbrev pub written : List ℕ → ℕ → List ℕ → List ℕ
-written old at bytes = take at old ++ bytes ++ drop (at + length bytes) old
+abbrev pub bytes_written : List ℕ → ℕ → List ℕ → List ℕ
+bytes_written old at bytes = take at old ++ bytes ++ drop (at + length bytes) old
 
 -- after a write of n bytes that a crash cuts short: any bytes in the range and past the old end, the same elsewhere
 pub record Torn (at n : ℕ) (old new : List ℕ) : Type 0 where

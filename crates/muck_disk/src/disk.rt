@@ -9,7 +9,7 @@ pub struct DiskFault;
 /// part may be missing in whole or at its end; other bytes stay. A failed write may have done any part of itself.
 pub trait Disk {
     ghost use Rattle.std.specs.Prelude.{◌≡◌, ◌≤◌, ◌<◌, ◌+◌, ◌-◌, ℕ, min, List, length, take, drop, Bool, true, Option, Some, IfOk, OnOk, OnErr};
-    ghost use Rattle.muck_disk.specs.Images.{Torn, Same, Elapses, Only, written};
+    ghost use Rattle.muck_disk.specs.Images.{Torn, Same, Elapses, Only, bytes_written};
     ghost use Rattle.muck_io.specs.Faults.{Rose};
 
     /// Whether a disk of this type tells its bytes; all that is said of them is under this.
@@ -63,7 +63,7 @@ pub trait Disk {
     /// comes only where the count of faults rose; any part may have been done then.
     fn write_at(&mut self, at: u64, bytes: &[u8]) -> Result<(), DiskFault>
         requires { tells ≡ true → at ≤ length (seen self.old) }
-        ensures written { tells ≡ true → OnOk result (seen self.new ≡ written (seen self.old) at bytes.now) }
+        ensures written { tells ≡ true → OnOk result (seen self.new ≡ bytes_written (seen self.old) at bytes.now) }
         ensures keeps { attached self.new ≡ attached self.old }
         ensures time { tells ≡ true → Elapses (moment self.old) (moment self.new) (images self.old) (images self.new) (Torn at (length bytes.now)) }
         ensures later { faults self.old ≤ faults self.new }

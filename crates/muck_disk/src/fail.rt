@@ -1,7 +1,7 @@
 // A disk in memory that fails one chosen call.
 ghost use Rattle.std.specs.Prelude.{◌≡◌, ◌≤◌, ◌-◌, ◌==◌, ◌&&◌, not, false, min, take, drop, length, option_map, Some, IfOk, OnOk, OnErr};
 ghost use Rattle.muck_io.specs.Faults.{Rose};
-ghost use Rattle.muck_disk.specs.Images.{Only, Same, Torn, written};
+ghost use Rattle.muck_disk.specs.Images.{Only, Same, Torn, bytes_written};
 
 use crate::{Disk, DiskFault, MemDisk};
 
@@ -117,7 +117,7 @@ impl Disk for FailDisk {
 
     fn write_at(&mut self, at: u64, bytes: &[u8]) -> Result<(), DiskFault>
         requires { at ≤ length self.old.disk.bytes.items }
-        ensures written { OnOk result (self.new.disk.bytes.items ≡ written self.old.disk.bytes.items at bytes.now) }
+        ensures written { OnOk result (self.new.disk.bytes.items ≡ bytes_written self.old.disk.bytes.items at bytes.now) }
         ensures keeps { self.new.disk.name ≡ self.old.disk.name }
         ensures time { Passes self.old.disk self.new.disk (Torn at (length bytes.now)) }
         ensures leaves { OnOk result (Leaves (left_of self.old.disk) (left_of self.new.disk) (Torn at (length bytes.now))) }

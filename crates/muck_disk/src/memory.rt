@@ -1,7 +1,7 @@
 // A disk in memory, which keeps the list of all calls.
 ghost use Rattle.std.specs.Prelude.{◌≡◌, ◌≤◌, ◌+◌, ◌-◌, ◌<◌, min, ◌++◌, [], ◌∷◌, List, length, take, drop, reverse, true, false, option_map, Some, IfOk, OnOk, OnErr};
 ghost use Rattle.muck_io.specs.Faults.{Rose};
-ghost use Rattle.muck_disk.specs.Images.{Elapses, Only, Same, Torn, written};
+ghost use Rattle.muck_disk.specs.Images.{Elapses, Only, Same, Torn, bytes_written};
 ghost use Rattle.muck_disk.specs.declared.memory.Call.TheVariants.{Wrote};
 ghost use Rattle.muck_disk.specs.inner.Replay.{left_at, image_at, synced_at, torn_to, seen_at, seen_after, seen_by, all_within, is_within};
 
@@ -37,7 +37,7 @@ pub struct MemDisk {
 // The bytes with these written at this place.
 fn spliced(alloc: Global, old: &[u8], at: usize, bytes: &[u8]) -> Result<Vec<u8>, AllocError>
     requires { at ≤ length old.now }
-    ensures { IfOk result (λ v. v.items ≡ written old.now at bytes.now) }
+    ensures { IfOk result (λ v. v.items ≡ bytes_written old.now at bytes.now) }
 {
     let (front, back) = old.split_at(at);
     let mut next = front.to_vec(alloc)?;
@@ -219,7 +219,7 @@ impl MemDisk {
     fn write(&mut self, at: u64, bytes: &[u8]) -> Result<(), AllocError>
         requires { at ≤ length self.old.bytes.items }
         ensures ok { OnOk result ((v : _) × (v.items ≡ bytes.now) × (self.new.calls.items ≡ self.old.calls.items ++ Wrote at v true ∷ [])) }
-        ensures bytes { OnOk result (self.new.bytes.items ≡ written self.old.bytes.items at bytes.now) }
+        ensures bytes { OnOk result (self.new.bytes.items ≡ bytes_written self.old.bytes.items at bytes.now) }
         ensures err { OnErr result ((self.new.calls.items ≡ self.old.calls.items) × (self.new.bytes.items ≡ self.old.bytes.items)) }
         ensures same { (self.new.first ≡ self.old.first) × (self.new.faults ≡ self.old.faults) × (self.new.name ≡ self.old.name) }
     {
@@ -306,7 +306,7 @@ impl Disk for MemDisk {
 
     fn write_at(&mut self, at: u64, bytes: &[u8]) -> Result<(), DiskFault>
         requires { at ≤ length self.old.bytes.items }
-        ensures written { OnOk result (self.new.bytes.items ≡ written self.old.bytes.items at bytes.now) }
+        ensures written { OnOk result (self.new.bytes.items ≡ bytes_written self.old.bytes.items at bytes.now) }
         ensures keeps { self.new.name ≡ self.old.name }
         ensures time { Passes self.old self.new (Torn at (length bytes.now)) }
         ensures leaves { OnOk result (Leaves (left_of self.old) (left_of self.new) (Torn at (length bytes.now))) }

@@ -6,16 +6,12 @@ use Rattle.muck_log.specs.declared.fault.LogFault.TheVariants.{NoMemory, DiskFau
 use Rattle.spec_events.specs.Histories.{History}
 use Rattle.spec_events.specs.Own.{Stage}
 use Rattle.spec_dumps.specs.inner.Holding.{Keeps}
-use Rattle.muck_machine.specs.inner.Seats.{Chair}
+use Rattle.muck_work.specs.inner.Seats.{Chair}
 use Rattle.muck_dumping.specs.inner.Between.{IsReady, IsWritten, EndsAs}
 use Rattle.muck_dumper.specs.declared.holds.Fault.{Fault}
 use Rattle.muck_dumper.specs.inner.Dumping.{history_seen}
 use Rattle.muck_dumper.specs.inner.Steps.{Stops, Settles, Watches}
 use Rattle.muck_dumper.proofs.Ways.{stops_behind, watches_mounted}
-
-pub if_err : {A E : Type 0} (r : Result A E) (P Q : E → Type 0) → IfErr r P → ((e : E) → P e → Q e) → IfErr r Q
-if_err (Ok x) P Q p f = tt
-if_err (Err e) P Q p f = f e p
 
 -- As which answer a fault is told that isn't want of memory: on disks that tell their bytes no log answers that it is damaged, and elsewhere
 -- nothing is said of it.

@@ -7,11 +7,11 @@ use Rattle.spec_events.specs.declared.logged.Logged.{Logged}
 use Rattle.spec_events.specs.Histories.{History, entered, noted}
 use Rattle.muck_log.specs.Store.{LogState}
 use Rattle.spec_events.specs.Logged.{is_cut, logged, bare_item, noted_item, events_of, NoCounts, IsSettled, IsPlaced, IsOrderly}
-use Rattle.spec_events.specs.Own.{Stage, next, stage_of}
+use Rattle.spec_events.specs.Own.{Stage, next_stage, stage_of}
 use Rattle.spec_events.proofs.Logging.{placed_entered, placed_noted, events_append, no_counts_one, orderly_noted, orderly_bare}
 use Rattle.spec_events.proofs.Owning.{stage_more}
-use Rattle.muck_machine.specs.inner.Seats.{Chair, OneMore, Waited}
-use Rattle.muck_machine.proofs.Seating.{held_settled, one_bare, one_noted, given_root, seen_later}
+use Rattle.muck_work.specs.inner.Seats.{Chair, OneMore, Waited}
+use Rattle.muck_work.proofs.Seating.{held_settled, one_bare, one_noted, given_root, seen_later}
 use Rattle.muck_work.specs.inner.Holds.{HasTurn, HasEntered, HasGiven}
 use Rattle.muck_dumping.specs.inner.Dumps.{by}
 use Rattle.muck_dumping.specs.inner.Between.{GoesByMarks}
@@ -97,7 +97,7 @@ goes_step marks log event me me' other t goes = goes_made marks log event t.worl
 
 -- From stage to stage.
 
-pub moves_step : (from to : Stage) (event : Event) (me me' : Chair) → Step event me me' → next 9 from event ≡ Some to → Moves from to me me'
+pub moves_step : (from to : Stage) (event : Event) (me me' : Chair) → Step event me me' → next_stage 9 from event ≡ Some to → Moves from to me me'
 moves_step from to event me me' s may = record {
   lists = s.lists;
   sight = s.sight;

@@ -7,17 +7,17 @@ use Rattle.muck_log.specs.Store.{LogState}
 use Rattle.spec_events.specs.declared.logged.Logged.{Logged}
 use Rattle.spec_events.specs.Histories.{History, now, entered}
 use Rattle.spec_events.specs.Logged.{is_dump, events_of, NoCounts}
-use Rattle.spec_events.specs.Own.{Stage, next, stage_of, died_next}
+use Rattle.spec_events.specs.Own.{Stage, next_stage, stage_of, died_next}
 use Rattle.spec_events.proofs.Owning.{well_formed}
 use Rattle.spec_dumps.specs.Survival.{IsSafe}
 use Rattle.spec_dumps.specs.inner.Holding.{Quietly, Keeps, Rests as HasRests}
 use Rattle.spec_dumps.proofs.Quiet.{quiet_one, safe_quiet, keeps_quiet}
 use Rattle.spec_dumps.proofs.Idle.{idle_quiet}
-use Rattle.muck_machine.specs.declared.beginning.Beginning.{Beginning}
+use Rattle.muck_work.specs.declared.Beginning.{Beginning}
 use Rattle.muck_dumping.specs.declared.parts.Pending.{Pending}
 use Rattle.muck_dumping.specs.declared.store.Store.{Store}
-use Rattle.muck_machine.specs.inner.Seats.{Chair, Rests, Left, Waited}
-use Rattle.muck_machine.proofs.Seating.{left_rests}
+use Rattle.muck_work.specs.inner.Seats.{Chair, Rests, Left, Waited}
+use Rattle.muck_work.proofs.Seating.{left_rests}
 use Rattle.muck_dumping.specs.inner.Dumps.{by, ending_event}
 use Rattle.muck_dumping.specs.inner.Between.{IsReady, Knows, IsPending}
 use Rattle.muck_dumping.proofs.Beginning.{ready_quiet}
@@ -319,7 +319,7 @@ stops_before tells moment images faults f s fault from P Q y z leads t = record 
 }
 
 -- how a dump that runs may end
-ends_next : (n : ℕ) (b : Bool) → next 9 (Stage.dumping n) (ending_event n b) ≡ Some Stage.unbound
+ends_next : (n : ℕ) (b : Bool) → next_stage 9 (Stage.dumping n) (ending_event n b) ≡ Some Stage.unbound
 ends_next n true = ap (λ b. cond {A = Option Stage} b (Some Stage.unbound) None) (eq-eqb n n refl)
 ends_next n false = ap (λ b. cond {A = Option Stage} b (Some Stage.unbound) None) (eq-eqb n n refl)
 

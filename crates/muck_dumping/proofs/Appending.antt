@@ -1,34 +1,14 @@
 -- What the log answers to a batch that makes a whole world.
-use Rattle.std.proofs.Common.{◌≡◌, ◌⊎◌, inl, inr, ℕ, ◌+◌, ◌≤◌, Bool, true, false, ◌&&◌, List, [], ◌∷◌, length, refl, sym, ap, subst, ◌∙◌, arith, Option, Some, None, Result, Ok, Err}
-use Rattle.std.proofs.lemmas.Bool.{le-leb}
+use Rattle.std.proofs.Common.{◌≡◌, ◌⊎◌, inl, inr, ℕ, ◌+◌, ◌≤◌, List, [], ◌∷◌, length, sym, ap, subst, ◌∙◌, arith, Option, Some, None, Result, Ok, Err}
 use Rattle.muck_codec.specs.declared.stored.Batch.{Batch}
-use Rattle.muck_log.specs.World.{World as Kept, laid, is_between, tune_fits}
-use Rattle.muck_log.specs.Store.{Chosen, LogState, LeavesBoth, IsMounted, target, after_batch, stored}
+use Rattle.muck_log.specs.World.{StoredWorld as Kept, laid}
+use Rattle.muck_log.specs.Store.{Chosen, LogState, LeavesBoth, IsMounted, target, after_batch, store_of}
 use Rattle.muck_log.specs.Append.{IsAppended, IsNext, IsTouching, LoadsEither, more_of, payload_of}
 use Rattle.muck_log.specs.declared.fault.LogFault.{LogFault}
 use Rattle.muck_log.specs.declared.fault.LogFault.TheVariants.{NoMemory, DiskFault, Damaged, StoreFull, Stale}
-use Rattle.muck_model.specs.declared.tune.Tune.{Tune}
-use Rattle.spec_admin.specs.Parameters.{IsInRange}
-use Rattle.spec_admin.specs.declared.word.Parameter.TheVariants.{InstrSlice, PreemptUnits, M1Units, M2Units, ProcessLimit, PlayerProcesses, MpiCommands, DumpInterval}
 use Rattle.spec_live.specs.Objects.{Entry, object_in, kind_in}
 use Rattle.spec_live.specs.Consistent.{IsConsistent}
 use Rattle.muck_dumping.specs.inner.Dumps.{Appended}
-
--- What is tuned can be stored.
-
-both : (a b : Bool) → a ≡ true → b ≡ true → (a && b) ≡ true
-both true true p q = refl
-both true false p q = q
-both false b p q = p
-
-between : (n most : ℕ) → (1 ≤ n) × (n ≤ most) → is_between n most ≡ true
-between n most p = both _ _ (le-leb 1 n p.0) (le-leb n most p.1)
-
-pub tune_of : (t : Tune) → IsInRange t → tune_fits t ≡ true
-unfolding tune_fits
-tune_of t p =
-    both _ _ (between _ _ (p InstrSlice)) (both _ _ (between _ _ (p PreemptUnits)) (both _ _ (between _ _ (p M1Units)) (both _ _ (between _ _ (p M2Units))
-    (both _ _ (between _ _ (p ProcessLimit)) (both _ _ (between _ _ (p PlayerProcesses)) (both _ _ (between _ _ (p MpiCommands)) (between _ _ (p DumpInterval))))))))
 
 -- a consistent world has Room Zero and One
 pub two_there : (es : List Entry) → IsConsistent es → 2 ≤ length es
@@ -56,8 +36,8 @@ module _ {D : Type 0} (seen : D → List ℕ) (moment : D → ℕ) (images : D �
       at_second : (t : ℕ) (c : List ℕ) → moment s ≤ t → t ≤ moment s → images s t c → images s (moment s) c
       at_second t c low high left = let same : t ≡ moment s = omega arith in rw (← same) left
 
-      loads : (c d : List ℕ) → images f (moment f) c → images s (moment s) d → stored c d ≡ Ok log.chosen
-      loads c d left_c left_d = ap (λ x. stored x d) (m.first_durable c left_c) ∙ ap (λ y. stored (seen f) y) (m.second_durable d left_d) ∙ m.load
+      loads : (c d : List ℕ) → images f (moment f) c → images s (moment s) d → store_of c d ≡ Ok log.chosen
+      loads c d left_c left_d = ap (λ x. store_of x d) (m.first_durable c left_c) ∙ ap (λ y. store_of (seen f) y) (m.second_durable d left_d) ∙ m.load
 
   stays_as : (log : LogState) (f s f' s' : D) (x : Chosen) → IsMounted seen moment images log f s → f' ≡ f → s' ≡ s → LeavesBoth moment images f s f' s' (LoadsEither log.chosen x)
   stays_as log f s f' s' x m e g =

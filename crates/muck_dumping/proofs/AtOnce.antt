@@ -1,6 +1,7 @@
 -- A dump that is made at once.
 use Rattle.std.proofs.Common.{◌≡◌, ℕ, Bool, true, false, ◌&&◌, List, refl, sym, ap, ◌∙◌, subst, Option, Some, None, Ok, Err}
 use Rattle.std.specs.Prelude.{is_none, ◌||◌, ◌==◌, IsSome}
+use Rattle.muck_laws.proofs.Truths.{and_first}
 use Rattle.muck_model.specs.declared.event.Event.TheVariants.{Cut, Died}
 use Rattle.muck_model.specs.declared.note.Note.{Note}
 use Rattle.muck_log.specs.Store.{LogState, IsMounted}
@@ -15,13 +16,9 @@ use Rattle.muck_dumping.specs.inner.Dumps.{by, Dies, Dumps}
 use Rattle.muck_dumping.specs.inner.Between.{IsPending, IsWritten, EndsAs}
 use Rattle.muck_dumping.proofs.Writing.{unwritten}
 
-first_true : (a b : Bool) → (a && b) ≡ true → a ≡ true
-first_true true b e = refl
-first_true false b e = cc
-
 -- who may begin a dump makes dumps
 pub may_makes : (w : World) (party : ℕ) → may_cut w party ≡ true → makes_dumps party ≡ true
-may_makes w party may = first_true (makes_dumps party) (is_none w.dumps.running) (first_true (makes_dumps party && is_none w.dumps.running) (party == 0 || is_dump_due w) may)
+may_makes w party may = and_first (makes_dumps party) (is_none w.dumps.running) (and_first (makes_dumps party && is_none w.dumps.running) (party == 0 || is_dump_due w) may)
 
 -- What happened.
 

@@ -1,6 +1,8 @@
 -- A dump begins, and is pending until it is written.
-use Rattle.std.proofs.Common.{◌≡◌, ℕ, suc, List, [], ◌∷◌, length, refl, sym, ap, ◌∙◌, subst, arith, Option, Some, None, Result, Ok, Err, IfOk}
+use Rattle.std.proofs.Common.{◌≡◌, ℕ, suc, List, [], ◌∷◌, length, refl, sym, ap, ◌∙◌, subst, arith, Option, Some, None}
 use Rattle.std.specs.Prelude.{slice_get, All}
+use Rattle.muck_laws.proofs.Lists.{length_last}
+use Rattle.muck_laws.proofs.Places.{got_on}
 use Rattle.muck_model.specs.declared.event.Event.TheVariants.{Cut, Died}
 use Rattle.muck_model.specs.declared.note.Note.{Note}
 use Rattle.muck_codec.specs.declared.stored.Batch.{Batch}
@@ -9,7 +11,7 @@ use Rattle.muck_codec.specs.inner.Stored.{IsStored}
 use Rattle.muck_db.specs.inner.Limits.{IsWithinLimits}
 use Rattle.muck_store.specs.inner.Changes.{LeavesOut}
 use Rattle.muck_store.specs.Forms.{persist}
-use Rattle.spec_admin.specs.Parameters.{IsInRange}
+use Rattle.muck_model.specs.Parameters.{IsInRange}
 use Rattle.spec_live.specs.Consistent.{IsConsistent}
 use Rattle.muck_log.specs.File.{after_number}
 use Rattle.muck_log.specs.Store.{LogState, IsMounted}
@@ -17,7 +19,6 @@ use Rattle.spec_events.specs.World.{World}
 use Rattle.spec_events.specs.Histories.{History, now, entered, noted}
 use Rattle.spec_dumps.specs.Survival.{HasNumber, IsSafe}
 use Rattle.spec_dumps.specs.inner.Holding.{Quietly, Keeps, FailedLast}
-use Rattle.spec_dumps.proofs.Lists.{got_on, length_last}
 use Rattle.spec_dumps.proofs.Quiet.{quiet_one, safe_quiet, keeps_quiet, rests_quiet, same_cut, same_number, rises_quiet}
 use Rattle.spec_dumps.proofs.Cutting.{rests_on, cut_noted, number_mounted, number_failed, number_end}
 use Rattle.muck_dumping.specs.declared.parts.Pending.{Pending}
@@ -44,11 +45,6 @@ batch_cut base taken w p batch is over size records storable tuning consistent l
 -- what is said of a batch behind a note
 pub batch_noted : (base : List Stored) (h k : History) (note : Note) (p : Pending) → k ≡ noted h note → IsBatchOfWorld base (now k) p → IsBatchOfWorld base (now h) p
 batch_noted base h k note p is batch = at_note (λ (w : World). IsBatchOfWorld base w p) h k note is batch
-
--- facts of what a call answered
-pub all_ok : {A E : Type 0} (P Q S R : A → Type 0) (r : Result A E) → ((x : A) → P x → Q x → S x → R x) → IfOk r P → IfOk r Q → IfOk r S → IfOk r R
-all_ok P Q S R (Ok x) f p q s = f x p q s
-all_ok P Q S R (Err e) f p q s = tt
 
 module _ {D : Type 0} (seen : D → List ℕ) (moment : D → ℕ) (images : D → ℕ → List ℕ → Type 0) (faults : D → ℕ) (log : Option LogState) (f s : D) (mounted : ℕ) where
   -- Memory was wanted, behind a note or without one.

@@ -1,6 +1,5 @@
 -- A dump ends: it is told as it was.
 use Rattle.std.proofs.Common.{◌≡◌, inl, inr, ℕ, Bool, true, false, List, [], ◌∷◌, refl, sym, ap, ◌∙◌, subst, arith, Option, Some, None, Result, Ok, Err}
-use Rattle.std.specs.Prelude.{OnOk, OnErr}
 use Rattle.muck_model.specs.declared.event.Event.TheVariants.{Cut, Stored, DumpFailed, Died}
 use Rattle.muck_model.specs.declared.note.Note.{Note}
 use Rattle.muck_log.specs.Store.{LogState}
@@ -22,15 +21,6 @@ use Rattle.muck_dumping.specs.inner.Between.{IsWritten, IsLeft, IsFullAtCut, End
 use Rattle.muck_dumping.proofs.Kept.{SameKept, same_stored, same_failed, same_as, persisted_same, payload_same}
 use Rattle.muck_dumping.proofs.Beginning.{died_noted}
 use Rattle.muck_dumping.proofs.Steps.{at_cut_now, now_is}
-
--- what is so by the answer
-pub on_ok : {A E P Q : Type 0} (r : Result A E) → OnOk r P → (P → Q) → OnOk r Q
-on_ok (Ok x) p f = f p
-on_ok (Err e) p f = tt
-
-pub on_err : {A E P Q : Type 0} (r : Result A E) → OnErr r P → (P → Q) → OnErr r Q
-on_err (Ok x) p f = tt
-on_err (Err e) p f = f p
 
 module _ {D : Type 0} (seen : D → List ℕ) (moment : D → ℕ) (images : D → ℕ → List ℕ → Type 0) (faults : D → ℕ) (log : Option LogState) (f s : D) (mounted : ℕ) (h : History) (shown : (x : D) → images x (moment x) (seen x)) where
   abbrev note : Note

@@ -1,11 +1,11 @@
 -- What of a world is stored, and what of it is written.
 use Rattle.std.proofs.Common.{◌≡◌, ℕ, List, refl, sym, ap, subst, ◌∙◌}
-use Rattle.muck_log.specs.World.{World as Kept}
+use Rattle.muck_log.specs.World.{StoredWorld as Kept}
 use Rattle.muck_log.specs.Store.{Chosen, LogState, after_batch}
 use Rattle.muck_log.specs.Append.{more_of, payload_of}
 use Rattle.muck_model.specs.declared.event.Event.TheVariants.{Stored, DumpFailed}
 use Rattle.muck_codec.specs.declared.stored.Batch.{Batch}
-use Rattle.spec_live.specs.Saving.{done, due_again}
+use Rattle.spec_live.specs.Saving.{saving_done, due_again}
 use Rattle.muck_store.specs.Forms.{persist, world_batch}
 use Rattle.muck_store.proofs.Undue.{persist_resaved}
 use Rattle.spec_events.specs.World.{World, askers_of}
@@ -35,8 +35,8 @@ pub record SameKept (w v : World) : Type 0 where
 pub same_stored : (w : World) (party n : ℕ) → SameKept w (effect w (by party (Stored n)))
 unfolding effect
 same_stored w party n =
-    let q = (quiet_told_each (askers_of w.dumps) (dump_stored n)).law (resaved done w.live) in
-    record { objects = ap persist q.objects ∙ persist_resaved done w.live.objects; tune = q.tune }
+    let q = (quiet_told_each (askers_of w.dumps) (dump_stored n)).law (resaved saving_done w.live) in
+    record { objects = ap persist q.objects ∙ persist_resaved saving_done w.live.objects; tune = q.tune }
 
 pub same_failed : (w : World) (party n : ℕ) → SameKept w (effect w (by party (DumpFailed n)))
 unfolding effect

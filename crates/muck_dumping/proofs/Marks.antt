@@ -2,10 +2,13 @@
 use Rattle.std.proofs.Common.{◌≡◌, ℕ, ◌≤◌, Bool, true, false, List, [], ◌∷◌, ◌++◌, length, take, refl, sym, ap, ◌∙◌, subst, arith, Option, Some, None}
 use Rattle.std.specs.Prelude.{if◌then◌else◌}
 use Rattle.std.proofs.lemmas.List.{take-append-le}
+use Rattle.std.proofs.lemmas.Bool.{both_ways}
 use Rattle.muck_model.specs.declared.event.Entry.{Entry}
 use Rattle.muck_model.specs.declared.event.Event.TheVariants.{Cut}
 use Rattle.muck_model.specs.declared.note.Note.{Note}
 use Rattle.muck_model.specs.declared.tune.Tune.{Tune}
+use Rattle.muck_model.specs.Parameters.{tune_fits}
+use Rattle.muck_model.proofs.Parameters.{fits_in_range}
 use Rattle.muck_codec.specs.declared.stored.Stored.{Stored}
 use Rattle.muck_db.specs.inner.Limits.{IsWithinLimits}
 use Rattle.spec_live.specs.declared.saving.Saving.{Saving}
@@ -17,20 +20,20 @@ use Rattle.spec_live.proofs.Resaved.{consistent_resaved}
 use Rattle.muck_store.specs.inner.Changes.{LeavesOut, KeepsUndue}
 use Rattle.muck_store.specs.Forms.{persist}
 use Rattle.muck_store.proofs.Undue.{persist_resaved}
-use Rattle.muck_log.specs.World.{World as Kept, laid, tune_fits}
+use Rattle.muck_log.specs.World.{StoredWorld as Kept, laid}
 use Rattle.muck_log.specs.Store.{LogState, opens_new, target}
 use Rattle.muck_log.specs.Append.{IsNext, base_of, payload_of}
 use Rattle.spec_events.specs.World.{World}
 use Rattle.spec_events.specs.Histories.{History, now, after, entered, noted}
 use Rattle.spec_events.specs.Logged.{is_cut}
-use Rattle.spec_dumps.specs.Fronts.{cut_behind, last_cut, at_cut}
+use Rattle.spec_dumps.specs.Fronts.{front_behind_cut, last_cut, at_cut}
 use Rattle.spec_dumps.specs.inner.Holding.{Quietly}
 use Rattle.spec_dumps.proofs.Fronts.{last_cut_short, at_cut_quiet}
 use Rattle.spec_dumps.proofs.Undue.{kept_undue}
 use Rattle.muck_dumping.specs.declared.parts.Pending.{Pending}
 use Rattle.muck_dumping.specs.inner.Dumps.{by, ending_event}
 use Rattle.muck_dumping.specs.inner.Between.{IsBatchOf, IsBatchOfWorld, IsBatchAtCut, HoldsThese, GoesByMarks, base_in}
-use Rattle.muck_dumping.proofs.Appending.{tune_of, two_there}
+use Rattle.muck_dumping.proofs.Appending.{two_there}
 use Rattle.muck_dumping.proofs.Mounting.{one_log}
 use Rattle.muck_dumping.proofs.Steps.{cut_live}
 
@@ -38,9 +41,6 @@ use Rattle.muck_dumping.proofs.Steps.{cut_live}
 
 none_some : (o : Option LogState) (x : LogState) → o ≡ None → o ≡ Some x → ⊥
 none_some o x e g = cc
-
-pub both_ways : (b : Bool) → b ≡ false → b ≡ true → ⊥
-both_ways b e g = cc
 
 pub unmounted_holds : (marks : Bool) (o : Option LogState) (es : List Object) → o ≡ None → HoldsThese marks o es
 unmounted_holds marks o es none = λ on x is. absurd (none_some o x none is)
@@ -91,7 +91,7 @@ pub appended_holds : (marks : Bool) (o : Option LogState) (log new : LogState) (
     IsNext log new (payload_of log p.batch) → HoldsThese marks (Some new) es
 appended_holds marks o log new p es tune is b covers whole next = λ on x same.
     let left : LeavesOut (base_of log) (persist es) p.batch.records = subst (λ (y : Option LogState). LeavesOut (base_in y) (persist es) p.batch.records) is b.records in
-    let wrote = whole left b.tuning (tune_of tune b.tuned) (two_there es b.consistent) (omega (arith, covers, b.size)) in
+    let wrote = whole left b.tuning (fits_in_range tune b.tuned) (two_there es b.consistent) (omega (arith, covers, b.size)) in
     ap (λ (l : LogState). l.chosen.held.world.objects) (one_log (Some new) x new same refl)
     ∙ ap (λ (w : Kept). w.objects) (same_world new.chosen.held.world (record { objects = persist es; tune = tune }) (sym next.makes ∙ wrote))
 
@@ -100,7 +100,7 @@ appended_holds marks o log new p es tune is b covers whole next = λ on x same.
 last_cut_past : (h : List Entry) (e : Entry) → is_cut e.event ≡ false → last_cut (h ++ e ∷ []) ≡ last_cut h
 unfolding last_cut
 last_cut_past [] e other = ap (λ b. if b then 1 else 0) other
-last_cut_past (x ∷ h) e other = ap (λ n. cut_behind n (is_cut x.event)) (last_cut_past h e other)
+last_cut_past (x ∷ h) e other = ap (λ n. front_behind_cut n (is_cut x.event)) (last_cut_past h e other)
 
 pub at_cut_past : (w : World) (h : List Entry) (e : Entry) → is_cut e.event ≡ false → at_cut w (h ++ e ∷ []) ≡ at_cut w h
 at_cut_past w h e other = ap (λ n. after w (take n (h ++ e ∷ []))) (last_cut_past h e other) ∙ ap (after w) (take-append-le (last_cut h) h (e ∷ []) (last_cut_short h))

@@ -1,9 +1,10 @@
 -- The log is mounted again.
-use Rattle.std.proofs.Common.{◌≡◌, ◌⊎◌, inl, inr, ℕ, ◌≤◌, List, refl, sym, subst, arith, Option, Some, None, Result, Ok, Err, IsSome}
+use Rattle.std.proofs.Common.{◌≡◌, ◌⊎◌, inl, inr, ℕ, ◌≤◌, List, refl, sym, subst, arith, Option, Some, None, IsSome}
 use Rattle.std.specs.Prelude.{is_some, false}
+use Rattle.muck_laws.proofs.Results.{never_ok_err}
 use Rattle.muck_io.specs.Faults.{Rose}
 use Rattle.muck_log.specs.inner.Mount.{IsMountedAs, IsMountFault}
-use Rattle.muck_log.specs.Store.{LogState, LeavesOnly, stored}
+use Rattle.muck_log.specs.Store.{LogState, LeavesOnly, store_of}
 use Rattle.muck_log.specs.declared.fault.LogFault.{LogFault}
 use Rattle.muck_log.specs.declared.fault.LogFault.TheVariants.{NoMemory, DiskFault, Damaged, StoreFull, Stale}
 use Rattle.spec_dumps.specs.Fronts.{Loads, file_most}
@@ -19,9 +20,6 @@ no_log (Some log) e = cc
 
 pub one_log : (o : Option LogState) (x y : LogState) → o ≡ Some x → o ≡ Some y → x ≡ y
 one_log o x y e g = cc
-
-never_both : {A E : Type 0} (r : Result A E) (x : A) (e : E) → r ≡ Ok x → r ≡ Err e → ⊥
-never_both r x e p q = cc
 
 module _ {D : Type 0} (seen : D → List ℕ) (moment : D → ℕ) (images : D → ℕ → List ℕ → Type 0) (faults : D → ℕ) (mounted : ℕ) where
   -- a count rose since the last note
@@ -51,8 +49,8 @@ module _ {D : Type 0} (seen : D → List ℕ) (moment : D → ℕ) (images : D �
   mounting_fault o f s h r left_f left_s NoMemory said = tt
   mounting_fault o f s h r left_f left_s DiskFault said = tt
   mounting_fault o f s h r left_f left_s (Damaged second place) said =
-      let shown : Loads h.start mounted h.entries h.notes r.last (stored (seen f) (seen s)) = shown_loads seen moment images faults o f s mounted h r left_f left_s in
-      never_both (stored (seen f) (seen s)) shown.0 _ shown.1 said
+      let shown : Loads h.start mounted h.entries h.notes r.last (store_of (seen f) (seen s)) = shown_loads seen moment images faults o f s mounted h r left_f left_s in
+      never_ok_err (store_of (seen f) (seen s)) shown.0 _ shown.1 said
   mounting_fault o f s h r left_f left_s (StoreFull end more) said = said
   mounting_fault o f s h r left_f left_s Stale said = said
 

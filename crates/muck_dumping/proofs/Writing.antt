@@ -3,9 +3,11 @@ use Rattle.std.proofs.Common.{◌≡◌, ◌⊎◌, inl, inr, ℕ, ◌≤◌, tr
 use Rattle.std.specs.Prelude.{OnErr}
 use Rattle.muck_io.specs.Faults.{Rose}
 use Rattle.muck_model.specs.declared.tune.Tune.{Tune}
+use Rattle.muck_model.specs.Parameters.{tune_fits}
+use Rattle.muck_model.proofs.Parameters.{fits_in_range}
 use Rattle.spec_live.specs.Objects.{Entry as Object}
 use Rattle.muck_store.specs.inner.Changes.{LeavesOut}
-use Rattle.muck_log.specs.World.{World as Kept, tune_fits}
+use Rattle.muck_log.specs.World.{StoredWorld as Kept}
 use Rattle.muck_log.specs.Store.{Chosen, LogState, LeavesBoth, after_batch}
 use Rattle.muck_log.specs.Append.{LoadsEither, base_of, more_of, payload_of}
 use Rattle.muck_log.specs.declared.fault.LogFault.{LogFault}
@@ -22,7 +24,7 @@ use Rattle.spec_dumps.proofs.Covering.{front_covered}
 use Rattle.muck_dumping.specs.declared.parts.Pending.{Pending}
 use Rattle.muck_dumping.specs.inner.Dumps.{Appended, IsAnswer}
 use Rattle.muck_dumping.specs.inner.Between.{IsPending, IsLeft, IsWritten, IsFullAtCut}
-use Rattle.muck_dumping.proofs.Appending.{tune_of, two_there}
+use Rattle.muck_dumping.proofs.Appending.{two_there}
 use Rattle.muck_dumping.proofs.Kept.{payload_is, more_is, dumped_is}
 
 same_kept : (x y : Kept) → Some x ≡ Some y → x ≡ y
@@ -133,14 +135,14 @@ module _ {D : Type 0} (seen : D → List ℕ) (moment : D → ℕ) (images : D �
   written_by shown (Some log) v wrote stale none first_later second_later cause =
       let w : World = at_cut h.start h.entries in
       written seen moment images faults mounted h p log f s f' s' v left r shown
-      (wrote log w.live.objects w.live.board.tune refl v.batch.records v.batch.tuning v.batch.size (tune_of w.live.board.tune v.batch.tuned) (two_there w.live.objects v.batch.consistent) (covered log v)) first_later second_later cause
+      (wrote log w.live.objects w.live.board.tune refl v.batch.records v.batch.tuning v.batch.size (fits_in_range w.live.board.tune v.batch.tuned) (two_there w.live.objects v.batch.consistent) (covered log v)) first_later second_later cause
 
   -- `Stale` says that no log was mounted
   pub stale_unmounted : (o : Option LogState) → IsPending seen moment images faults o f s mounted h p → Wrote o → r ≡ Err Stale → o ≡ None
   stale_unmounted None v wrote is = refl
   stale_unmounted (Some log) v wrote is =
       let w : World = at_cut h.start h.entries in
-      let a = wrote log w.live.objects w.live.board.tune refl v.batch.records v.batch.tuning v.batch.size (tune_of w.live.board.tune v.batch.tuned) (two_there w.live.objects v.batch.consistent) (covered log v) in
+      let a = wrote log w.live.objects w.live.board.tune refl v.batch.records v.batch.tuning v.batch.size (fits_in_range w.live.board.tune v.batch.tuned) (two_there w.live.objects v.batch.consistent) (covered log v) in
       absurd (stale_never r is a.answer)
     where
       stale_never : (x : Result (Unit {0}) LogFault) → x ≡ Err Stale → IsAnswer seen moment images (payload_of log (world_batch (at_cut h.start h.entries).live.objects (at_cut h.start h.entries).live.board.tune)) (persisted (at_cut h.start h.entries)) log left f' s' x → ⊥

@@ -4,7 +4,7 @@ ghost use Rattle.muck_codec.specs.inner.Stored.{IsStored};
 ghost use Rattle.muck_io.specs.Faults.{Rose};
 ghost use Rattle.muck_log.specs.Store.{LogState, IsMounted};
 ghost use Rattle.muck_model.specs.declared.tune.Tune.{Tune};
-ghost use Rattle.muck_log.specs.World.{tune_fits};
+ghost use Rattle.muck_model.specs.Parameters.{tune_fits};
 ghost use Rattle.muck_log.specs.Append.{base_of, payload_of};
 ghost use Rattle.muck_store.specs.inner.Changes.{LeavesOut};
 ghost use Rattle.muck_store.specs.Forms.{persist, world_batch};

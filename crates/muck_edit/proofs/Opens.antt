@@ -1,5 +1,6 @@
 -- An editor stays open, and what a line of it does is open to its actor.
-use Rattle.std.proofs.Common.{◌≡◌, ℕ, zero, suc, ◌+◌, ◌-◌, ◌<◌, ◌≤◌, ◌==◌, Bool, true, false, ◌&&◌, cond, nat_lt, nat_le, List, ◌∷◌, ◌++◌, length, take, drop, codes, bytes_eq, Option, Some, None, Result, Ok, Err, IfSome, OnOk, refl, sym, ◌∙◌, ap, subst, slice_get, arith, length-append, length-take-le, length-drop}
+use Rattle.std.proofs.Common.{◌≡◌, ℕ, zero, suc, ◌+◌, ◌-◌, ◌<◌, ◌≤◌, ◌==◌, Bool, true, false, ◌&&◌, cond, nat_lt, nat_le, List, ◌++◌, length, take, drop, codes, bytes_eq, Option, Some, None, Result, Ok, Err, IfSome, OnOk, refl, sym, ◌∙◌, ap, subst, slice_get, arith}
+use Rattle.muck_laws.proofs.Parts.{inserted_few, removed_few}
 use Rattle.spec_live.proofs.Keeping.{keeps_followed}
 use Rattle.std.proofs.lemmas.Bool.{ltb-true, leb-true, ltb-false}
 use Rattle.std.specs.Option.{option_map, option_and_then, option_map_or}
@@ -12,12 +13,12 @@ use Rattle.muck_model.specs.Decimal.{is_decimal, value_from, decimal_of}
 use Rattle.spec_live.specs.declared.object.Object.{Object}
 use Rattle.spec_live.specs.Objects.{Entry, dbref_of, is_garbage, is_program, object_in, object_at, number_in}
 use Rattle.spec_live.specs.Setting.{with_lines, lines_set}
-use Rattle.spec_live.specs.Lives.{Live, Change, followed, reading, either, unchanged, tell}
+use Rattle.spec_live.specs.Lives.{Live, Change, change_followed, reading, either, unchanged, tell}
 use Rattle.spec_live.proofs.Lists.{get_changed_same}
 use Rattle.spec_rights.specs.declared.act.Actor.{Actor}
 use Rattle.spec_rights.specs.declared.act.Act.TheVariants.{Edit}
 use Rattle.spec_rights.specs.Verdict.{verdict}
-use Rattle.spec_rights.specs.Asking.{answered, asked, refused}
+use Rattle.spec_rights.specs.Asking.{denial_answered, asked, refused}
 use Rattle.spec_rights.specs.Changing.{lines_kept}
 use Rattle.spec_rights.specs.Licence.{Licensed, editing}
 use Rattle.spec_rights.proofs.Licences.{Quiet, quiet_order}
@@ -28,11 +29,11 @@ use Rattle.spec_commands.specs.declared.edit.EditCommand.TheVariants.{Insert, De
 use Rattle.spec_commands.specs.declared.edit.EditStep.{EditStep}
 use Rattle.spec_commands.specs.declared.edit.EditStep.TheVariants.{Stay, Compile as ToCompile, Left}
 use Rattle.spec_commands.specs.Texts.{first_word, other_words, trimmed, is_alike}
-use Rattle.spec_commands.specs.Finding.{where_so, is_so}
-use Rattle.spec_commands.specs.Going.{is_program_at}
+use Rattle.spec_commands.specs.Finding.{where_so, is_object_so}
+use Rattle.spec_commands.specs.Going.{is_program_there}
 use Rattle.spec_commands.specs.Programming.{source_of}
 use Rattle.spec_commands.specs.Reading.{is_empty}
-use Rattle.spec_commands.specs.Editing.{entering, exiting, deleted_reply, editor_exited, illegal, line_number, plain_command, line_command, lines_command, one_line, two_lines, edit_command, lines_most, stepped, with_line, line_inserted, same_lines, source_kept, edit_done, edit_some, edited_at, edited, IsOpen}
+use Rattle.spec_commands.specs.Editing.{entering_reply, exiting, deleted_reply, editor_exited, illegal, line_number, plain_command, line_command, lines_command, one_line, two_lines, edit_command, lines_most, editing_stepped, with_line, line_inserted, same_lines, source_kept, edit_done, edit_some, edited_at, edited_by_line, IsOpen}
 use Rattle.spec_commands.proofs.Programmed.{quiet_lines_shown}
 use Rattle.spec_commands.proofs.Edited.{edited_proper}
 use Rattle.muck_perm.specs.declared.guard.Guard.{Guard}
@@ -62,8 +63,8 @@ kept_at m lines es h =
     by_entry None h = h
     by_entry (Some e) h = by_kind e (is_garbage e.object.kind) h
 
-kept_there : (x : Dbref) (lines : List (List ℕ)) (w : Live) → is_program_at x w ≡ true → is_program_at x (lines_kept x lines w) ≡ true
-unfolding is_so lines_kept
+kept_there : (x : Dbref) (lines : List (List ℕ)) (w : Live) → is_program_there x w ≡ true → is_program_there x (lines_kept x lines w) ≡ true
+unfolding is_object_so lines_kept
 kept_there x lines w h = by_number (number_in w.objects x) refl
   where
     by_number : (q : Option ℕ) → number_in w.objects x ≡ q → is_there x (option_map_or (λ n. lines_set lines n w.objects) q w.objects) ≡ true
@@ -72,8 +73,8 @@ kept_there x lines w h = by_number (number_in w.objects x) refl
         let P : Dbref → Type 0 = λ y. is_there y w.objects ≡ true → is_there y (lines_set lines m w.objects) ≡ true in
         subst P (sym (number_is w.objects x m e)) (kept_at m lines w.objects) h
 
-quiet_there : (x : Dbref) (f : Change) → Quiet f → (w : Live) → is_program_at x w ≡ true → is_program_at x (f w) ≡ true
-unfolding is_so
+quiet_there : (x : Dbref) (f : Change) → Quiet f → (w : Live) → is_program_there x w ≡ true → is_program_there x (f w) ≡ true
+unfolding is_object_so
 quiet_there x f q w h = let P : List Entry → Type 0 = λ es. is_there x es ≡ true in subst P (sym (q.law w).objects) h
 
 -- The places of commands.
@@ -176,14 +177,11 @@ kept_open s lines w h = by_case (same_lines (source_of s.program w) lines)
     by_case true = h
     by_case false = record { program = kept_there s.program lines w h.program; few = h.few; within = h.within }
 
-inserted_few : (at : ℕ) (line : List ℕ) (lines : List (List ℕ)) → at ≤ length lines → length (take at lines ++ line ∷ drop at lines) ≡ length lines + 1
-inserted_few at line lines h = rw (length-append (take at lines) (line ∷ drop at lines), length-take-le at lines h, length-drop at lines) (omega arith)
-
 inserted_after : (d : ℕ) (s : EditState) (at : ℕ) (line : List ℕ) (w : Live) → at ≤ length s.lines → IsOpen s w → IsOpenAfter (line_inserted d s at line w)
-unfolding line_inserted stepped unchanged
+unfolding line_inserted editing_stepped unchanged
 inserted_after d s at line w p h = by_cases (bytes_eq line (codes ".")) (nat_lt (length s.lines) lines_most) refl
   where
-    by_cases : (b c : Bool) → nat_lt (length s.lines) lines_most ≡ c → IsOpenAfter (cond b (stepped Stay (record s { inserting = None }) (tell d exiting)) (cond c (stepped Stay (with_line at line s) unchanged) (stepped Stay s (tell d illegal))) w)
+    by_cases : (b c : Bool) → nat_lt (length s.lines) lines_most ≡ c → IsOpenAfter (cond b (editing_stepped Stay (record s { inserting = None }) (tell d exiting)) (cond c (editing_stepped Stay (with_line at line s) unchanged) (editing_stepped Stay s (tell d illegal))) w)
     by_cases true c e = record { program = quiet_there s.program (tell d exiting) (quiet_tell d exiting) w h.program; few = h.few; within = tt }
     by_cases false true e =
         let below : length s.lines < lines_most = ltb-true (length s.lines) lines_most e in
@@ -191,14 +189,9 @@ inserted_after d s at line w p h = by_cases (bytes_eq line (codes ".")) (nat_lt 
         record { program = h.program; few = rw (inserted_few at line s.lines p) room; within = rw (inserted_few at line s.lines p) (omega arith) }
     by_cases false false e = still_open s (tell d illegal) (quiet_tell d illegal) w h
 
-removed_few : (from to : ℕ) (lines : List (List ℕ)) → from ≤ to → to ≤ length lines → length (take from lines ++ drop to lines) ≤ length lines
-removed_few from to lines p q =
-    let front : from ≤ length lines = omega arith in
-    rw (length-append (take from lines) (drop to lines), length-take-le from lines front, length-drop to lines) (omega arith)
-
 done_after : (d : ℕ) (a : Actor) (s : EditState) (command : EditCommand) (w : Live) → s.inserting ≡ None → IsWithin (length s.lines) command → IsOpen s w → IsOpenAfter (edit_done d a s command w)
-unfolding edit_done stepped asked followed
-done_after d a s (Insert at) w e p h = record { program = quiet_there s.program (tell d entering) (quiet_tell d entering) w h.program; few = h.few; within = p }
+unfolding edit_done editing_stepped asked change_followed
+done_after d a s (Insert at) w e p h = record { program = quiet_there s.program (tell d entering_reply) (quiet_tell d entering_reply) w h.program; few = h.few; within = p }
 done_after d a s (Delete from to) w e p h =
     let P : Option ℕ → Type 0 = λ q. IfSome q (λ at. at ≤ length (take from s.lines ++ drop to s.lines)) in
     let fewer : length (take from s.lines ++ drop to s.lines) ≤ length s.lines = removed_few from to s.lines p.0 p.1 in
@@ -207,22 +200,22 @@ done_after d a s (Delete from to) w e p h =
 done_after d a s (Show from to) w e p h = still_open s _ (quiet_lines_shown d _) w h
 done_after d a s Compile w e p h = by_verdict (verdict w.objects a (Edit s.program))
   where
-    by_verdict : (v : Option Denial) → IsOpenAfter (answered v (λ denial. stepped Stay s (refused d denial)) (stepped ToCompile s (source_kept s.program s.lines)) w)
+    by_verdict : (v : Option Denial) → IsOpenAfter (denial_answered v (λ denial. editing_stepped Stay s (refused d denial)) (editing_stepped ToCompile s (source_kept s.program s.lines)) w)
     by_verdict None = kept_open s s.lines w h
     by_verdict (Some denial) = still_open s (refused d denial) (quiet_refused d denial) w h
 done_after d a s Quit w e p h = by_verdict (verdict w.objects a (Edit s.program))
   where
-    by_verdict : (v : Option Denial) → IsOpenAfter (answered v (λ denial. stepped Left s (followed (refused d denial) (tell d editor_exited))) (stepped Left s (followed (source_kept s.program s.lines) (tell d editor_exited))) w)
+    by_verdict : (v : Option Denial) → IsOpenAfter (denial_answered v (λ denial. editing_stepped Left s (change_followed (refused d denial) (tell d editor_exited))) (editing_stepped Left s (change_followed (source_kept s.program s.lines) (tell d editor_exited))) w)
     by_verdict None = still_open s (tell d editor_exited) (quiet_tell d editor_exited) (source_kept s.program s.lines w) (kept_open s s.lines w h)
     by_verdict (Some denial) = still_open s _ (keeps_followed _ _ quiet_order (quiet_refused d denial) (quiet_tell d editor_exited)) w h
 
 some_after : (d : ℕ) (a : Actor) (s : EditState) (command : Option EditCommand) (w : Live) → s.inserting ≡ None → IfSome command (IsWithin (length s.lines)) → IsOpen s w → IsOpenAfter (edit_some d a s command w)
-unfolding stepped
+unfolding editing_stepped
 some_after d a s None w e p h = still_open s (tell d illegal) (quiet_tell d illegal) w h
 some_after d a s (Some command) w e p h = done_after d a s command w e p h
 
-open_after : (d : ℕ) (a : Actor) (s : EditState) (line : List ℕ) (w : Live) → IsOpen s w → IsOpenAfter (edited d a s line w)
-unfolding edited
+open_after : (d : ℕ) (a : Actor) (s : EditState) (line : List ℕ) (w : Live) → IsOpen s w → IsOpenAfter (edited_by_line d a s line w)
+unfolding edited_by_line
 open_after d a s line w h = by_place s.inserting refl
   where
     by_place : (q : Option ℕ) → s.inserting ≡ q → IsOpenAfter (edited_at d a s line q w)
@@ -231,14 +224,14 @@ open_after d a s line w h = by_place s.inserting refl
 
 -- What a call of the editor keeps.
 
-pub edits_open : (d : ℕ) (line : List ℕ) (s state : EditState) (old new : Guard) (result : Result EditStep NoMemory) → IsOpen s (world_of old) → Edits (edited d old.actor s line) old new state result → OnOk result (IsOpen state (world_of new))
+pub edits_open : (d : ℕ) (line : List ℕ) (s state : EditState) (old new : Guard) (result : Result EditStep NoMemory) → IsOpen s (world_of old) → Edits (edited_by_line d old.actor s line) old new state result → OnOk result (IsOpen state (world_of new))
 edits_open d line s state old new (Ok step) h p =
     let P : Live → Type 0 = λ w. IsOpen state w in
-    let Q : EditState → Type 0 = λ t. IsOpen t (edited d old.actor s line (world_of old)).0 in
+    let Q : EditState → Type 0 = λ t. IsOpen t (edited_by_line d old.actor s line (world_of old)).0 in
     subst P (sym p.0.0) (subst Q (sym p.1) (open_after d old.actor s line (world_of old) h))
 edits_open d line s state old new (Err e) h p = tt
 
-pub edits_licensed : (d : ℕ) (line : List ℕ) (s state : EditState) (old new : Guard) (result : Result EditStep NoMemory) → Edits (edited d old.actor s line) old new state result →
+pub edits_licensed : (d : ℕ) (line : List ℕ) (s state : EditState) (old new : Guard) (result : Result EditStep NoMemory) → Edits (edited_by_line d old.actor s line) old new state result →
     OnOk result (Licensed old.actor (editing s.program) (world_of old) (world_of new))
 edits_licensed d line s state old new (Ok step) p =
     let P : Live → Type 0 = λ w. Licensed old.actor (editing s.program) (world_of old) w in

@@ -10,8 +10,8 @@ use Rattle.spec_live.specs.declared.fault.DbFault.TheVariants.{NoSuchObject, Wro
 use Rattle.spec_live.specs.Objects.{Entry, is_program, kind_in, object_in, object_at, number_in}
 use Rattle.spec_live.specs.Setting.{checked, lines_check}
 use Rattle.spec_rights.specs.Changing.{lines_kept}
-use Rattle.spec_commands.specs.Finding.{is_so}
-use Rattle.spec_commands.specs.Going.{is_program_at}
+use Rattle.spec_commands.specs.Finding.{is_object_so}
+use Rattle.spec_commands.specs.Going.{is_program_there}
 use Rattle.muck_perm.specs.declared.guard.Guard.{Guard}
 use Rattle.muck_perm.specs.inner.Guards.{Done, Makes, objects_of, world_of}
 
@@ -33,9 +33,9 @@ checked_there x es h = by_number (number_in es x) h
     by_number None h = absurd (cc h)
     by_number (Some n) h = by_object n (object_in es n) h
 
-pub makes_there : (x : Dbref) (lines : List (List ℕ)) (old new : Guard) (result : Result (Unit {0}) DbFault) → is_program_at x (world_of old) ≡ true →
+pub makes_there : (x : Dbref) (lines : List (List ℕ)) (old new : Guard) (result : Result (Unit {0}) DbFault) → is_program_there x (world_of old) ≡ true →
     Makes (lines_kept x lines) (lines_check x (objects_of old)) old new result → (result ≡ Ok tt) × Done (lines_kept x lines) old new
-unfolding is_so
+unfolding is_object_so
 makes_there x lines old new result h m =
     let P : Result ℕ DbFault → Type 0 = λ check. Makes (lines_kept x lines) check old new result in
     subst P (checked_there x (objects_of old) h) m

@@ -1,7 +1,7 @@
 // Whether an editor is open.
 ghost use Rattle.std.specs.Prelude.{◌≡◌};
 ghost use Rattle.muck_perm.specs.inner.Guards.{world_of};
-ghost use Rattle.spec_commands.specs.Editing.{is_between, is_open};
+ghost use Rattle.spec_commands.specs.Editing.{inserts_between, is_editor_open};
 
 use cmd_common::is_program;
 use muck_model::{EditState, LINES_MOST};
@@ -9,7 +9,7 @@ use muck_perm::Guard;
 
 // Whether lines are inserted between the lines, where they are.
 fn is_between(state: &EditState) -> bool
-    ensures { result ≡ is_between state.now }
+    ensures { result ≡ inserts_between state.now }
 {
     match state.inserting {
         Some(at) => at as usize <= state.lines.len(),
@@ -19,7 +19,7 @@ fn is_between(state: &EditState) -> bool
 
 /// Whether an editor is open: its program is there, its lines aren't too many, and lines are inserted between them.
 pub fn is_open(guard: &Guard, state: &EditState) -> bool
-    ensures { result ≡ is_open state.now (world_of guard.now) }
+    ensures { result ≡ is_editor_open state.now (world_of guard.now) }
 {
     is_program(guard, state.program) && (state.lines.len() <= LINES_MOST && is_between(state))
 }

@@ -1,7 +1,7 @@
 // A line of the editor.
 ghost use Rattle.std.specs.Prelude.{◌≡◌, ◌≤◌, length, slice_range, OnOk};
 ghost use Rattle.spec_rights.specs.Licence.{Licensed, editing};
-ghost use Rattle.spec_commands.specs.Editing.{IsOpen, line_inserted, edit_done, edited};
+ghost use Rattle.spec_commands.specs.Editing.{IsOpen, line_inserted, edit_done, edited_by_line};
 ghost use Rattle.muck_perm.specs.inner.Guards.{world_of};
 ghost use Rattle.muck_edit.specs.inner.Edits.{Edits, IsWithin};
 
@@ -21,7 +21,7 @@ pub struct Editor {
 }
 
 // A line while lines are being inserted at a place.
-#[tactic(auto, unfolding(spec_commands::specs::Editing::line_inserted, spec_commands::specs::Editing::stepped, spec_commands::specs::Editing::exiting, spec_live::specs::Lives::unchanged))]
+#[tactic(auto, unfolding(spec_commands::specs::Editing::line_inserted, spec_commands::specs::Editing::editing_stepped, spec_commands::specs::Editing::exiting, spec_live::specs::Lives::unchanged))]
 fn insert(
     state: &mut EditState,
     guard: &mut Guard,
@@ -47,7 +47,7 @@ fn insert(
 }
 
 // Does a command.
-#[tactic(auto, unfolding(spec_commands::specs::Editing::edit_done, spec_commands::specs::Editing::stepped, spec_commands::specs::Editing::entering, spec_commands::specs::Editing::deleted_reply))]
+#[tactic(auto, unfolding(spec_commands::specs::Editing::edit_done, spec_commands::specs::Editing::editing_stepped, spec_commands::specs::Editing::entering_reply, spec_commands::specs::Editing::deleted_reply))]
 fn obey(
     state: &mut EditState,
     guard: &mut Guard,
@@ -82,7 +82,7 @@ fn obey(
     }
 }
 
-#[tactic(auto, unfolding(spec_commands::specs::Editing::edited, spec_commands::specs::Editing::stepped))]
+#[tactic(auto, unfolding(spec_commands::specs::Editing::edited_by_line, spec_commands::specs::Editing::editing_stepped))]
 fn take_line(
     state: &mut EditState,
     guard: &mut Guard,
@@ -90,7 +90,7 @@ fn take_line(
     line: &Line,
 ) -> Result<EditStep, NoMemory>
     requires { IsOpen state.old (world_of guard.old) }
-    ensures { Edits (edited d guard.old.actor state.old line.now) guard.old guard.new state.new result }
+    ensures { Edits (edited_by_line d guard.old.actor state.old line.now) guard.old guard.new state.new result }
 {
     if let Some(at) = state.inserting {
         return insert(state, guard, d, at, line);
@@ -110,7 +110,7 @@ impl Editor {
     #[tactic(auto, using(crate::proofs::Opens::edits_open, crate::proofs::Opens::edits_licensed))]
     pub fn line(&mut self, guard: &mut Guard, d: u32, line: &Line) -> Result<EditStep, NoMemory>
         requires { IsOpen self.old.state (world_of guard.old) }
-        ensures edits { Edits (edited d guard.old.actor self.old.state line.now) guard.old guard.new self.new.state result }
+        ensures edits { Edits (edited_by_line d guard.old.actor self.old.state line.now) guard.old guard.new self.new.state result }
         ensures open { OnOk result (IsOpen self.new.state (world_of guard.new)) }
         ensures licensed { OnOk result (Licensed guard.old.actor (editing self.old.state.program) (world_of guard.old) (world_of guard.new)) }
     {

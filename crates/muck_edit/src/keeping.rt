@@ -53,7 +53,7 @@ fn keep(guard: &mut Guard, pass: Pass, state: &EditState) -> Result<(), NoMemory
 }
 
 /// `c`: keeps the source, which is then to be compiled.
-#[tactic(auto, unfolding(spec_commands::specs::Editing::edit_done, spec_commands::specs::Editing::stepped, spec_rights::specs::Asking::asked))]
+#[tactic(auto, unfolding(spec_commands::specs::Editing::edit_done, spec_commands::specs::Editing::editing_stepped, spec_rights::specs::Asking::asked))]
 pub fn compile(guard: &mut Guard, d: u32, state: &EditState) -> Result<EditStep, NoMemory>
     requires { IsOpen state.now (world_of guard.old) }
     ensures { Edits (edit_done d guard.old.actor state.now EditCommand.Compile) guard.old guard.new state.now result }
@@ -75,7 +75,7 @@ pub fn compile(guard: &mut Guard, d: u32, state: &EditState) -> Result<EditStep,
 }
 
 /// `q`: keeps the source, where that is allowed, and leaves.
-#[tactic(auto, unfolding(spec_commands::specs::Editing::edit_done, spec_commands::specs::Editing::stepped, spec_rights::specs::Asking::asked, spec_live::specs::Lives::followed))]
+#[tactic(auto, unfolding(spec_commands::specs::Editing::edit_done, spec_commands::specs::Editing::editing_stepped, spec_rights::specs::Asking::asked, spec_live::specs::Lives::change_followed))]
 pub fn quit(guard: &mut Guard, d: u32, state: &EditState) -> Result<EditStep, NoMemory>
     requires { IsOpen state.now (world_of guard.old) }
     ensures { Edits (edit_done d guard.old.actor state.now EditCommand.Quit) guard.old guard.new state.now result }

@@ -1,5 +1,5 @@
 -- The bodies of a store are the batches that a mirror takes.
-use Rattle.std.proofs.Common.{◌≡◌, inl, inr, ℕ, zero, suc, ◌+◌, ◌-◌, ◌<◌, ◌≤◌, ◌^◌, Bool, true, false, eqb, leb, ltb, List, [], ◌∷◌, ◌++◌, length, take, drop, get_or, Option, Some, None, Result, Ok, Err, refl, sym, ◌∙◌, ap, subst, arith, length-take, length-drop, take-append-drop, append_assoc}
+use Rattle.std.proofs.Common.{◌≡◌, inl, inr, ℕ, zero, suc, ◌+◌, ◌-◌, ◌<◌, ◌≤◌, ◌^◌, Bool, true, false, eqb, leb, ltb, List, [], ◌∷◌, ◌++◌, length, take, drop, Option, Some, None, Result, Ok, Err, refl, sym, ◌∙◌, ap, subst, arith, length-take, length-drop, take-append-drop, append_assoc}
 use Rattle.std.specs.Prelude.{if◌then◌else◌, codes, bytes_eq, ◌&&◌, ◌||◌, option_and_then}
 use Rattle.std.specs.Option.{option_map_or}
 use Rattle.std.specs.Int.{w64, to_be_bytes, from_be_bytes}
@@ -8,25 +8,22 @@ use Rattle.std.proofs.lemmas.Bool.{cond-true, cond-false, eq-eqb, and_parts, eqb
 use Rattle.std.proofs.lemmas.Nat.{be_bytes_8}
 use Rattle.std.proofs.lemmas.Slice.Eq.{bytes_eq-Decides}
 use Rattle.std.proofs.lemmas.Option.{same_Some, none-some}
+use Rattle.muck_laws.proofs.Options.{and_then_some, cond_some, map_some}
+use Rattle.muck_laws.proofs.Places.{past}
+use Rattle.muck_laws.proofs.Truths.{either_true}
 use Rattle.muck_codec.specs.declared.stored.Batch.{Batch}
 use Rattle.muck_codec.specs.Batches.{whole_batch}
 use Rattle.muck_codec.specs.Reading.{number_at, ◌>>=◌}
 use Rattle.muck_log.specs.Body.{Body, body_of, magic}
-use Rattle.muck_log.specs.World.{World, start, laid, laid_over, batch_if}
+use Rattle.muck_log.specs.World.{StoredWorld, start, laid, laid_over, batch_if}
 use Rattle.muck_log.specs.File.{Held, join, follows, after_number, begin}
-use Rattle.muck_log.proofs.Fronts.{cond_some, map_some, and_then_some}
-use Rattle.muck_mirror.specs.Bodies.{literal_at, version_at, head_at, Body as Read, placed, body_in}
+use Rattle.muck_mirror.specs.Bodies.{literal_at, version_at, body_head_at, FedBody as Read, fault_placed, fed_body_in}
 use Rattle.muck_mirror.specs.Laying.{laid_in}
 use Rattle.muck_mirror.specs.Fronts.{AreBatches, laid_body, or_else_world, front_world}
-use Rattle.muck_bodies.specs.Bodies.{bodies, number_of, first_number, Lead}
+use Rattle.muck_bodies.specs.Bodies.{bodies_up_to, body_number, first_number, Lead}
 use Rattle.muck_follow.specs.Fronts.{AreBytes}
 
 -- Parts of bytes are bytes.
-
-past : (l : List ℕ) (i d : ℕ) → length l ≤ i → get_or l i d ≡ d
-past [] i d le = refl
-past (x ∷ l) zero d le = absurd (omega (arith, le))
-past (x ∷ l) (suc i) d le = past l i d (omega (arith, le))
 
 pub drop_bytes : (n : ℕ) (l : List ℕ) → AreBytes l → AreBytes (drop n l)
 drop_bytes n l are i = subst (λ k. k < 256) (sym (get_or-drop n l i 0)) (are (n + i))
@@ -73,8 +70,8 @@ parses g bytes b is one =
     decided : (xs ys : List ℕ) → bytes_eq xs ys ≡ true → xs ≡ ys
     decided xs ys e = (bytes_eq-Decides xs ys).0 e
 
-head_is : (g : ℕ) (bytes : List ℕ) (b : Body) → AreBytes bytes → Parses g bytes b → head_at g bytes ≡ Ok (record { version = 1; number = b.number }, b.payload)
-unfolding head_at version_at
+head_is : (g : ℕ) (bytes : List ℕ) (b : Body) → AreBytes bytes → Parses g bytes b → body_head_at g bytes ≡ Ok (record { version = 1; number = b.number }, b.payload)
+unfolding body_head_at version_at
 head_is g bytes b are p =
     let word : to_be_bytes w64 g ≡ take 8 (drop 5 bytes) =
     be_bytes_8 (take 8 (drop 5 bytes)) g (omega (arith, length-take 8 (drop 5 bytes), length-drop 5 bytes, p.long)) (take_bytes 8 (drop 5 bytes) (drop_bytes 5 bytes are)) (sym p.generation) in
@@ -94,29 +91,25 @@ head_is g bytes b are p =
 read_of : Body → Read
 read_of b = record { version = 1; number = b.number; payload = b.payload }
 
-body_is : (g : ℕ) (bytes : List ℕ) (b : Body) (batch : Batch) → AreBytes bytes → Parses g bytes b → whole_batch 1 b.payload ≡ Ok batch → body_in g bytes ≡ Ok (read_of b)
-unfolding body_in read_of
+body_is : (g : ℕ) (bytes : List ℕ) (b : Body) (batch : Batch) → AreBytes bytes → Parses g bytes b → whole_batch 1 b.payload ≡ Ok batch → fed_body_in g bytes ≡ Ok (read_of b)
+unfolding fed_body_in read_of
 body_is g bytes b batch are p whole =
-    ap (λ r. placed 0 bytes r >>= λ h. placed (length bytes - length h.1) h.1 (whole_batch h.0.version h.1) >>= λ k. Ok (record { version = h.0.version; number = h.0.number; payload = h.1 })) (head_is g bytes b are p)
-    ∙ ap (λ r. placed (length bytes - length b.payload) b.payload r >>= λ k. Ok (record { version = 1; number = b.number; payload = b.payload })) whole
+    ap (λ r. fault_placed 0 bytes r >>= λ h. fault_placed (length bytes - length h.1) h.1 (whole_batch h.0.version h.1) >>= λ k. Ok (record { version = h.0.version; number = h.0.number; payload = h.1 })) (head_is g bytes b are p)
+    ∙ ap (λ r. fault_placed (length bytes - length b.payload) b.payload r >>= λ k. Ok (record { version = 1; number = b.number; payload = b.payload })) whole
 
 -- What joins is a batch.
 
 pub record Joined (g : ℕ) (held next : Held) (bytes : List ℕ) : Type 0 where
   pub body : Read
-  pub reads : body_in g bytes ≡ Ok body
-  pub number : body.number ≡ number_of bytes
+  pub reads : fed_body_in g bytes ≡ Ok body
+  pub number : body.number ≡ body_number bytes
   pub follows : 0 < held.count → body.number ≡ after_number held.number
   pub lays : laid_in body.version body.payload held.world ≡ Some next.world
   pub generation : next.generation ≡ g
   pub numbered : next.number ≡ body.number
   pub count : 0 < next.count
 
-either_true : (a b : Bool) → (a || b) ≡ true → a ≡ false → b ≡ true
-either_true true b e f = cc
-either_true false b e f = e
-
-whole_of : (payload : List ℕ) (w v : World) → laid payload w ≡ Some v → (batch : Batch) × (whole_batch 1 payload ≡ Ok batch)
+whole_of : (payload : List ℕ) (w v : StoredWorld) → laid payload w ≡ Some v → (batch : Batch) × (whole_batch 1 payload ≡ Ok batch)
 unfolding laid
 whole_of payload w v is = by (whole_batch 1 payload) refl is
   where
@@ -145,15 +138,15 @@ joined place held next bytes are is =
     }
 
 -- a row of batches and the world that they make
-pub record Row (g number : ℕ) (w : World) (bs : List (List ℕ)) (v : World) : Type 0 where
+pub record Row (g number : ℕ) (w : StoredWorld) (bs : List (List ℕ)) (v : StoredWorld) : Type 0 where
   pub batches : AreBatches g number w bs
   pub whole : front_world g (length bs) bs w ≡ v
 
-row_nothing : (g number : ℕ) (w v : World) → v ≡ w → Row g number w [] v
+row_nothing : (g number : ℕ) (w v : StoredWorld) → v ≡ w → Row g number w [] v
 unfolding front_world
 row_nothing g number w v e = record { batches = tt; whole = sym e }
 
-row_more : (g number : ℕ) (w u v : World) (bytes : List ℕ) (bs : List (List ℕ)) (b : Read) → body_in g bytes ≡ Ok b → b.number ≡ number → laid_in b.version b.payload w ≡ Some u → Row g (after_number number) u bs v → Row g number w (bytes ∷ bs) v
+row_more : (g number : ℕ) (w u v : StoredWorld) (bytes : List ℕ) (bs : List (List ℕ)) (b : Read) → fed_body_in g bytes ≡ Ok b → b.number ≡ number → laid_in b.version b.payload w ≡ Some u → Row g (after_number number) u bs v → Row g number w (bytes ∷ bs) v
 unfolding front_world
 row_more g number w u v bytes bs b reads numbered lays row = record {
   batches = (u, record { body = b; reads = reads; numbered = numbered; lays = lays }, row.batches);
@@ -165,7 +158,7 @@ ties g held to [] are some gen lead = row_nothing g (after_number held.number) h
 ties g held to (b ∷ bs) (are, others) some gen lead =
     let j = joined lead.0 held lead.1 b are lead.2 in
     let more = ties g lead.1 to bs others j.count (j.generation ∙ gen) lead.3 in
-    row_more g (after_number held.number) held.world lead.1.world to.world b bs j.body (ap (λ k. body_in k b) (sym gen) ∙ j.reads) (j.follows some) j.lays
+    row_more g (after_number held.number) held.world lead.1.world to.world b bs j.body (ap (λ k. fed_body_in k b) (sym gen) ∙ j.reads) (j.follows some) j.lays
     (subst (λ n. Row g (after_number n) lead.1.world bs to.world) (j.numbered ∙ j.follows some) more)
 
 pub rows : (g : ℕ) (to : Held) (bs : List (List ℕ)) → AllBytes bs → Lead (begin g) bs to → Row g (first_number bs) start bs to.world
@@ -174,12 +167,12 @@ rows g to [] are lead = row_nothing g 1 start to.world (ap (λ (h : Held). h.wor
 rows g to (b ∷ bs) (are, others) lead =
     let j = joined lead.0 (begin g) lead.1 b are lead.2 in
     let more = ties g lead.1 to bs others j.count j.generation lead.3 in
-    row_more g (number_of b) start lead.1.world to.world b bs j.body j.reads j.number j.lays (subst (λ n. Row g (after_number n) lead.1.world bs to.world) (j.numbered ∙ j.number) more)
+    row_more g (body_number b) start lead.1.world to.world b bs j.body j.reads j.number j.lays (subst (λ n. Row g (after_number n) lead.1.world bs to.world) (j.numbered ∙ j.number) more)
 
 -- The bodies of bytes are bytes, and no more than these.
 
-pub all_bytes : (n : ℕ) (file : List ℕ) → AreBytes file → AllBytes (bodies n file)
-unfolding bodies
+pub all_bytes : (n : ℕ) (file : List ℕ) → AreBytes file → AllBytes (bodies_up_to n file)
+unfolding bodies_up_to
 all_bytes zero file are = tt
 all_bytes (suc n) [] are = tt
 all_bytes (suc n) (g ∷ []) are = tt
@@ -193,16 +186,16 @@ all_bytes (suc n) (g ∷ x ∷ rest) are =
     tail : AreBytes (x ∷ rest)
     tail i = are (suc i)
 
-    by_size : (b : Bool) → AllBytes (bodies n (drop (8 + size) (x ∷ rest))) → AllBytes (if b then take size (drop 8 (x ∷ rest)) ∷ bodies n (drop (8 + size) (x ∷ rest)) else [])
+    by_size : (b : Bool) → AllBytes (bodies_up_to n (drop (8 + size) (x ∷ rest))) → AllBytes (if b then take size (drop 8 (x ∷ rest)) ∷ bodies_up_to n (drop (8 + size) (x ∷ rest)) else [])
     by_size true more = (take_bytes size (drop 8 (x ∷ rest)) (drop_bytes 8 (x ∷ rest) tail), more)
     by_size false more = tt
 
-    by_gate : (b : Bool) → AllBytes (bodies n (drop (8 + size) (x ∷ rest))) → AllBytes (if b then (if leb (8 + size) (length (x ∷ rest)) then take size (drop 8 (x ∷ rest)) ∷ bodies n (drop (8 + size) (x ∷ rest)) else []) else [])
+    by_gate : (b : Bool) → AllBytes (bodies_up_to n (drop (8 + size) (x ∷ rest))) → AllBytes (if b then (if leb (8 + size) (length (x ∷ rest)) then take size (drop 8 (x ∷ rest)) ∷ bodies_up_to n (drop (8 + size) (x ∷ rest)) else []) else [])
     by_gate true more = by_size (leb (8 + size) (length (x ∷ rest))) more
     by_gate false more = tt
 
-pub few : (n : ℕ) (file : List ℕ) → length (bodies n file) ≤ n
-unfolding bodies
+pub few : (n : ℕ) (file : List ℕ) → length (bodies_up_to n file) ≤ n
+unfolding bodies_up_to
 few zero file = omega arith
 few (suc n) [] = omega arith
 few (suc n) (g ∷ []) = omega arith
@@ -215,8 +208,8 @@ few (suc n) (g ∷ x ∷ rest) = by_gate (eqb g 1) (few n (drop (8 + from_be_byt
     by_size true more le = omega (arith, le)
     by_size false more le = omega arith
 
-    by_gate : (b : Bool) → length (bodies n (drop (8 + size) (x ∷ rest))) ≤ n → length (if b then (if leb (8 + size) (length (x ∷ rest)) then take size (drop 8 (x ∷ rest)) ∷ bodies n (drop (8 + size) (x ∷ rest)) else []) else []) ≤ suc n
-    by_gate true le = by_size (leb (8 + size) (length (x ∷ rest))) (bodies n (drop (8 + size) (x ∷ rest))) le
+    by_gate : (b : Bool) → length (bodies_up_to n (drop (8 + size) (x ∷ rest))) ≤ n → length (if b then (if leb (8 + size) (length (x ∷ rest)) then take size (drop 8 (x ∷ rest)) ∷ bodies_up_to n (drop (8 + size) (x ∷ rest)) else []) else []) ≤ suc n
+    by_gate true le = by_size (leb (8 + size) (length (x ∷ rest))) (bodies_up_to n (drop (8 + size) (x ∷ rest))) le
     by_gate false le = omega arith
 
 -- Numbers are below 2 ^ 64.
@@ -224,7 +217,7 @@ few (suc n) (g ∷ x ∷ rest) = by_gate (eqb g 1) (few n (drop (8 + from_be_byt
 word_small : (bs : List ℕ) → AreBytes bs → from_be_bytes w64 bs < 2 ^ 64
 word_small bs are = omega (arith, are 0, are 1, are 2, are 3, are 4, are 5, are 6, are 7)
 
-number_small : (bytes : List ℕ) → AreBytes bytes → number_of bytes < 2 ^ 64
+number_small : (bytes : List ℕ) → AreBytes bytes → body_number bytes < 2 ^ 64
 unfolding body_of
 number_small bytes are = by (leb 25 (length bytes) && bytes_eq (take 5 bytes) magic)
   where

@@ -1,10 +1,9 @@
 -- Lemmas on lines and on reading them.
 use Rattle.std.proofs.Common.{◌≡◌, ℕ, ◌+◌, ◌<◌, true, false, not, cond, List, [], ◌∷◌, ◌++◌, length, take, drop, refl, sym, ◌∙◌, ap, arith, suc, Option, Some, None, Result, Ok, Err}
-use Rattle.std.proofs.lemmas.List.{drop-drop}
 use Rattle.std.specs.List.{position_or_len, onto_first}
 use Rattle.muck_follow.specs.Lines.{is_line_feed, lines_of}
 use Rattle.std.proofs.lemmas.Bool.{cond-true, lt-ltb}
-use Rattle.muck_follow.specs.Script.{act_of, with_first, acts_from, acts_of, refused_at, script_most, read_part, script_of}
+use Rattle.muck_follow.specs.Script.{mirror_act_of, with_mirror_act, mirror_acts_from, mirror_acts_of, mirror_refused_at, script_most, read_part, mirror_script_of}
 use Rattle.muck_follow.specs.declared.act.Act.{Act}
 
 pub first_line : (b : ℕ) (bytes : List ℕ) →
@@ -39,25 +38,13 @@ with_all front (Err n) = Err n
 
 -- a line that is outside
 pub stops : (front : List Act) (n : ℕ) (line rest bytes : List ℕ) (all : Result (List Act) ℕ) →
-    lines_of bytes ≡ line ∷ lines_of rest → act_of line ≡ None →
-    with_all front (acts_from n (lines_of bytes)) ≡ all → all ≡ Err n
+    lines_of bytes ≡ line ∷ lines_of rest → mirror_act_of line ≡ None →
+    with_all front (mirror_acts_from n (lines_of bytes)) ≡ all → all ≡ Err n
 stops front n line rest bytes all e a h =
-    sym h ∙ ap (λ ls. with_all front (acts_from n ls)) e ∙ ap (λ o. with_all front (with_first o n (acts_from (n + 1) (lines_of rest)))) a
-
--- what stands behind the first element of the rest
-pub tail_is : (bytes others rest : List ℕ) (n first : ℕ) → rest ≡ first ∷ others → rest ≡ drop n bytes → others ≡ drop (n + 1) bytes
-tail_is bytes others rest n first e p =
-    let tail : others ≡ drop 1 rest = sym (ap (drop 1) e) in
-    tail ∙ ap (drop 1) p ∙ drop-drop 1 n bytes
-
-pub tail_none : (bytes rest : List ℕ) (n : ℕ) → length rest ≡ 0 → rest ≡ drop n bytes → rest ≡ drop (n + 1) bytes
-tail_none bytes rest n e p = nothing rest e ∙ sym (ap (drop 1) (nothing rest e)) ∙ ap (drop 1) p ∙ drop-drop 1 n bytes where
-  nothing : (xs : List ℕ) → length xs ≡ 0 → xs ≡ []
-  nothing [] h = refl
-  nothing (x ∷ xs) h = absurd (omega arith)
+    sym h ∙ ap (λ ls. with_all front (mirror_acts_from n ls)) e ∙ ap (λ o. with_all front (with_mirror_act o n (mirror_acts_from (n + 1) (lines_of rest)))) a
 
 first_ok : (o : Option Act) (n : ℕ) (rest : Result (List Act) ℕ) (acts : List Act) (count : ℕ) → ((others : List Act) → rest ≡ Ok others → length others ≡ count) →
-    with_first o n rest ≡ Ok acts → length acts ≡ suc count
+    with_mirror_act o n rest ≡ Ok acts → length acts ≡ suc count
 first_ok None n rest acts count more e = cc
 first_ok (Some act) n (Err m) acts count more e = cc
 first_ok (Some act) n (Ok others) acts count more e =
@@ -65,18 +52,18 @@ first_ok (Some act) n (Ok others) acts count more e =
     sym (ap (λ (xs : List Act). length xs) same) ∙ ap suc (more others refl)
 
 -- each line is one act
-pub length-acts : (n : ℕ) (lines : List (List ℕ)) (acts : List Act) → acts_from n lines ≡ Ok acts → length acts ≡ length lines
+pub length-acts : (n : ℕ) (lines : List (List ℕ)) (acts : List Act) → mirror_acts_from n lines ≡ Ok acts → length acts ≡ length lines
 length-acts n [] acts e = let same : [] ≡ acts = cc in sym (ap (λ (xs : List Act). length xs) same)
-length-acts n (line ∷ lines) acts e = first_ok (act_of line) n (acts_from (n + 1) lines) acts (length lines) (λ others o. length-acts (n + 1) lines others o) e
+length-acts n (line ∷ lines) acts e = first_ok (mirror_act_of line) n (mirror_acts_from (n + 1) lines) acts (length lines) (λ others o. length-acts (n + 1) lines others o) e
 
 -- Scripts that are too long, and those that aren't.
 
-pub script_long : (bytes : List ℕ) → script_most < length bytes → script_of bytes ≡ refused_at (length (lines_of (read_part bytes))) (acts_of (read_part bytes))
+pub script_long : (bytes : List ℕ) → script_most < length bytes → mirror_script_of bytes ≡ mirror_refused_at (length (lines_of (read_part bytes))) (mirror_acts_of (read_part bytes))
 script_long bytes h = cond-true _ _ _ (lt-ltb _ _ h)
 
 -- no line before the last is outside
-pub long_last : (bytes part : List ℕ) (acts : List Act) → script_most < length bytes → part ≡ read_part bytes → acts_of part ≡ Ok acts → script_of bytes ≡ Err (length acts)
+pub long_last : (bytes part : List ℕ) (acts : List Act) → script_most < length bytes → part ≡ read_part bytes → mirror_acts_of part ≡ Ok acts → mirror_script_of bytes ≡ Err (length acts)
 long_last bytes part acts h p e =
-    let read : acts_of (read_part bytes) ≡ Ok acts = sym (ap acts_of p) ∙ e in
+    let read : mirror_acts_of (read_part bytes) ≡ Ok acts = sym (ap mirror_acts_of p) ∙ e in
     let count : length acts ≡ length (lines_of (read_part bytes)) = length-acts 1 (lines_of (read_part bytes)) acts read in
-    script_long bytes h ∙ ap (refused_at (length (lines_of (read_part bytes)))) read ∙ ap Err (sym count)
+    script_long bytes h ∙ ap (mirror_refused_at (length (lines_of (read_part bytes)))) read ∙ ap Err (sym count)

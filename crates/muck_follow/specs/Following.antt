@@ -4,7 +4,7 @@ use Rattle.std.specs.List.{flat_map}
 use Rattle.muck_log.specs.Store.{Chosen}
 use Rattle.muck_mirror.specs.declared.mirror.Fed.{Fed}
 use Rattle.muck_mirror.specs.declared.mirror.Fed.TheVariants.{Applied, Known, Early, Full, Strange}
-use Rattle.muck_mirror.specs.Mirrors.{Mirror, made, fed}
+use Rattle.muck_mirror.specs.Mirrors.{Mirror, mirror_made, fed}
 use Rattle.muck_mirror.specs.Fronts.{Call}
 use Rattle.muck_mirror.specs.Looks.{looked_at, examined_at}
 use Rattle.muck_bodies.specs.Bodies.{bodies_of, body_numbered, first_number}
@@ -46,29 +46,29 @@ reply_of (Look d) bodies m = seen_text (looked_at m d)
 reply_of (Examine d) bodies m = seen_text (examined_at m d)
 
 -- the mirror behind that line, which looking leaves as it is
-abbrev pub left_by : Act → List (List ℕ) → Mirror → Mirror
-left_by Nothing bodies m = m
-left_by (Feed k) bodies m = body_left (body_numbered k bodies) m
-left_by (Look d) bodies m = m
-left_by (Examine d) bodies m = m
+abbrev pub mirror_after_act : Act → List (List ℕ) → Mirror → Mirror
+mirror_after_act Nothing bodies m = m
+mirror_after_act (Feed k) bodies m = body_left (body_numbered k bodies) m
+mirror_after_act (Look d) bodies m = m
+mirror_after_act (Examine d) bodies m = m
 
 -- the replies to all lines
 unfoldable pub replies : List Act → List (List ℕ) → Mirror → List ℕ
 replies [] bodies m = []
-replies (act ∷ acts) bodies m = reply_of act bodies m ++ replies acts bodies (left_by act bodies m)
+replies (act ∷ acts) bodies m = reply_of act bodies m ++ replies acts bodies (mirror_after_act act bodies m)
 
 -- the mirror behind all of them
 unfoldable pub left_after : List Act → List (List ℕ) → Mirror → Mirror
 left_after [] bodies m = m
-left_after (act ∷ acts) bodies m = left_after acts bodies (left_by act bodies m)
+left_after (act ∷ acts) bodies m = left_after acts bodies (mirror_after_act act bodies m)
 
 -- the mirror of a store, of which this file counts
-abbrev pub mirror_of : Chosen → List ℕ → Mirror
-mirror_of s file = made s.held.generation (first_number (bodies_of file))
+abbrev pub store_mirror : Chosen → List ℕ → Mirror
+store_mirror s file = mirror_made s.held.generation (first_number (bodies_of file))
 
 -- what is written of a script by which it follows that store
-abbrev pub told : List Act → Chosen → List ℕ → List ℕ
-told acts s file = replies acts (bodies_of file) (mirror_of s file)
+abbrev pub script_replies : List Act → Chosen → List ℕ → List ℕ
+script_replies acts s file = replies acts (bodies_of file) (store_mirror s file)
 
 -- the calls of `feed` that a script makes
 abbrev pub call_with : Option (List ℕ) → List Call
@@ -81,6 +81,6 @@ calls_by (Feed k) bodies = call_with (body_numbered k bodies)
 calls_by (Look d) bodies = []
 calls_by (Examine d) bodies = []
 
-abbrev pub calls_of : List Act → List (List ℕ) → List Call
-calls_of [] bodies = []
-calls_of (act ∷ acts) bodies = calls_by act bodies ++ calls_of acts bodies
+abbrev pub mirror_calls : List Act → List (List ℕ) → List Call
+mirror_calls [] bodies = []
+mirror_calls (act ∷ acts) bodies = calls_by act bodies ++ mirror_calls acts bodies

@@ -2,9 +2,9 @@
 ghost use Rattle.std.specs.Prelude.{◌≡◌, ◌⊎◌, ◌≤◌, ◌^◌, true, Ok, OnOk, OnErr, IsErrOf, length};
 ghost use Rattle.muck_io.specs.Faults.{Rose};
 ghost use Rattle.muck_io.specs.Sink.{Appends, AppendsFront};
-ghost use Rattle.muck_log.specs.Store.{Chosen, LeavesOnly, stored, pick};
+ghost use Rattle.muck_log.specs.Store.{Chosen, LeavesOnly, store_of, pick};
 ghost use Rattle.muck_bodies.specs.Bodies.{bodies_of};
-ghost use Rattle.muck_follow.specs.Following.{replies, told};
+ghost use Rattle.muck_follow.specs.Following.{replies, script_replies};
 ghost use Rattle.muck_follow.specs.Fronts.{AreBytes, FollowsFront};
 
 use crate::reply::reply;
@@ -54,11 +54,11 @@ pub fn follow<K: Sink, D: Disk>(
     out: &mut K,
 ) -> Result<(), FollowFault>
     // The replies are those of the mirror of the batches of this store.
-    ensures whole { D.tells ≡ true → (s : Chosen) → stored (D.seen first.old) (D.seen second.old) ≡ Ok s → OnOk result (Appends (K.written out.old) (K.written out.new) (told acts.now s (pick s.second (D.seen first.old) (D.seen second.old)))) }
-    ensures front { D.tells ≡ true → (s : Chosen) → stored (D.seen first.old) (D.seen second.old) ≡ Ok s → OnErr result (AppendsFront (K.written out.old) (K.written out.new) (told acts.now s (pick s.second (D.seen first.old) (D.seen second.old)))) }
+    ensures whole { D.tells ≡ true → (s : Chosen) → store_of (D.seen first.old) (D.seen second.old) ≡ Ok s → OnOk result (Appends (K.written out.old) (K.written out.new) (script_replies acts.now s (pick s.second (D.seen first.old) (D.seen second.old)))) }
+    ensures front { D.tells ≡ true → (s : Chosen) → store_of (D.seen first.old) (D.seen second.old) ≡ Ok s → OnErr result (AppendsFront (K.written out.old) (K.written out.new) (script_replies acts.now s (pick s.second (D.seen first.old) (D.seen second.old)))) }
 
     // That mirror holds the stored world of a front of these batches: of the first m, where m is the greatest number such that each of them was fed.
-    ensures follows { D.tells ≡ true → (s : Chosen) → stored (D.seen first.old) (D.seen second.old) ≡ Ok s → AreBytes (pick s.second (D.seen first.old) (D.seen second.old)) → length (pick s.second (D.seen first.old) (D.seen second.old)) ≤ 2 ^ 63
+    ensures follows { D.tells ≡ true → (s : Chosen) → store_of (D.seen first.old) (D.seen second.old) ≡ Ok s → AreBytes (pick s.second (D.seen first.old) (D.seen second.old)) → length (pick s.second (D.seen first.old) (D.seen second.old)) ≤ 2 ^ 63
         → FollowsFront acts.now s (pick s.second (D.seen first.old) (D.seen second.old)) }
     ensures write_fault { IsErrOf result FollowFault.WriteFault → Rose (K.faults out.old) (K.faults out.new) }
     ensures sink_stands { (IsErrOf result FollowFault.WriteFault → ⊥) → K.faults out.new ≡ K.faults out.old }

@@ -2,7 +2,7 @@
 ghost use Rattle.std.specs.Prelude.{◌≡◌};
 ghost use Rattle.std.specs.List.{list_all};
 ghost use Rattle.muck_model.specs.Decimal.{is_digit, is_first_digit, is_decimal};
-ghost use Rattle.muck_follow.specs.Script.{number_of, decimal_number};
+ghost use Rattle.muck_follow.specs.Script.{batch_number, decimal_number};
 
 fn is_digit(b: u8) -> bool
     ensures { result ≡ is_digit b }
@@ -51,7 +51,7 @@ fn decimal_number(bytes: &[u8]) -> Option<u64>
 
 /// The number of a batch: from 1 to 2^64 - 1, in decimal without sign or leading zeros.
 pub fn number_of(bytes: &[u8]) -> Option<u64>
-    ensures { result ≡ number_of bytes.now }
+    ensures { result ≡ batch_number bytes.now }
 {
     let n = decimal_number(bytes)?;
     if n > 0 { Some(n) } else { None }

@@ -1,16 +1,16 @@
 // What one line of a script asks for.
 ghost use Rattle.std.specs.Prelude.{◌≡◌};
 ghost use Rattle.std.specs.Option.{option_copied};
-ghost use Rattle.muck_follow.specs.Script.{act_of, asked, behind, feeding, looking, examining};
+ghost use Rattle.muck_follow.specs.Script.{mirror_act_of, mirror_act_asked, behind_word, feeding, looking, examining};
 
 use crate::Act;
 use crate::number::number_of;
 use muck_model::Dbref;
 
 /// What a line asks for, or none where it is outside the grammar.
-#[tactic(auto, unfolding(crate::specs::Script::act_of))]
+#[tactic(auto, unfolding(crate::specs::Script::mirror_act_of))]
 pub fn act_of(line: &[u8]) -> Option<Act>
-    ensures { result ≡ act_of line.now }
+    ensures { result ≡ mirror_act_of line.now }
 {
     let Some((first, _)) = line.split_first() else {
         return Some(Act::Nothing);
@@ -22,7 +22,7 @@ pub fn act_of(line: &[u8]) -> Option<Act>
 }
 
 fn asked(line: &[u8]) -> Option<Act>
-    ensures { result ≡ asked line.now }
+    ensures { result ≡ mirror_act_asked line.now }
 {
     if let Some(rest) = behind(b"feed ", line) {
         return feeding(rest);
@@ -38,7 +38,7 @@ fn asked(line: &[u8]) -> Option<Act>
 
 // What stands behind a word at the front of a line, where it begins with that.
 fn behind<'a>(word: &[u8], line: &'a [u8]) -> Option<&'a [u8]>
-    ensures { option_copied result ≡ behind word.now line.now }
+    ensures { option_copied result ≡ behind_word word.now line.now }
 {
     if line.len() < word.len() || line.split_at(word.len()).0 != word {
         return None;

@@ -4,7 +4,7 @@ ghost use Rattle.muck_io.specs.Faults.{Rose};
 ghost use Rattle.muck_log.specs.Store.{LeavesOnly};
 ghost use Rattle.muck_bodies.specs.Bodies.{bodies_of, body_numbered};
 ghost use Rattle.muck_mirror.specs.Looks.{looked_at, examined_at};
-ghost use Rattle.muck_follow.specs.Following.{line, fed_text, body_reply, body_left, lines_text, seen_text, reply_of, left_by};
+ghost use Rattle.muck_follow.specs.Following.{line, fed_text, body_reply, body_left, lines_text, seen_text, reply_of, mirror_after_act};
 
 use crate::{Act, FollowFault};
 use itoa::Buffer;
@@ -116,7 +116,7 @@ pub fn reply<D: Disk>(
     mirror: &mut Mirror,
 ) -> Result<Vec<u8>, FollowFault>
     ensures text { D.tells ≡ true → IfOk result (λ text. text.items ≡ reply_of act (bodies_of (D.seen disk.old)) mirror.old) }
-    ensures left { D.tells ≡ true → OnOk result (mirror.new ≡ left_by act (bodies_of (D.seen disk.old)) mirror.old) }
+    ensures left { D.tells ≡ true → OnOk result (mirror.new ≡ mirror_after_act act (bodies_of (D.seen disk.old)) mirror.old) }
     ensures written { IsErrOf result FollowFault.WriteFault → ⊥ }
     ensures attached { D.attached disk.new ≡ D.attached disk.old }
     ensures seen { D.tells ≡ true → D.seen disk.new ≡ D.seen disk.old }

@@ -1,6 +1,6 @@
 // Reading a script.
 ghost use Rattle.std.specs.Prelude.{◌≡◌, ◌<◌, length, Err};
-ghost use Rattle.muck_follow.specs.Script.{script_most, read_part, acts_of};
+ghost use Rattle.muck_follow.specs.Script.{script_most, read_part, mirror_acts_of};
 ghost use Rattle.muck_follow.specs.inner.Reading.{IsReading, IsScriptOf};
 
 use crate::Act;
@@ -80,7 +80,7 @@ fn long_fault(alloc: Global, bytes: &[u8]) -> ScriptFault
 
 // What the lines ask for, whatever their count.
 fn read_acts(alloc: Global, bytes: &[u8]) -> Result<Script, ScriptFault>
-    ensures { IsReading (acts_of bytes.now) result }
+    ensures { IsReading (mirror_acts_of bytes.now) result }
 {
     let mut acts = Vec::new(alloc);
     let mut rest = bytes;

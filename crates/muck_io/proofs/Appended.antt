@@ -1,8 +1,9 @@
 -- Lemmas on what was written so far.
-use Rattle.std.proofs.Common.{◌≡◌, ℕ, ◌<◌, List, [], ◌++◌, length, take, drop, sym, ◌∙◌, ap, subst, append_assoc, arith, Option, Some, None}
-use Rattle.std.proofs.lemmas.List.{take-append-drop, append-nil}
-use Rattle.std.proofs.lemmas.Grind.{common_steps}
+use Rattle.std.proofs.Common.{◌≡◌, ℕ, ◌<◌, List, [], ◌++◌, length, take, drop, sym, ◌∙◌, ap, subst, append_assoc, Option, Some, None}
+use Rattle.std.proofs.lemmas.List.{append-nil}
 use Rattle.std.proofs.Math.Seq.{take-append_seam}
+use Rattle.muck_laws.proofs.Lists.{short_of}
+use Rattle.muck_laws.proofs.Parts.{regroup}
 use Rattle.muck_io.specs.Faults.{Rose}
 use Rattle.muck_io.specs.Sink.{Appends, AppendsFront, BrokeWriting}
 
@@ -11,9 +12,6 @@ pub record IsPart (all rest : List ℕ) (before now : Option (List ℕ)) : Type 
   pub part : List ℕ
   pub whole : part ++ rest ≡ all
   pub appended : Appends before now part
-
-regroup : (part rest all : List ℕ) (n : ℕ) → part ++ rest ≡ all → (part ++ take n rest) ++ drop n rest ≡ all
-regroup part rest all n e = append_assoc part (take n rest) (drop n rest) ∙ ap (λ r. part ++ r) (take-append-drop n rest) ∙ e
 
 -- one piece behind another
 pub appends_twice : (a b c : Option (List ℕ)) (x y : List ℕ) → Appends a b x → Appends b c y → Appends a c (x ++ y)
@@ -50,9 +48,6 @@ part_failed all rest a b c p e = let P : Option (List ℕ) → Type 0 = λ b'. A
 pub nothing_more : (a b : Option (List ℕ)) → b ≡ a → Appends a b []
 nothing_more None b e = tt
 nothing_more (Some w) b e = e ∙ ap Some (sym (append-nil w))
-
-short_of : (part rest all : List ℕ) → part ++ rest ≡ all → 0 < length rest → length part < length all
-short_of part rest all e h = grind (arith, common_steps)
 
 -- a fault came where a part was written, and bytes were still to come
 pub broke_writing :

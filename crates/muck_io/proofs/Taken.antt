@@ -1,7 +1,8 @@
 -- Lemmas on what was read so far.
-use Rattle.std.proofs.Common.{◌≡◌, ℕ, ◌+◌, ◌-◌, ◌<◌, ◌≤◌, List, ◌++◌, length, take, drop, refl, sym, ◌∙◌, ap, subst, arith, Option, Some, None, Result, Ok, Err, OnErr}
-use Rattle.std.proofs.lemmas.List.{drop-drop, drop_at, length-take}
-use Rattle.std.proofs.lemmas.Grind.{common_steps}
+use Rattle.std.proofs.Common.{◌≡◌, ℕ, ◌+◌, ◌<◌, ◌≤◌, List, ◌++◌, length, drop, refl, sym, ◌∙◌, ap, subst, arith, Option, Some, None}
+use Rattle.std.proofs.lemmas.List.{drop_at}
+use Rattle.muck_laws.proofs.Lists.{length_both}
+use Rattle.muck_laws.proofs.Parts.{drop_both}
 use Rattle.muck_io.specs.Faults.{Rose}
 use Rattle.muck_io.specs.Source.{Gives, TookFront, BrokeReading}
 
@@ -9,14 +10,6 @@ use Rattle.muck_io.specs.Source.{Gives, TookFront, BrokeReading}
 abbrev pub IsPartRead : Option (List ℕ) → Option (List ℕ) → List ℕ → Type 0
 IsPartRead None now bytes = Unit {0}
 IsPartRead (Some left) now bytes = (rest : List ℕ) × (now ≡ Some rest) × (bytes ++ rest ≡ left)
-
-drop_both : (xs rest left : List ℕ) (n : ℕ) → xs ++ rest ≡ left → drop n rest ≡ drop (length xs + n) left
-drop_both xs rest left n e =
-    let seam : drop (length xs) left ≡ rest = ap (drop (length xs)) (sym e) ∙ drop_at xs rest (length xs) refl in
-    ap (drop n) (sym seam) ∙ drop-drop n (length xs) left
-
-length_both : (xs rest left : List ℕ) (n : ℕ) → xs ++ rest ≡ left → n ≤ length rest → length xs + n ≤ length left
-length_both xs rest left n e h = grind (arith, common_steps)
 
 -- a part was read, and n bytes more were taken
 pub took_more : (a b c : Option (List ℕ)) (xs buf : List ℕ) (n most : ℕ) → IsPartRead a b xs → Gives b c n buf → length xs + n ≤ most → TookFront a c most
@@ -49,11 +42,3 @@ broke_reading S left faults before last now xs most p below fine rose still = re
   rose = rose;
   still = still;
 }
-
-pub on_err : {T E : Type 0} (r : Result T E) (P : Type 0) → P → OnErr r P
-on_err (Ok x) P p = tt
-on_err (Err e) P p = p
-
--- what was read into the room that is left keeps within `most`
-pub keeps_within : (len n room most : ℕ) (buf new : List ℕ) → n ≤ length new → length new ≡ length (take room buf) → room ≤ most - len → len < most → len + n ≤ most
-keeps_within len n room most buf new h e r l = omega (arith, h, e, length-take room buf, r, l)

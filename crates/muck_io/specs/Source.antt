@@ -10,14 +10,14 @@ Gives None now n buf = Unit {0}
 Gives (Some bytes) now n buf = (n ≤ length bytes) × (take n buf ≡ take n bytes) × (now ≡ Some (drop n bytes))
 
 -- nothing is left
-abbrev pub IsOver : Option (List ℕ) → Type 0
-IsOver None = Unit {0}
-IsOver (Some bytes) = bytes ≡ []
+abbrev pub IsNothingLeft : Option (List ℕ) → Type 0
+IsNothingLeft None = Unit {0}
+IsNothingLeft (Some bytes) = bytes ≡ []
 
 -- one read: what was left and is left now, the buffer before and now, the answer
 abbrev pub HasRead : Option (List ℕ) → Option (List ℕ) → List ℕ → List ℕ → Got → Type 0
 HasRead left now before buf (Bytes n) = (0 < n) × (n ≤ length buf) × Gives left now n buf
-HasRead left now before buf End = (0 < length before → IsOver left) × (now ≡ left)
+HasRead left now before buf End = (0 < length before → IsNothingLeft left) × (now ≡ left)
 HasRead left now before buf Failed = now ≡ left
 
 -- one read and the count of faults: it rises where the read failed, and nowhere else

@@ -1,8 +1,8 @@
 -- A form that is kept, and one that is kept no more.
-use Rattle.std.proofs.Common.{◌≡◌, ℕ, zero, suc, ◌+◌, ◌-◌, ◌<◌, ◌≤◌, List, [], ◌∷◌, ◌++◌, length, replicate, Option, Some, None, take, refl, sym, ap, append-nil, length-append, take_all, ◌∙◌, arith}
+use Rattle.std.proofs.Common.{◌≡◌, ℕ, zero, suc, ◌+◌, ◌-◌, ◌<◌, ◌≤◌, List, [], ◌∷◌, ◌++◌, length, replicate, Option, Some, None, refl, sym, ap, append-nil, ◌∙◌, arith}
 use Rattle.std.specs.Prelude.{slice_get, slice_set}
-use Rattle.std.specs.Option.{option_map, option_and_then, option_map_or}
-use Rattle.std.specs.List.{FoldsTo, AppendsResults}
+use Rattle.std.specs.Option.{option_map, option_and_then}
+use Rattle.muck_laws.proofs.Lists.{behind}
 use Rattle.spec_live.specs.Objects.{changed_at}
 use Rattle.muf_model.specs.declared.code.Code.{Code}
 use Rattle.muf_model.specs.inner.Decode.{tree_of}
@@ -28,10 +28,6 @@ with_form_placed (suc n) code (form ∷ forms) =
     let e : suc n + 1 - suc (length forms) ≡ n + 1 - length forms = omega arith in
     rw e (ap (λ fs. option_map tree_of form ∷ fs) (with_form_placed n code forms))
 
-behind : {X Y : Type 0} (y : Y) (f : X → List Y) (o : Option X) (ys : List Y) → option_map_or (λ x. y ∷ f x) o (y ∷ ys) ≡ y ∷ option_map_or f o ys
-behind y f None ys = refl
-behind y f (Some x) ys = refl
-
 -- no form at a number
 pub none_placed : (n : ℕ) (forms : List (Option Code)) → n < length forms → trees_of (slice_set forms n None) ≡ changed_at n (λ form. None) (trees_of forms)
 unfolding changed_at
@@ -49,17 +45,3 @@ none_past zero (form ∷ forms) l = absurd (omega (arith, l))
 none_past (suc n) (form ∷ forms) l =
     ap (λ fs. option_map tree_of form ∷ fs) (none_past n forms (omega (arith, l)))
     ∙ sym (behind (option_map tree_of form) (λ x. slice_set (trees_of forms) n None) (slice_get (trees_of forms) n) (trees_of forms))
-
--- results that are all the same
-same_results : {F X : Type 0} (step : F → X → F → Type 0) (x : X) → ((f : F) (y : X) (g : F) → step f y g → y ≡ x) → (ys : List X) (f g : F) → FoldsTo step f ys g → ys ≡ replicate (length ys) x
-same_results step x same [] f g h = refl
-same_results step x same (y ∷ ys) f g h = ap (λ z. z ∷ ys) (same f y h.0 h.1) ∙ ap (λ zs. x ∷ zs) (same_results step x same ys h.0 g h.2)
-
--- a list that was filled up with the results of calls, which are all the same
-pub filled_up : {F X : Type 0} (step : F → X → F → Type 0) (x : X) (n : ℕ) (old new : List X) (f : F) → ((f : F) (y : X) (g : F) → step f y g → y ≡ x) → length old ≤ n → length new ≡ n → AppendsResults step (take n old) new f → new ≡ old ++ replicate (n - length old) x
-filled_up step x n old new f same le len h =
-    let whole : take n old ≡ old = take_all n old le in
-    let is : new ≡ old ++ h.0 = h.2 ∙ ap (λ xs. xs ++ h.0) whole in
-    let total : length new ≡ length old + length h.0 = ap length is ∙ length-append old h.0 in
-    let count : length h.0 ≡ n - length old = omega (arith, total, len) in
-    is ∙ ap (λ ys. old ++ ys) (same_results step x same h.0 f h.1 h.3 ∙ ap (λ k. replicate k x) count)

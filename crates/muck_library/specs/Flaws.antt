@@ -2,11 +2,11 @@
 use Rattle.muf_token.specs.declared.fault.Refusal.{Refusal as ReadRefusal}
 use Rattle.muf_token.specs.declared.fault.TokenFault.{TokenFault}
 use Rattle.muf_token.specs.declared.fault.TokenFault.TheVariants as read
-use Rattle.muf_token.specs.Faults.{number_of_kind as number_of_read}
+use Rattle.muf_token.specs.Faults.{token_fault_number as number_of_read}
 use Rattle.muf_compile.specs.declared.fault.Refusal.{Refusal as CompileRefusal}
 use Rattle.muf_compile.specs.declared.fault.CompileFault.{CompileFault}
 use Rattle.muf_compile.specs.declared.fault.CompileFault.TheVariants as compiled
-use Rattle.muf_compile.specs.Faults.{number_of_kind as number_of_compiled}
+use Rattle.muf_compile.specs.Faults.{compile_fault_number as number_of_compiled}
 use Rattle.muck_library.specs.declared.flaw.Flaw.{Flaw}
 use Rattle.muck_library.specs.declared.flaw.BuildFault.{BuildFault}
 use Rattle.muck_library.specs.declared.flaw.BuildFault.TheVariants.{Refused, NoMemory}

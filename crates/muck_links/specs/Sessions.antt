@@ -23,13 +23,13 @@ pub record Session : Type 0 where
   pub in_use : Bool
 
 -- all acceptances, the ports that were listened on (the latest first), and whether no link is to come any more
-pub record Told : Type 0 where
+pub record LinksTold : Type 0 where
   pub sessions : List Session
   pub ports : List ℕ
   pub over : Bool
 
-abbrev pub number_of : Session → ℕ
-number_of s = s.number
+abbrev pub session_number : Session → ℕ
+session_number s = s.number
 
 abbrev pub has_number : ℕ → Session → Bool
 has_number d s = s.number == d
@@ -62,25 +62,25 @@ abbrev pub shut : Session → Session
 shut s = record s { in_use = false }
 
 -- the latest session of this number is another
-abbrev pub on_session : ℕ → (Session → Session) → Told → Told
-on_session d change told = record told { sessions = altered number_of d change told.sessions }
+abbrev pub on_session : ℕ → (Session → Session) → LinksTold → LinksTold
+on_session d change told = record told { sessions = altered session_number d change told.sessions }
 
-abbrev pub is_open : Option Session → Bool
-is_open (Some s) = s.in_use
-is_open None = false
+abbrev pub is_session_open : Option Session → Bool
+is_session_open (Some s) = s.in_use
+is_session_open None = false
 
 -- whether the number is in use
 abbrev pub is_used : ℕ → List Session → Bool
-is_used d sessions = is_open (latest number_of d sessions)
+is_used d sessions = is_session_open (latest session_number d sessions)
 
 -- ---- what each call tells
 
-abbrev pub ListenAs : ℕ → Told → Told → Listened → Type 0
+abbrev pub ListenAs : ℕ → LinksTold → LinksTold → Listened → Type 0
 ListenAs port old new listened.NoMemory = new ≡ old
 ListenAs port old new answer = new ≡ record old { ports = port ∷ old.ports }
 
 -- a link that comes has a number that isn't in use
-abbrev pub AcceptAs : Told → Told → Accepted → Type 0
+abbrev pub AcceptAs : LinksTold → LinksTold → Accepted → Type 0
 AcceptAs old new (came.Got d) = (new ≡ record old { sessions = accepted d ∷ old.sessions }) × (is_used d old.sessions ≡ false)
 AcceptAs old new came.Ended = new ≡ record old { over = true }
 AcceptAs old new answer = new ≡ old

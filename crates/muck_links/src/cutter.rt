@@ -1,6 +1,6 @@
 // Bytes as lines.
 ghost use Rattle.std.specs.Prelude.{◌≡◌, ◌≢◌, ◌↔◌, ℕ, List, IsTrue, [], ◌∷◌, IfOk, OnOk, OnErr, MatchOption, ◌++◌, option_to_list};
-ghost use Rattle.muck_links.specs.Lines.{next, is_shown, line_most, lines};
+ghost use Rattle.muck_links.specs.Lines.{next_mode, is_shown_byte, line_most, lines};
 ghost use Rattle.muck_links.specs.inner.Cutting.{ends, joins, after_byte, cut_lines, cut_rest, fresh, fed};
 
 use muck_model::{Line, NoMemory};
@@ -28,7 +28,7 @@ pub enum Mode {
 }
 
 fn next_mode(mode: Mode, b: u8) -> Mode
-    ensures { result ≡ next mode b }
+    ensures { result ≡ next_mode mode b }
 {
     match mode {
         Mode::Plain if b == 255 => Mode::Command,

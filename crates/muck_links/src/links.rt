@@ -56,7 +56,7 @@ pub enum LinkWrite {
 pub trait Links {
     ghost use Rattle.std.specs.Prelude.{◌≡◌, ◌≤◌, ◌<◌, ◌^◌, ℕ, Bool, true, length};
     ghost use Rattle.muck_io.specs.Faults.{Rose};
-    ghost use Rattle.muck_links.specs.Sessions.{Told, on_session, ListenAs, AcceptAs, read_change, write_change, shut};
+    ghost use Rattle.muck_links.specs.Sessions.{LinksTold, on_session, ListenAs, AcceptAs, read_change, write_change, shut};
     ghost use Rattle.muck_links.specs.declared.links.Listened.TheVariants.{Fault as ListenFault};
     ghost use Rattle.muck_links.specs.declared.links.Accepted.TheVariants.{Got as Came, Fault as AcceptFault};
     ghost use Rattle.muck_links.specs.declared.links.LinkRead.TheVariants.{Got as ReadGot};
@@ -66,7 +66,7 @@ pub trait Links {
     ghost tells: { Self → Bool };
 
     /// What the links carried, for each acceptance, where it tells it.
-    ghost told: { Self → Told };
+    ghost told: { Self → LinksTold };
 
     /// How many faults listening had. The count never falls, and stands still at 2^64 - 1.
     ghost listening: { Self → ℕ };

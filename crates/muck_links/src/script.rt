@@ -3,7 +3,7 @@ ghost use Rattle.std.specs.Prelude.{◌≡◌, ◌==◌, if◌then◌else◌, �
 ghost use Rattle.std.specs.Option.{option_copied};
 ghost use Rattle.muck_io.specs.Faults.{Rose};
 ghost use Rattle.muck_links.specs.Keyed.{latest};
-ghost use Rattle.muck_links.specs.Sessions.{Told, Session, number_of, has_number, is_used, on_session, ListenAs, AcceptAs, read_change, write_change, shut};
+ghost use Rattle.muck_links.specs.Sessions.{LinksTold, Session, session_number, has_number, is_used, on_session, ListenAs, AcceptAs, read_change, write_change, shut};
 ghost use Rattle.muck_links.specs.inner.Marks.{marked};
 ghost use Rattle.muck_links.specs.inner.Playing.{begun, first_due, stepped, to_read, on_link, fails_listening, coming_by, reading_by, bytes_of as bytes_in, fails_writing, ListenPlays, TakesIn, AcceptPlays, BytesRead, ReadPlays, WritePlays};
 ghost use Rattle.muck_links.specs.declared.script.Reading.TheVariants.{Nothing as Waiting};
@@ -213,7 +213,7 @@ impl ScriptLinks {
 
     /// What was written to the latest link of this number.
     pub fn written(&self, d: u32) -> Option<&[u8]>
-        ensures { MatchOption result (latest number_of d self.now.told.sessions ≡ None) (λ bytes. (s : Session) × (latest number_of d self.now.told.sessions ≡ Some s) × (bytes.now ≡ s.written)) }
+        ensures { MatchOption result (latest session_number d self.now.told.sessions ≡ None) (λ bytes. (s : Session) × (latest session_number d self.now.told.sessions ≡ Some s) × (bytes.now ≡ s.written)) }
     {
         match found(&self.sessions, d) {
             Some(s) => Some(s.written()),

@@ -2,7 +2,7 @@
 ghost use Rattle.std.specs.Prelude.{◌≡◌, ◌≤◌, OnOk, OnErr, length, List, ℕ};
 ghost use Rattle.std.specs.List.{position, position_or_len};
 ghost use Rattle.muck_links.specs.Keyed.{altered};
-ghost use Rattle.muck_links.specs.Sessions.{number_of, has_number, accepted};
+ghost use Rattle.muck_links.specs.Sessions.{session_number, has_number, accepted};
 ghost use Rattle.muck_links.specs.inner.Marks.{marked, carried};
 
 use muck_model::NoMemory;
@@ -120,7 +120,7 @@ fn place_of(links: &Vec<Link>, d: u32) -> usize
 
 // Marks the latest session of the number.
 pub(crate) fn marks(links: &mut Vec<Link>, d: u32, mark: Mark)
-    ensures { links.new.items ≡ altered number_of d (marked mark) links.old.items }
+    ensures { links.new.items ≡ altered session_number d (marked mark) links.old.items }
 {
     let at = place_of(links, d);
     if at < links.len() {
@@ -131,7 +131,7 @@ pub(crate) fn marks(links: &mut Vec<Link>, d: u32, mark: Mark)
 
 // Keeps bytes with the latest session of the number.
 pub(crate) fn carries(links: &mut Vec<Link>, d: u32, way: Way, bytes: &[u8]) -> Result<(), NoMemory>
-    ensures ok { OnOk result (links.new.items ≡ altered number_of d (carried way bytes.now) links.old.items) }
+    ensures ok { OnOk result (links.new.items ≡ altered session_number d (carried way bytes.now) links.old.items) }
     ensures err { OnErr result (links.new.items ≡ links.old.items) }
 {
     let at = place_of(links, d);

@@ -6,12 +6,12 @@ use Rattle.std.specs.List.{list_all}
 use Rattle.std.specs.Fmt.{decimal, signed_decimal}
 use Rattle.std.proofs.lemmas.Bool.{cases_lt, le-leb, ltb-true, leb-true, ne_eqb}
 use Rattle.std.proofs.lemmas.Fmt.{decimal_digit, decimal_nonempty, first_decimal}
+use Rattle.muck_laws.proofs.Truths.{and_first, and_rest}
 use Rattle.muck_model.specs.Decimal.{is_digit, is_decimal, decimal_of}
-use Rattle.muck_model.specs.Numbers.{below, numbered, signed_of, dbref_of}
+use Rattle.muck_model.specs.Numbers.{minus, dbref_numbered, signed_of, dbref_written}
 use Rattle.muck_model.proofs.Decimals.{decimal_within, value_of}
 pub use Rattle.muck_model.proofs.Decimals.{digits_of}
 use Rattle.muck_lock.specs.inner.Made.{is_short}
-use Rattle.muck_lock.proofs.Passes.{and_first, and_rest}
 
 -- bytes that are digits, of which the first is no 0
 decimal_from : (ds : List ℕ) → list_all is_digit ds ≡ true → 0 < length ds → 48 < get_or ds 0 0 → is_decimal ds ≡ true
@@ -34,7 +34,7 @@ decimal_of-decimal most n h le =
     decimal_within most (decimal n) (is_decimal-decimal n h) (let e = value_of n h in omega (arith, e, le)) ∙ ap Some (value_of n h)
 
 -- the first byte of a decimal is a digit
-no_sign : (ds : List ℕ) → list_all is_digit ds ≡ true → 0 < length ds → signed_of ds ≡ option_map (λ n. numbered (pos n)) (decimal_of 2147483647 ds)
+no_sign : (ds : List ℕ) → list_all is_digit ds ≡ true → 0 < length ds → signed_of ds ≡ option_map (λ n. dbref_numbered (pos n)) (decimal_of 2147483647 ds)
 no_sign [] h some = absurd (omega (arith, some))
 no_sign (b ∷ more) h some =
     let d : is_digit b ≡ true = and_first (is_digit b) (list_all is_digit more) h in
@@ -42,13 +42,13 @@ no_sign (b ∷ more) h some =
     let other : (b == 45) ≡ false = ne_eqb b 45 (λ e. omega (arith, low, e)) in
     rw other refl
 
-pub dbref_of-written : (z : ℤ) → is_short z ≡ true → dbref_of (35 ∷ signed_decimal z) ≡ Some (numbered z)
-unfolding dbref_of
+pub dbref_of-written : (z : ℤ) → is_short z ≡ true → dbref_written (35 ∷ signed_decimal z) ≡ Some (dbref_numbered z)
+unfolding dbref_written
 dbref_of-written (pos n) h =
     let short : n < 2147483648 = ltb-true n 2147483648 h in
     let wide : n < 2 ^ 64 = omega (arith, short) in
-    no_sign (decimal n) (digits_of n wide) (decimal_nonempty n wide) ∙ ap (option_map (λ k. numbered (pos k))) (decimal_of-decimal 2147483647 n wide (omega (arith, short)))
+    no_sign (decimal n) (digits_of n wide) (decimal_nonempty n wide) ∙ ap (option_map (λ k. dbref_numbered (pos k))) (decimal_of-decimal 2147483647 n wide (omega (arith, short)))
 dbref_of-written (negsuc n) h =
     let short : n < 2147483648 = ltb-true n 2147483648 h in
     let wide : suc n < 2 ^ 64 = omega (arith, short) in
-    ap (option_map (λ k. numbered (below k))) (decimal_of-decimal 2147483648 (suc n) wide (omega (arith, short)))
+    ap (option_map (λ k. dbref_numbered (minus k))) (decimal_of-decimal 2147483648 (suc n) wide (omega (arith, short)))

@@ -1,16 +1,7 @@
 -- Lists of which each byte passes a test.
 use Rattle.std.proofs.Common.{◌≡◌, ℕ, ◌+◌, zero, suc, Bool, true, false, cond, List, [], ◌∷◌, ◌++◌, length, take, drop, refl, sym, subst, arith}
-use Rattle.std.specs.Prelude.{◌&&◌}
 use Rattle.std.specs.List.{list_all, prefix_len}
-use Rattle.std.proofs.lemmas.Bool.{false≢true}
-
-pub and_first : (a b : Bool) → a && b ≡ true → a ≡ true
-and_first true b h = refl
-and_first false b h = absurd (false≢true h)
-
-pub and_rest : (a b : Bool) → a && b ≡ true → b ≡ true
-and_rest true b h = h
-and_rest false b h = absurd (false≢true h)
+use Rattle.muck_laws.proofs.Truths.{and_first, and_rest}
 
 abbrev pub Passes : (ℕ → Bool) → List ℕ → Type 0
 Passes q xs = prefix_len q xs ≡ length xs

@@ -1,8 +1,8 @@
 -- The first place that passes a test, and texts inside texts.
-use Rattle.std.proofs.Common.{◌≡◌, ℕ, ◌<◌, ◌≤◌, Bool, true, false, cond, List, length, take, drop, Some, None, refl, sym, ◌∙◌, ap, inl, inr, arith}
-use Rattle.std.specs.Prelude.{not, ◌==◌}
+use Rattle.std.proofs.Common.{◌≡◌, ℕ, ◌<◌, ◌≤◌, Bool, true, cond, List, length, take, drop, Some, None, refl, sym, ◌∙◌, inl, inr, arith}
+use Rattle.std.specs.Prelude.{not}
 use Rattle.std.specs.List.{position_or_len}
-use Rattle.std.proofs.lemmas.Bool.{cases_lt, lt-ltb, le-ltb, cases_eq, false≢true}
+use Rattle.std.proofs.lemmas.Bool.{cases_lt, lt-ltb, le-ltb}
 use Rattle.std.proofs.lemmas.List.{length-take, length-drop}
 use Rattle.std.proofs.lemmas.List.Sums.{prefix_len-le-length}
 use Rattle.muck_model.specs.inner.Text.{IsTextOrFault}
@@ -10,7 +10,7 @@ use Rattle.muck_model.specs.declared.line.LineFault.{LineFault}
 use Rattle.muck_model.specs.declared.line.LineFault.TheVariants.{NotLine, NoMemory}
 use Rattle.std.proofs.Common.{Err}
 use Rattle.muck_lock.proofs.Passes.{Passes, passes-take, passes-drop}
-use Rattle.muck_model.specs.Bytes.{is_outside, text_most, fault_of, text_fault}
+use Rattle.muck_model.specs.Bytes.{is_outside, text_most, fault_of_bytes, text_fault}
 
 abbrev pub is_inside : ℕ → Bool
 is_inside b = not (is_outside b)
@@ -19,21 +19,21 @@ is_inside b = not (is_outside b)
 IsClean : List ℕ → Type 0
 IsClean xs = Passes is_inside xs × (length xs ≤ text_most)
 
-short_from : (n : ℕ) → fault_of None n ≡ None → n ≤ text_most
+short_from : (n : ℕ) → fault_of_bytes None n ≡ None → n ≤ text_most
 short_from n h =
     elim (cases_lt text_most n) [
       | inl over ↦ absurd (let e : Some text_most ≡ None = rw (lt-ltb text_most n over) at h in cc)
       | inr le ↦ le
     ]
 
-no_fault : (n : ℕ) → n ≤ text_most → fault_of None n ≡ None
+no_fault : (n : ℕ) → n ≤ text_most → fault_of_bytes None n ≡ None
 no_fault n le = rw (le-ltb text_most n le) refl
 
 clean_from : (xs : List ℕ) → text_fault xs ≡ None → IsClean xs
 unfolding IsClean
 clean_from xs h =
     elim (cases_lt (position_or_len is_outside xs) (length xs)) [
-      | inl inside ↦ absurd (let e : fault_of (cond true (Some (position_or_len is_outside xs)) None) (length xs) ≡ None = rw (lt-ltb (position_or_len is_outside xs) (length xs) inside) at h in cc)
+      | inl inside ↦ absurd (let e : fault_of_bytes (cond true (Some (position_or_len is_outside xs)) None) (length xs) ≡ None = rw (lt-ltb (position_or_len is_outside xs) (length xs) inside) at h in cc)
       | inr past ↦ (omega (arith, past, prefix_len-le-length is_inside xs), short_from (length xs) (rw (le-ltb (position_or_len is_outside xs) (length xs) past) at h))
     ]
 
@@ -57,9 +57,6 @@ text_fault-drop n xs h =
     text_from (drop n xs) (passes-drop is_inside n xs c.0, omega (arith, c.1, length-drop n xs))
 
 pub ruleset parts_of_texts = (text_fault-take, text_fault-drop)
-
-pub some_bytes : (n : ℕ) → false ≡ (n == 0) → 0 < n
-some_bytes n h = elim (cases_eq n 0) [ inl e ↦ absurd (false≢true (h ∙ ap (λ m. m == 0) e)) | inr ne ↦ omega (arith, ne) ]
 
 -- a text has its bytes alone
 pub inside_from : (xs : List ℕ) → text_fault xs ≡ None → Passes is_inside xs

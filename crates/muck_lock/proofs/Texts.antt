@@ -8,7 +8,7 @@ use Rattle.muck_model.specs.declared.lock.Lock.TheVariants.{Object, Prop, Not, B
 use Rattle.muck_lock.specs.declared.part.Part.{Part}
 use Rattle.muck_lock.specs.declared.part.Part.TheVariants.{OneOf, AllOf, Term}
 use Rattle.muck_lock.specs.Paths.{is_path}
-use Rattle.muck_lock.specs.Grammar.{Reading, ends_key, object_key, property_key, key_of, key_or_fault, key_in, negated, closed_by, closed, with_first, followed, joined, term_in, all_of_in, one_of_in, part_of, reading, whole_of, whole}
+use Rattle.muck_lock.specs.Grammar.{LockReading, ends_key, object_key, property_key, lock_key_of, key_or_fault, key_in, negated, closed_by, bracket_closed, with_first_lock, sign_followed, locks_joined, term_in, all_of_in, one_of_in, part_of, part_reading, whole_of, whole}
 use Rattle.muck_lock.specs.Opens.{Holdings, object_opens, property_opens, opens_step, opens_for}
 use Rattle.muck_lock.specs.Answers.{no_names, lock_opens, text_opens}
 use Rattle.muck_lock.specs.inner.Answers.{Answer, key_opens, key_answer, negated_answer, closed_pair, closed_answer, joined_by, followed_pair, followed_answer, term_answer, all_answer, one_answer, part_in_answer, part_answer, whole_opens}
@@ -48,7 +48,7 @@ pub ruleset answers = (property_answered, object_answered)
 -- Parts.
 
 -- what was read answers so
-abbrev answer_of : Holdings → Dbref → Reading → Answer
+abbrev answer_of : Holdings → Dbref → LockReading → Answer
 answer_of w x (Ok read) = Some (opens_for w read.0 x, read.1)
 answer_of w x (Err rest) = None
 
@@ -58,9 +58,9 @@ key_by w x (Some lock) text rest = refl
 
 key_law : (w : Holdings) (x : Dbref) (text : List ℕ) → key_answer w x text ≡ answer_of w x (key_in no_names text)
 unfolding key_answer
-key_law w x text = key_by w x (key_of no_names (before_first ends_key text)) text (drop (position_or_len ends_key text) text)
+key_law w x text = key_by w x (lock_key_of no_names (before_first ends_key text)) text (drop (position_or_len ends_key text) text)
 
-negated_law : (w : Holdings) (x : Dbref) (read : Reading) → negated_answer (answer_of w x read) ≡ answer_of w x (negated read)
+negated_law : (w : Holdings) (x : Dbref) (read : LockReading) → negated_answer (answer_of w x read) ≡ answer_of w x (negated read)
 negated_law w x (Err rest) = refl
 negated_law w x (Ok read) = ap (λ b. Some (b, read.1)) (sym (opens_not w read.0 x))
 
@@ -68,52 +68,52 @@ closed_by_law : (w : Holdings) (x : Dbref) (lock : Lock) (rest : List ℕ) → c
 closed_by_law w x lock [] = refl
 closed_by_law w x lock (b ∷ more) = elim (b == 41) as (λ is. cond is (Some (opens_for w lock x, more)) None ≡ answer_of w x (cond is (Ok (lock, more)) (Err (b ∷ more)))) [ true ↦ refl | false ↦ refl ]
 
-closed_law : (w : Holdings) (x : Dbref) (read : Reading) → closed_answer (answer_of w x read) ≡ answer_of w x (closed read)
+closed_law : (w : Holdings) (x : Dbref) (read : LockReading) → closed_answer (answer_of w x read) ≡ answer_of w x (bracket_closed read)
 closed_law w x (Err rest) = refl
 closed_law w x (Ok read) = closed_by_law w x read.0 read.1
 
-with_first_law : (w : Holdings) (x : Dbref) (join : Lock → Lock → Lock) (op : Bool → Bool → Bool) (first : Lock) (read : Reading) → ((a b : Lock) → opens_for w (join a b) x ≡ op (opens_for w a x) (opens_for w b x)) →
-    option_map (λ p. (op (opens_for w first x) p.0, p.1)) (answer_of w x read) ≡ answer_of w x (with_first join first read)
+with_first_law : (w : Holdings) (x : Dbref) (join : Lock → Lock → Lock) (op : Bool → Bool → Bool) (first : Lock) (read : LockReading) → ((a b : Lock) → opens_for w (join a b) x ≡ op (opens_for w a x) (opens_for w b x)) →
+    option_map (λ p. (op (opens_for w first x) p.0, p.1)) (answer_of w x read) ≡ answer_of w x (with_first_lock join first read)
 with_first_law w x join op first (Err rest) same = refl
 with_first_law w x join op first (Ok read) same = ap (λ b. Some (b, read.1)) (sym (same first read.0))
 
-followed_law : (w : Holdings) (x : Dbref) (sign : ℕ) (join : Lock → Lock → Lock) (op : Bool → Bool → Bool) (more : List ℕ → Reading) (others : List ℕ → Answer) (first : Lock) (rest : List ℕ) →
+followed_law : (w : Holdings) (x : Dbref) (sign : ℕ) (join : Lock → Lock → Lock) (op : Bool → Bool → Bool) (more : List ℕ → LockReading) (others : List ℕ → Answer) (first : Lock) (rest : List ℕ) →
     ((a b : Lock) → opens_for w (join a b) x ≡ op (opens_for w a x) (opens_for w b x)) → ((text : List ℕ) → others text ≡ answer_of w x (more text)) →
-    followed_pair sign op others (opens_for w first x) rest ≡ answer_of w x (followed sign join more first rest)
+    followed_pair sign op others (opens_for w first x) rest ≡ answer_of w x (sign_followed sign join more first rest)
 followed_law w x sign join op more others first [] same h = refl
 followed_law w x sign join op more others first (b ∷ rest) same h =
-    elim (b == sign) as (λ is. joined_by op others (opens_for w first x) (b ∷ rest) (cond is (Some rest) None) ≡ answer_of w x (cond is (with_first join first (more rest)) (Ok (first, b ∷ rest)))) [
+    elim (b == sign) as (λ is. joined_by op others (opens_for w first x) (b ∷ rest) (cond is (Some rest) None) ≡ answer_of w x (cond is (with_first_lock join first (more rest)) (Ok (first, b ∷ rest)))) [
       | true ↦ ap (λ (a : Answer). option_map (λ p. (op (opens_for w first x) p.0, p.1)) a) (h rest) ∙ with_first_law w x join op first (more rest) same
       | false ↦ refl
     ]
 
-joined_law : (w : Holdings) (x : Dbref) (sign : ℕ) (join : Lock → Lock → Lock) (op : Bool → Bool → Bool) (more : List ℕ → Reading) (others : List ℕ → Answer) (read : Reading) →
+joined_law : (w : Holdings) (x : Dbref) (sign : ℕ) (join : Lock → Lock → Lock) (op : Bool → Bool → Bool) (more : List ℕ → LockReading) (others : List ℕ → Answer) (read : LockReading) →
     ((a b : Lock) → opens_for w (join a b) x ≡ op (opens_for w a x) (opens_for w b x)) → ((text : List ℕ) → others text ≡ answer_of w x (more text)) →
-    followed_answer sign op others (answer_of w x read) ≡ answer_of w x (joined sign join more read)
+    followed_answer sign op others (answer_of w x read) ≡ answer_of w x (locks_joined sign join more read)
 joined_law w x sign join op more others (Err rest) same h = refl
 joined_law w x sign join op more others (Ok read) same h = followed_law w x sign join op more others read.0 read.1 same h
 
-term_by : (w : Holdings) (x : Dbref) (bang group : Bool) (a b c : Reading) (p q r : Answer) → p ≡ answer_of w x a → q ≡ answer_of w x b → r ≡ answer_of w x c → cond bang p (cond group q r) ≡ answer_of w x (cond bang a (cond group b c))
+term_by : (w : Holdings) (x : Dbref) (bang group : Bool) (a b c : LockReading) (p q r : Answer) → p ≡ answer_of w x a → q ≡ answer_of w x b → r ≡ answer_of w x c → cond bang p (cond group q r) ≡ answer_of w x (cond bang a (cond group b c))
 term_by w x true group a b c p q r h i j = h
 term_by w x false true a b c p q r h i j = i
 term_by w x false false a b c p q r h i j = j
 
-term_law : (w : Holdings) (x : Dbref) (inside : Part → List ℕ → Reading) (answers_in : Part → List ℕ → Answer) (text : List ℕ) → ((part : Part) (t : List ℕ) → answers_in part t ≡ answer_of w x (inside part t)) →
+term_law : (w : Holdings) (x : Dbref) (inside : Part → List ℕ → LockReading) (answers_in : Part → List ℕ → Answer) (text : List ℕ) → ((part : Part) (t : List ℕ) → answers_in part t ≡ answer_of w x (inside part t)) →
     term_answer w x answers_in text ≡ answer_of w x (term_in no_names inside text)
 term_law w x inside answers_in [] h = refl
 term_law w x inside answers_in (b ∷ more) h =
-    term_by w x (b == 33) (b == 40) (negated (inside Term more)) (closed (inside OneOf more)) (key_in no_names (b ∷ more)) (negated_answer (answers_in Term more)) (closed_answer (answers_in OneOf more)) (key_answer w x (b ∷ more))
+    term_by w x (b == 33) (b == 40) (negated (inside Term more)) (bracket_closed (inside OneOf more)) (key_in no_names (b ∷ more)) (negated_answer (answers_in Term more)) (closed_answer (answers_in OneOf more)) (key_answer w x (b ∷ more))
     (ap (λ (a : Answer). negated_answer a) (h Term more) ∙ negated_law w x (inside Term more))
     (ap (λ (a : Answer). closed_answer a) (h OneOf more) ∙ closed_law w x (inside OneOf more))
     (key_law w x (b ∷ more))
 
-all_law : (w : Holdings) (x : Dbref) (inside : Part → List ℕ → Reading) (answers_in : Part → List ℕ → Answer) (text : List ℕ) → ((part : Part) (t : List ℕ) → answers_in part t ≡ answer_of w x (inside part t)) →
+all_law : (w : Holdings) (x : Dbref) (inside : Part → List ℕ → LockReading) (answers_in : Part → List ℕ → Answer) (text : List ℕ) → ((part : Part) (t : List ℕ) → answers_in part t ≡ answer_of w x (inside part t)) →
     all_answer w x answers_in text ≡ answer_of w x (all_of_in no_names inside text)
 all_law w x inside answers_in text h =
     ap (λ (a : Answer). followed_answer 38 (λ a b. a && b) (answers_in AllOf) a) (term_law w x inside answers_in text h)
     ∙ joined_law w x 38 Both (λ a b. a && b) (inside AllOf) (answers_in AllOf) (term_in no_names inside text) (opens_both w x) (h AllOf)
 
-one_law : (w : Holdings) (x : Dbref) (inside : Part → List ℕ → Reading) (answers_in : Part → List ℕ → Answer) (text : List ℕ) → ((part : Part) (t : List ℕ) → answers_in part t ≡ answer_of w x (inside part t)) →
+one_law : (w : Holdings) (x : Dbref) (inside : Part → List ℕ → LockReading) (answers_in : Part → List ℕ → Answer) (text : List ℕ) → ((part : Part) (t : List ℕ) → answers_in part t ≡ answer_of w x (inside part t)) →
     one_answer w x answers_in text ≡ answer_of w x (one_of_in no_names inside text)
 one_law w x inside answers_in text h =
     ap (λ (a : Answer). followed_answer 124 (λ a b. a || b) (answers_in OneOf) a) (all_law w x inside answers_in text h)
@@ -132,7 +132,7 @@ whole_of_law : (w : Holdings) (x : Dbref) (size : ℕ) (lock : Lock) (rest : Lis
 whole_of_law w x size lock [] = refl
 whole_of_law w x size lock (b ∷ rest) = refl
 
-whole_law : (w : Holdings) (x : Dbref) (size : ℕ) (read : Reading) → whole_opens (answer_of w x read) ≡ lock_opens w x (whole size read)
+whole_law : (w : Holdings) (x : Dbref) (size : ℕ) (read : LockReading) → whole_opens (answer_of w x read) ≡ lock_opens w x (whole size read)
 whole_law w x size (Err rest) = refl
 whole_law w x size (Ok read) = whole_of_law w x size read.0 read.1
 
@@ -140,7 +140,7 @@ whole_law w x size (Ok read) = whole_of_law w x size read.0 read.1
 pub text_law : (w : Holdings) (x : Dbref) (b : ℕ) (more : List ℕ) → text_opens w x (b ∷ more) ≡ whole_opens (part_answer w x (suc (length (b ∷ more))) OneOf (b ∷ more))
 unfolding text_opens
 text_law w x b more =
-    sym (ap (λ (a : Answer). whole_opens a) (part_law w x (suc (length (b ∷ more))) OneOf (b ∷ more)) ∙ whole_law w x (length (b ∷ more)) (reading no_names OneOf (b ∷ more)))
+    sym (ap (λ (a : Answer). whole_opens a) (part_law w x (suc (length (b ∷ more))) OneOf (b ∷ more)) ∙ whole_law w x (length (b ∷ more)) (part_reading no_names OneOf (b ∷ more)))
 
 -- the empty text is the free lock
 pub empty_law : (w : Holdings) (x : Dbref) → text_opens w x [] ≡ true

@@ -1,7 +1,7 @@
 -- A walk along a chain.
 use Rattle.std.proofs.Common.{◌≡◌, ℕ, ◌<◌, ◌≤◌, zero, suc, Bool, true, false, List, [], ◌∷◌, length, refl, sym, ◌∙◌, ap, subst, arith}
 use Rattle.std.proofs.lemmas.Bool.{false≢true}
-use Rattle.std.specs.Prelude.{not, if◌then◌else◌}
+use Rattle.std.specs.Prelude.{if◌then◌else◌}
 use Rattle.std.specs.List.{list_any}
 use Rattle.muck_model.specs.declared.dbref.Dbref.{Dbref}
 use Rattle.muck_lock.specs.inner.Chain.{IsChain, same, nothing}
@@ -79,11 +79,3 @@ goes_on next test all at w goes fails =
 
 pub walk-smaller : (next : Dbref → Dbref) (test : Dbref → Bool) (all : List Dbref) (at : Dbref) → Walking next test all at → same at nothing ≡ false → length (walk next (length all) (next at)) < length (walk next (length all) at)
 walk-smaller next test all at w goes = let e = rest_is next test all at w goes in omega (arith, ap length e.0)
-
-pub goes_from : (b : Bool) → true ≡ not b → b ≡ false
-goes_from true h = absurd (false≢true (sym h))
-goes_from false h = refl
-
-pub ends_from : (b : Bool) → false ≡ not b → b ≡ true
-ends_from true h = refl
-ends_from false h = absurd (false≢true h)

@@ -15,14 +15,14 @@ pub record Holdings : Type 0 where
 abbrev pub holdings : (Dbref → Option Dbref) → (Dbref → Option Dbref) → (Dbref → List Dbref) → (Dbref → List ℕ → List ℕ → Bool) → Holdings
 holdings owner place contents has = record { owner = owner; place = place; contents = contents; has = has }
 
-abbrev pub is_there : Dbref → Option Dbref → Bool
-is_there n None = false
-is_there n (Some d) = same d n
+abbrev pub stands_there : Dbref → Option Dbref → Bool
+stands_there n None = false
+stands_there n (Some d) = same d n
 
 -- x is it, is owned by it, carries it or stands in it
 abbrev pub object_opens : Holdings → Dbref → Dbref → Bool
 object_opens w n x =
-    same x n || is_there n (w.owner x) || list_any (λ d. same d n) (w.contents x) || is_there n (w.place x)
+    same x n || stands_there n (w.owner x) || list_any (λ d. same d n) (w.contents x) || stands_there n (w.place x)
 
 -- x or something that it carries has the property with that value
 abbrev pub property_opens : Holdings → List ℕ → List ℕ → Dbref → Bool

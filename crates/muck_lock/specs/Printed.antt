@@ -17,16 +17,16 @@ groups_either OneOf = false
 groups_either AllOf = true
 groups_either Term = true
 
-abbrev pub opening : Bool → List ℕ
-opening true = 40 ∷ []
-opening false = []
+abbrev pub opening_bracket : Bool → List ℕ
+opening_bracket true = 40 ∷ []
+opening_bracket false = []
 
 abbrev pub closing : Bool → List ℕ
 closing true = 41 ∷ []
 closing false = []
 
 abbrev pub grouped : Bool → List ℕ → List ℕ
-grouped in_parentheses text = opening in_parentheses ++ text ++ closing in_parentheses
+grouped in_parentheses text = opening_bracket in_parentheses ++ text ++ closing in_parentheses
 
 abbrev pub written_step : Lock-F (Part → List ℕ) → Part → List ℕ
 written_step Lock-F.Free part = []
@@ -37,8 +37,8 @@ written_step (Lock-F.Both a b) part = grouped (groups_both part) (a Term ++ 38 �
 written_step (Lock-F.Either a b) part = grouped (groups_either part) (a AllOf ++ 124 ∷ b OneOf)
 
 -- a lock as it is written where such a part stands
-abbrev pub written : Lock → Part → List ℕ
-written = fold-Lock (Part → List ℕ) written_step
+abbrev pub lock_written : Lock → Part → List ℕ
+lock_written = fold-Lock (Part → List ℕ) written_step
 
-abbrev pub printed : Lock → List ℕ
-printed lock = written lock OneOf
+abbrev pub lock_printed : Lock → List ℕ
+lock_printed lock = lock_written lock OneOf

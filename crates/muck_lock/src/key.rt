@@ -4,7 +4,7 @@ ghost use Rattle.std.specs.List.{position, position_or_len};
 ghost use Rattle.muck_model.specs.Bytes.{text_fault};
 ghost use Rattle.muck_model.specs.declared.dbref.Dbref.{Dbref};
 ghost use Rattle.muck_lock.specs.Naming.{naming};
-ghost use Rattle.muck_lock.specs.Grammar.{ends_key, key_of, object_key, property_key};
+ghost use Rattle.muck_lock.specs.Grammar.{ends_key, lock_key_of, object_key, property_key};
 
 use crate::path::is_path;
 use muck_model::{Dbref, Line, Lock, NoMemory, byte_at};
@@ -78,7 +78,7 @@ fn name_key<F: Finder>(alloc: Global, finder: &F, name: &[u8]) -> Result<Option<
 #[tactic(auto, using(crate::proofs::Places::parts_of_texts))]
 pub fn read_key<F: Finder>(alloc: Global, finder: &F, key: &[u8]) -> Result<Option<Lock>, NoMemory>
     requires { text_fault key.now ≡ None }
-    ensures { IfOk result (λ lock. lock ≡ key_of (naming (F.found finder.now) (F.programs finder.now)) key.now) }
+    ensures { IfOk result (λ lock. lock ≡ lock_key_of (naming (F.found finder.now) (F.programs finder.now)) key.now) }
 {
     match key {
         [] => Ok(None),

@@ -3,7 +3,7 @@ ghost use Rattle.std.specs.Prelude.{◌≡◌, ◌++◌, [], ◌∷◌, ◌&&◌
 ghost use Rattle.std.specs.Fmt.{signed_decimal};
 ghost use Rattle.muck_lock.specs.inner.Law.{IsPrinted, ReadsBack};
 ghost use Rattle.muck_lock.specs.inner.Made.{is_made, is_short, is_text};
-ghost use Rattle.muck_lock.specs.Printed.{groups_both, groups_either, opening, closing, written};
+ghost use Rattle.muck_lock.specs.Printed.{groups_both, groups_either, opening_bracket, closing, lock_written};
 
 use crate::fault::LockFault;
 use crate::part::Part;
@@ -30,7 +30,7 @@ fn groups_either(part: Part) -> bool
 }
 
 fn open(in_parentheses: bool, out: &mut Vec<u8>) -> Result<(), NoMemory>
-    ensures { OnOk result (out.new.items ≡ out.old.items ++ opening in_parentheses) }
+    ensures { OnOk result (out.new.items ≡ out.old.items ++ opening_bracket in_parentheses) }
 {
     if in_parentheses {
         out.push(b'(')?;
@@ -69,7 +69,7 @@ fn put_property(path: &Line, value: &Line, out: &mut Vec<u8>) -> Result<(), NoMe
 
 // Writes a lock where such a part stands.
 fn put(lock: &Lock, part: Part, out: &mut Vec<u8>) -> Result<(), NoMemory>
-    ensures text { OnOk result (out.new.items ≡ out.old.items ++ written lock.now part) }
+    ensures text { OnOk result (out.new.items ≡ out.old.items ++ lock_written lock.now part) }
     ensures made { OnOk result (is_made lock.now ≡ true) }
 {
     match lock {

@@ -2,7 +2,7 @@
 ghost use Rattle.std.specs.Prelude.{◌≡◌, ◌<◌, ◌≤◌, ◌^◌, ◌∷◌, not, Ok, Some, None, List, Bool, ℕ, length, drop};
 ghost use Rattle.std.specs.Option.{option_map, option_and_then};
 ghost use Rattle.std.specs.List.{before_first, list_any, position, position_or_len};
-ghost use Rattle.muck_lock.specs.Grammar.{ends_key, is_colon, object_key, key_of, property_key};
+ghost use Rattle.muck_lock.specs.Grammar.{ends_key, is_colon, object_key, lock_key_of, property_key};
 ghost use Rattle.muck_lock.specs.declared.part.Part.{Part};
 ghost use Rattle.muck_lock.specs.Opens.{holdings, property_opens, opens_for};
 ghost use Rattle.muck_lock.specs.Answers.{no_names, text_opens};
@@ -59,7 +59,7 @@ fn object_answer<K: TextKeys>(keys: &K, d: Option<Dbref>, x: Dbref) -> Option<bo
 
 // Whether a key opens for x; none where it names something.
 fn key_opens<K: TextKeys>(keys: &K, key: &[u8], x: Dbref) -> Option<bool>
-    ensures { result ≡ option_map (λ lock. opens_for (holdings (K.Keys.owners keys.now) (K.Keys.places keys.now) (K.Keys.contents keys.now) (K.Keys.has keys.now)) lock x) (key_of no_names key.now) }
+    ensures { result ≡ option_map (λ lock. opens_for (holdings (K.Keys.owners keys.now) (K.Keys.places keys.now) (K.Keys.contents keys.now) (K.Keys.has keys.now)) lock x) (lock_key_of no_names key.now) }
 {
     let (first, _) = key.split_first()?;
     if *first == b'#' {

@@ -1,9 +1,9 @@
 -- What `append` makes of what it prepared.
 use Rattle.std.proofs.Common.{◌≡◌, ℕ, ◌≤◌, Bool, true, false, cond, List, length, Some, Ok, sym, ◌∙◌, ap, subst, arith}
 use Rattle.muck_disk.specs.Images.{Only}
-use Rattle.muck_log.specs.World.{World, laid}
+use Rattle.muck_log.specs.World.{StoredWorld, laid}
 use Rattle.muck_log.specs.File.{after_number}
-use Rattle.muck_log.specs.Store.{Chosen, LogState, IsMounted, MayBeAt, IsDone, stored, must_close, opens_new, target, next_body, after_batch, framed, pick}
+use Rattle.muck_log.specs.Store.{Chosen, LogState, IsMounted, MayBeAt, IsDone, store_of, must_close, opens_new, target, next_body, after_batch, framed, pick}
 use Rattle.muck_log.specs.Append.{IsEither, IsTarget, IsReady, IsFinished, IsNext, more_of}
 use Rattle.muck_log.specs.declared.log.Target.{Target}
 use Rattle.muck_log.specs.declared.log.Ready.{Ready}
@@ -11,7 +11,7 @@ use Rattle.muck_log.proofs.Files.{body_length}
 use Rattle.muck_log.proofs.Stores.{Fits}
 use Rattle.muck_log.proofs.Mounted.{laid_long, number_fits, within_target, close_target, may_stored, done_stored, close_after, other_after}
 
-pub place_within : (log : LogState) (a b : List ℕ) (t : Target) → IsTarget log t → stored a b ≡ Ok log.chosen → t.place ≤ length (pick t.second a b)
+pub place_within : (log : LogState) (a b : List ℕ) (t : Target) → IsTarget log t → store_of a b ≡ Ok log.chosen → t.place ≤ length (pick t.second a b)
 place_within log a b t goes e = subst (λ at. t.place ≤ length (pick at a b)) (sym goes.second) (omega (arith, goes.place, within_target a b log.chosen e))
 
 pub close_is : (log : LogState) (a b : List ℕ) (t : Target) → IsTarget log t → log.close ≡ must_close log.chosen.place (pick log.chosen.second a b) → log.other_close ≡ must_close 0 (pick log.chosen.second b a)
@@ -20,7 +20,7 @@ close_is log a b t goes close other =
     goes.close ∙ close_target a b log.chosen log.close log.other_close close other
     ∙ ap (λ k. must_close k (pick (target log.chosen).second a b)) (sym goes.place) ∙ ap (λ at. must_close t.place (pick at a b)) (sym goes.second)
 
-pub fits_ready : (old new : LogState) (payload : List ℕ) (ready : Ready) (w : World) → IsReady old new payload ready → laid payload (target old.chosen).held.world ≡ Some w → Fits (target old.chosen) old.chosen payload w
+pub fits_ready : (old new : LogState) (payload : List ℕ) (ready : Ready) (w : StoredWorld) → IsReady old new payload ready → laid payload (target old.chosen).held.world ≡ Some w → Fits (target old.chosen) old.chosen payload w
 unfolding more_of next_body
 fits_ready old new payload ready w r e = record {
   generation = omega (arith, r.goes.generation, r.wide);
@@ -30,8 +30,8 @@ fits_ready old new payload ready w r e = record {
   makes = e;
 }
 
-pub may_ready : (old new : LogState) (payload : List ℕ) (ready : Ready) (w : World) (a b c d : List ℕ) → IsReady old new payload ready → laid payload (target old.chosen).held.world ≡ Some w → stored a b ≡ Ok old.chosen
-    → MayBeAt ready.target.second ready.target.place ready.tail.items a b c d → IsEither old.chosen (after_batch old.chosen payload w) (stored c d)
+pub may_ready : (old new : LogState) (payload : List ℕ) (ready : Ready) (w : StoredWorld) (a b c d : List ℕ) → IsReady old new payload ready → laid payload (target old.chosen).held.world ≡ Some w → store_of a b ≡ Ok old.chosen
+    → MayBeAt ready.target.second ready.target.place ready.tail.items a b c d → IsEither old.chosen (after_batch old.chosen payload w) (store_of c d)
 may_ready old new payload ready w a b c d r e load may =
     may_stored a b old.chosen load payload w (fits_ready old new payload ready w r e) c d
     (subst (λ at. MayBeAt at (target old.chosen).place (framed (next_body old.chosen payload)) a b c d) r.goes.second

@@ -1,8 +1,8 @@
 -- Laying what is written of a batch gives the world that it was taken from.
-use Rattle.std.proofs.Common.{◌≡◌, ℕ, suc, ◌<◌, ◌≤◌, ◌^◌, Bool, true, false, cond, not, ltb, eqb, List, [], ◌∷◌, ◌++◌, length, set, Option, Some, None, option_and_then, Ok, refl, sym, ap, subst, ◌∙◌, append_assoc, arith, length-append}
+use Rattle.std.proofs.Common.{◌≡◌, ℕ, suc, ◌<◌, ◌≤◌, ◌^◌, Bool, true, false, cond, not, ltb, eqb, List, [], ◌∷◌, ◌++◌, length, map, set, Option, Some, None, option_and_then, Ok, refl, sym, ap, subst, ◌∙◌, append_assoc, arith, length-append}
 use Rattle.std.specs.Prelude.{All, pos, int_lt, nat_le, slice_get}
 use Rattle.std.specs.List.{filter, list_all}
-use Rattle.std.proofs.lemmas.Bool.{and_parts, and_from, le-leb, cond-true, cond-false, leb-true, lt-ltb, le-ltb, eq-eqb}
+use Rattle.std.proofs.lemmas.Bool.{and_parts, and_from, le-leb, cond-true, cond-false, lt-ltb, le-ltb, eq-eqb}
 use Rattle.std.proofs.lemmas.List.{append-nil}
 use Rattle.std.proofs.lemmas.List.Elements.{All-head, All-tail}
 use Rattle.std.proofs.lemmas.List.Filters.{length-filter_both}
@@ -10,22 +10,25 @@ use Rattle.std.proofs.lemmas.Option.{slice_get_past, same_Some, none-some}
 use Rattle.std.proofs.Math.Seq.{set-append_seam}
 use Rattle.muck_model.specs.declared.dbref.Dbref.{Dbref}
 use Rattle.muck_model.specs.declared.tune.Tune.{Tune}
+use Rattle.muck_model.specs.declared.tune.Parameter.{Parameter}
+use Rattle.muck_model.specs.Parameters.{parameters, parameter_of, tune_fits}
+use Rattle.muck_model.proofs.Parameters.{in_range, most_is_word}
 use Rattle.spec_live.specs.Consistent.{IsConsistent}
 use Rattle.spec_live.specs.Objects.{Entry, dbref_of, index_of}
 use Rattle.muck_codec.specs.declared.stored.Stored.{Stored}
 use Rattle.muck_codec.specs.declared.stored.Batch.{Batch}
 use Rattle.muck_codec.specs.Batches.{is_above, whole_batch, batch_bytes}
-use Rattle.muck_codec.specs.inner.Stored.{IsStored, Run}
-use Rattle.muck_codec.proofs.Batches.{IsNextRecord, dbref_key, IsTune, whole_reads}
+use Rattle.muck_codec.specs.inner.Stored.{IsStored, IsTune, IsWord, Run}
+use Rattle.muck_codec.proofs.Batches.{IsNextRecord, dbref_key, whole_reads}
 use Rattle.muck_store.proofs.Changing.{left_filter, left_whole}
 use Rattle.muck_store.proofs.Stored.{consistent_whole}
 use Rattle.muck_store.proofs.StoredForms.{length_persist}
 use Rattle.muck_store.specs.inner.Changes.{IsKept, LeavesOut}
 use Rattle.muck_store.specs.Forms.{stored_of, stored_from, persist, world_batch}
-use Rattle.muck_store.specs.Limits.{fits}
-use Rattle.muck_store.specs.Whole.{is_whole}
+use Rattle.muck_store.specs.Limits.{record_fits}
+use Rattle.muck_store.specs.Whole.{is_whole_store}
 use Rattle.muck_log.specs.File.{begin}
-use Rattle.muck_log.specs.World.{World, IsFine, start, is_between, tune_fits, is_fine, put_at, placed, all_placed, judged_world, laid_over, batch_if, laid, kept_of, differs, written}
+use Rattle.muck_log.specs.World.{StoredWorld, IsFine, start, is_fine, record_put_at, record_placed, all_placed, judged_world, laid_over, batch_if, laid, kept_record, differs, records_written}
 use Rattle.muck_log.specs.Store.{Chosen, LogState, opens_new, target}
 use Rattle.muck_log.specs.Append.{IsLaidNext, MakesWorld, base_of, payload_of}
 use Rattle.muck_log.proofs.Differing.{differs_by, equals, found_stored, kept_same}
@@ -50,18 +53,18 @@ persist_length es k (e ∷ rest) = ap suc (persist_length es (suc k) rest)
 
 -- One record in its place.
 
-at_number : (objects : List Stored) (o : Stored) (k : ℕ) → o.dbref ≡ dbref_of k → placed o objects ≡ put_at objects o k
-unfolding placed
-at_number objects o k is = ap (λ (d : Dbref). option_and_then (put_at objects o) (index_of d)) is
+at_number : (objects : List Stored) (o : Stored) (k : ℕ) → o.dbref ≡ dbref_of k → record_placed o objects ≡ record_put_at objects o k
+unfolding record_placed
+at_number objects o k is = ap (λ (d : Dbref). option_and_then (record_put_at objects o) (index_of d)) is
 
 abbrev some : List Stored → Option (List Stored)
 some os = Some os
 
-put_last : (objects : List Stored) (o : Stored) (k : ℕ) → length objects ≡ k → put_at objects o k ≡ some (objects ++ o ∷ [])
+put_last : (objects : List Stored) (o : Stored) (k : ℕ) → length objects ≡ k → record_put_at objects o k ≡ some (objects ++ o ∷ [])
 put_last objects o k size =
     cond-false (ltb k (length objects)) _ _ (le-ltb k (length objects) (omega (arith, size))) ∙ cond-true (eqb k (length objects)) _ _ (eq-eqb k (length objects) (sym size))
 
-put_within : (front rest : List Stored) (r o : Stored) (k : ℕ) → length front ≡ k → put_at (front ++ r ∷ rest) o k ≡ some (front ++ o ∷ rest)
+put_within : (front rest : List Stored) (r o : Stored) (k : ℕ) → length front ≡ k → record_put_at (front ++ r ∷ rest) o k ≡ some (front ++ o ∷ rest)
 put_within front rest r o k size =
     cond-true (ltb k (length (front ++ r ∷ rest))) _ _ (lt-ltb k (length (front ++ r ∷ rest)) (omega (arith, size, length-append front (r ∷ rest))))
     ∙ ap some (ap (λ n. set (front ++ r ∷ rest) n o) (sym size) ∙ set-append_seam front r rest o)
@@ -111,7 +114,7 @@ seam : (front kept : List Stored) → slice_get (front ++ kept) (length front) �
 seam [] kept = refl
 seam (x ∷ front) kept = seam front kept
 
-kept_at : (objects : List Stored) (o : Stored) (k : ℕ) → o.dbref ≡ dbref_of k → kept_of objects o ≡ slice_get objects k
+kept_at : (objects : List Stored) (o : Stored) (k : ℕ) → o.dbref ≡ dbref_of k → kept_record objects o ≡ slice_get objects k
 kept_at objects o k number = ap (λ (d : Dbref). option_and_then (slice_get objects) (index_of d)) number
 
 none_kept : (objects records : List Stored) (k : ℕ) → length objects ≤ k → Numbered k records → AreKept (differs objects) records []
@@ -159,33 +162,23 @@ written_rises test before k (o ∷ os) below number stored =
 few : (test : Stored → Bool) (records : List Stored) → length (filter test records) ≤ length records
 few test records = omega (arith, length-filter_both test (λ o. not (test o)) (λ o. refl) records)
 
-narrow : (n most : ℕ) → is_between n most ≡ true → most < 2 ^ 32 → n < 2 ^ 32
-narrow n most e lt = omega (arith, lt, leb-true n most (and_parts (nat_le 1 n) (nat_le n most) e).1)
-
 -- parameters within their limits are numbers of 32 bits
 pub tune_words : (t : Tune) → tune_fits t ≡ true → IsTune t
-unfolding tune_fits
-tune_words t e =
-    let a = and_parts (is_between t.instr_slice 20000) _ e in
-    let b = and_parts (is_between t.preempt_units 20000) _ a.1 in
-    let c = and_parts (is_between t.m1_units 1000000) _ b.1 in
-    let d = and_parts (is_between t.m2_units 1000000) _ c.1 in
-    let f = and_parts (is_between t.process_limit 400) _ d.1 in
-    let g = and_parts (is_between t.player_processes 400) _ f.1 in
-    let h = and_parts (is_between t.mpi_commands 2048) (is_between t.dump_interval 86400) g.1 in (
-      (narrow t.instr_slice 20000 a.0 (omega arith), (narrow t.preempt_units 20000 b.0 (omega arith), (narrow t.m1_units 1000000 c.0 (omega arith), narrow t.m2_units 1000000 d.0 (omega arith)))),
-      (narrow t.process_limit 400 f.0 (omega arith), (narrow t.player_processes 400 g.0 (omega arith), (narrow t.mpi_commands 2048 h.0 (omega arith), narrow t.dump_interval 86400 h.1 (omega arith)))),
-    )
+tune_words t e = words None parameters
+  where
+    words : (before : Option ℕ) (ps : List Parameter) → Run (λ (n : ℕ). n) IsWord before (map (λ p. parameter_of p t) ps)
+    words before [] = tt
+    words before (p ∷ ps) = (omega (arith, (in_range t e p).1, most_is_word p), words (Some (parameter_of p t)) ps)
 
 -- What is laid.
 
-laid_batch : (payload : List ℕ) (b : Batch) (w : World) (objects : List Stored) → whole_batch 1 payload ≡ Ok b → all_placed b.records w.objects ≡ some objects → laid payload w ≡ judged_world b.tune objects
+laid_batch : (payload : List ℕ) (b : Batch) (w : StoredWorld) (objects : List Stored) → whole_batch 1 payload ≡ Ok b → all_placed b.records w.objects ≡ some objects → laid payload w ≡ judged_world b.tune objects
 unfolding laid laid_over
 laid_batch payload b w objects reads places = ap (λ r. option_and_then (λ x. laid_over x w) (batch_if r)) reads ∙ ap (option_and_then (judged_world b.tune)) places
 
-lays_written : (w : World) (es : List Entry) (tune : Tune) → All IsStored (persist es) → All IsStored w.objects → length w.objects ≤ length es → length (written w.objects (persist es)) < 2 ^ 32 → IsTune tune
-    → laid (batch_bytes (written w.objects (persist es)) tune) w ≡ judged_world tune (persist es)
-unfolding written persist
+lays_written : (w : StoredWorld) (es : List Entry) (tune : Tune) → All IsStored (persist es) → All IsStored w.objects → length w.objects ≤ length es → length (records_written w.objects (persist es)) < 2 ^ 32 → IsTune tune
+    → laid (batch_bytes (records_written w.objects (persist es)) tune) w ≡ judged_world tune (persist es)
+unfolding records_written persist
 lays_written w es tune stored kept le size words =
     let test = differs w.objects in
     let long = persist_length es 0 es in
@@ -195,7 +188,7 @@ lays_written w es tune stored kept le size words =
     (whole_reads (filter test (persist es)) tune (size, written_rises test None 0 (persist es) tt numbered stored) words)
     (all_laid test [] w.objects (persist es) 0 refl numbered are)
 
-abbrev some_world : World → Option World
+abbrev some_world : StoredWorld → Option StoredWorld
 some_world w = Some w
 
 -- What the next batch is laid over: what the store holds, or the starting world.
@@ -222,17 +215,17 @@ target_covered : (s : Chosen) (n : ℕ) → length (objects_of s) ≤ n → 2 �
 target_covered s n le two = target_has (λ os. length os ≤ n) s (opens_new s.held) refl (omega (arith, two, start_two)) le
 
 batch_laid : (log : LogState) (es : List Entry) (tune : Tune) → All IsStored (persist es) → All IsStored (objects_of (target log.chosen)) → length (objects_of (target log.chosen)) ≤ length es
-    → length (written (objects_of (target log.chosen)) (persist es)) < 2 ^ 32 → IsTune tune → laid (payload_of log (world_batch es tune)) (target log.chosen).held.world ≡ judged_world tune (persist es)
+    → length (records_written (objects_of (target log.chosen)) (persist es)) < 2 ^ 32 → IsTune tune → laid (payload_of log (world_batch es tune)) (target log.chosen).held.world ≡ judged_world tune (persist es)
 unfolding payload_of
 batch_laid log es tune = lays_written (target log.chosen).held.world es tune
 
-judged_is : (b : Bool) (made w : World) → cond b (some_world made) None ≡ some_world w → w ≡ made
+judged_is : (b : Bool) (made w : StoredWorld) → cond b (some_world made) None ≡ some_world w → w ≡ made
 judged_is true made w e = sym (same_Some made w e)
 judged_is false made w e = absurd (none-some w e)
 
 -- Where what is written makes a world at all, it makes the one that it was taken from. The tune parameters are numbers of 32 bits.
-lays_whole : (log : LogState) (es : List Entry) (tune : Tune) (w : World) → All IsStored (persist es) → All IsStored (objects_of (target log.chosen)) → length (objects_of log.chosen) ≤ length es → 2 ≤ length es
-    → length (written (objects_of (target log.chosen)) (persist es)) < 2 ^ 32 → IsTune tune → laid (payload_of log (world_batch es tune)) (target log.chosen).held.world ≡ Some w → w ≡ record { objects = persist es; tune = tune }
+lays_whole : (log : LogState) (es : List Entry) (tune : Tune) (w : StoredWorld) → All IsStored (persist es) → All IsStored (objects_of (target log.chosen)) → length (objects_of log.chosen) ≤ length es → 2 ≤ length es
+    → length (records_written (objects_of (target log.chosen)) (persist es)) < 2 ^ 32 → IsTune tune → laid (payload_of log (world_batch es tune)) (target log.chosen).held.world ≡ Some w → w ≡ record { objects = persist es; tune = tune }
 lays_whole log es tune w stored kept le two size words makes =
     let covered = target_covered log.chosen (length es) le two in
     judged_is (is_fine (persist es) tune) (record { objects = persist es; tune = tune }) w (sym (batch_laid log es tune stored kept covered size words) ∙ makes)
@@ -258,22 +251,22 @@ base_kept log o false e kept = subst (λ os. IsKept os o) (base_stays log e ∙ 
 
 module _ (log : LogState) (es : List Entry) (records : List Stored) (kept : All IsStored (objects_of (target log.chosen))) (left : LeavesOut (base_of log) (persist es) records) where
   -- what is written of it is what is written of all records
-  written_left : written (objects_of (target log.chosen)) records ≡ written (objects_of (target log.chosen)) (persist es)
-  unfolding written
+  written_left : records_written (objects_of (target log.chosen)) records ≡ records_written (objects_of (target log.chosen)) (persist es)
+  unfolding records_written
   written_left = left_filter (differs (objects_of (target log.chosen))) (λ o is. kept_same (objects_of (target log.chosen)) o kept (base_kept log o (opens_new log.chosen.held) refl is)) left
 
   -- and where its records have spellings, all records have
   stored_left : All IsStored records → All IsStored (persist es)
   stored_left = left_whole IsStored (λ o is. found_stored (objects_of (target log.chosen)) (index_of o.dbref) o kept (base_kept log o (opens_new log.chosen.held) refl is)) left
 
-  written_few : length records < 2 ^ 32 → length (written (objects_of (target log.chosen)) (persist es)) < 2 ^ 32
-  unfolding written
+  written_few : length records < 2 ^ 32 → length (records_written (objects_of (target log.chosen)) (persist es)) < 2 ^ 32
+  unfolding records_written
   written_few size = omega (arith, size, few (differs (objects_of (target log.chosen))) records, ap length written_left)
 
 payload_over : (log : LogState) (batch : Batch) (es : List Entry) (tune : Tune) → All IsStored (objects_of (target log.chosen)) → LeavesOut (base_of log) (persist es) batch.records → batch.tune ≡ tune
     → payload_of log batch ≡ payload_of log (world_batch es tune)
 unfolding payload_of
-payload_over log batch es tune kept left tuned = ap (λ os. batch_bytes os batch.tune) (written_left log es batch.records kept left) ∙ ap (batch_bytes (written (objects_of (target log.chosen)) (persist es))) tuned
+payload_over log batch es tune kept left tuned = ap (λ os. batch_bytes os batch.tune) (written_left log es batch.records kept left) ∙ ap (batch_bytes (records_written (objects_of (target log.chosen)) (persist es))) tuned
 
 -- A batch that leaves out what is kept is written as the whole batch of its world.
 pub left_payload : (log : LogState) (batch : Batch) (es : List Entry) (tune : Tune) → All IsStored log.chosen.held.world.objects → LeavesOut (base_of log) (persist es) batch.records → batch.tune ≡ tune
@@ -292,14 +285,14 @@ ready_whole old new batch lays stored kept few es tune left tuned words two cove
 
 fine_tune : (es : List Entry) (tune : Tune) → is_fine (persist es) tune ≡ true → tune_fits tune ≡ true
 unfolding is_fine
-fine_tune es tune fine = (and_parts (tune_fits tune) _ (and_parts (list_all fits (persist es)) _ (and_parts (nat_le (length (persist es)) 100000) _ fine).1).1).0
+fine_tune es tune fine = (and_parts (tune_fits tune) _ (and_parts (list_all record_fits (persist es)) _ (and_parts (nat_le (length (persist es)) 100000) _ fine).1).1).0
 
 -- A consistent world may be stored.
-pub fine_world : (es : List Entry) (tune : Tune) → IsConsistent es → list_all fits (persist es) ≡ true → tune_fits tune ≡ true → is_fine (persist es) tune ≡ true
+pub fine_world : (es : List Entry) (tune : Tune) → IsConsistent es → list_all record_fits (persist es) ≡ true → tune_fits tune ≡ true → is_fine (persist es) tune ≡ true
 unfolding is_fine
 fine_world es tune consistent limits tuned =
     and_from (nat_le (length (persist es)) 100000) _ (le-leb (length (persist es)) 100000 (omega (arith, consistent.ordered.few, length_persist es)))
-    (and_from (list_all fits (persist es)) _ limits (and_from (tune_fits tune) (is_whole (persist es)) tuned (consistent_whole es consistent)))
+    (and_from (list_all record_fits (persist es)) _ limits (and_from (tune_fits tune) (is_whole_store (persist es)) tuned (consistent_whole es consistent)))
 
 -- In the words of its caller: the batch of a world that hangs together with every value within its limits makes that world, where it
 -- has no fewer objects than are kept.
@@ -319,11 +312,11 @@ retuned : (objects : List Stored) (old tune : Tune) → is_fine objects old ≡ 
 unfolding is_fine
 retuned objects old tune fine tuned =
     let a = and_parts (nat_le (length objects) 100000) _ fine in
-    let b = and_parts (list_all fits objects) _ a.1 in
-    let c = and_parts (tune_fits old) (is_whole objects) b.1 in
-    and_from (nat_le (length objects) 100000) _ a.0 (and_from (list_all fits objects) _ b.0 (and_from (tune_fits tune) (is_whole objects) tuned c.1))
+    let b = and_parts (list_all record_fits objects) _ a.1 in
+    let c = and_parts (tune_fits old) (is_whole_store objects) b.1 in
+    and_from (nat_le (length objects) 100000) _ a.0 (and_from (list_all record_fits objects) _ b.0 (and_from (tune_fits tune) (is_whole_store objects) tuned c.1))
 
-lays_nothing : (w : World) (tune : Tune) → is_fine w.objects w.tune ≡ true → tune_fits tune ≡ true → laid (batch_bytes [] tune) w ≡ Some (record { objects = w.objects; tune = tune })
+lays_nothing : (w : StoredWorld) (tune : Tune) → is_fine w.objects w.tune ≡ true → tune_fits tune ≡ true → laid (batch_bytes [] tune) w ≡ Some (record { objects = w.objects; tune = tune })
 unfolding all_placed
 lays_nothing w tune fine tuned =
     laid_batch (batch_bytes [] tune) (record { records = []; tune = tune }) w w.objects (whole_reads [] tune (omega arith, tt) (tune_words tune tuned)) refl
@@ -335,7 +328,7 @@ target_fine s true e fine = subst (λ (t : Chosen). IsFine t.held.world) (sym (c
 target_fine s false e fine = subst (λ (t : Chosen). IsFine t.held.world) (sym (cond-false (opens_new s.held) _ _ e)) fine
 
 pub nothing_makes : (log : LogState) (batch : Batch) → IsFine log.chosen.held.world → batch.records ≡ [] → tune_fits batch.tune ≡ true → MakesWorld log batch
-unfolding payload_of written
+unfolding payload_of records_written
 nothing_makes log batch fine none tuned =
     let w = (target log.chosen).held.world in (
       record { objects = w.objects; tune = batch.tune },

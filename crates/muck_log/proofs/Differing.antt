@@ -14,12 +14,12 @@ use Rattle.muck_codec.specs.Spelling.{spelling}
 use Rattle.muck_codec.specs.inner.Stored.{IsStored}
 use Rattle.muck_codec.proofs.Batches.{same_record}
 use Rattle.muck_store.specs.inner.Changes.{IsKept}
-use Rattle.muck_log.specs.World.{kept_of, differs}
+use Rattle.muck_log.specs.World.{kept_record, differs}
 
 abbrev pub differs_from : Stored → Stored → Bool
 differs_from o kept = nat_lt lines_most (length kept.lines) || not (bytes_eq (spelling kept) (spelling o))
 
-pub differs_by : (objects : List Stored) (o : Stored) (found : Option Stored) → kept_of objects o ≡ found → differs objects o ≡ option_map_or (differs_from o) found true
+pub differs_by : (objects : List Stored) (o : Stored) (found : Option Stored) → kept_record objects o ≡ found → differs objects o ≡ option_map_or (differs_from o) found true
 unfolding differs
 differs_by objects o found is = ap (λ (x : Option Stored). option_map_or (differs_from o) x true) is
 
@@ -48,4 +48,4 @@ kept_same objects o all is = differs_by objects o (Some o) is ∙ itself o (foun
 
 pub kept_differs : (objects : List Stored) (o : Stored) (b : Bool) → All IsStored objects → IsStored o → Decides b (IsKept objects o) → not b ≡ differs objects o
 kept_differs objects o true all is tells = sym (kept_same objects o all (tells.0 refl))
-kept_differs objects o false all is tells = sym (differs_by objects o (kept_of objects o) refl ∙ another o (kept_of objects o) is (λ r. found_stored objects (index_of o.dbref) r all) (λ e. false≢true (tells.1 e)))
+kept_differs objects o false all is tells = sym (differs_by objects o (kept_record objects o) refl ∙ another o (kept_record objects o) is (λ r. found_stored objects (index_of o.dbref) r all) (λ e. false≢true (tells.1 e)))

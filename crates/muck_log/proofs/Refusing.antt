@@ -1,11 +1,12 @@
 -- What is refused before any write.
 use Rattle.std.specs.Prelude.{◌≡◌, ◌≤◌, List, length, Some, true, Err}
 use Rattle.muck_model.specs.declared.tune.Tune.{Tune}
+use Rattle.muck_model.specs.Parameters.{tune_fits}
 use Rattle.spec_live.specs.Objects.{Entry}
 use Rattle.muck_codec.specs.declared.stored.Batch.{Batch}
 use Rattle.muck_store.specs.inner.Changes.{LeavesOut}
 use Rattle.muck_store.specs.Forms.{persist}
-use Rattle.muck_log.specs.World.{laid, tune_fits}
+use Rattle.muck_log.specs.World.{laid}
 use Rattle.muck_log.specs.Store.{LogState, target}
 use Rattle.muck_log.specs.Append.{IsRefused, IsTouching, base_of, payload_of}
 use Rattle.muck_log.specs.declared.fault.LogFault.{LogFault}

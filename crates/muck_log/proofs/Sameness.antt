@@ -1,16 +1,13 @@
 -- Two records are the same exactly where their fields are.
-use Rattle.std.proofs.Common.{◌≡◌, ℕ, Bool, ◌&&◌, List, ap}
-use Rattle.std.specs.Prelude.{bytes_eq}
+use Rattle.std.proofs.Common.{◌≡◌, Bool, ◌&&◌, ap}
 use Rattle.std.specs.Bool.{Decides}
-use Rattle.std.specs.Cmp.Lexicographic.{pointwise}
 use Rattle.std.proofs.lemmas.Bool.Decides.{Decides-and, Decides-like}
-use Rattle.std.proofs.lemmas.Slice.Eq.{bytes_eq-Decides, slice_eq-Decides}
 use Rattle.muck_codec.specs.declared.record.Head.{Head}
 use Rattle.muck_codec.specs.declared.record.Ties.{Ties}
 use Rattle.muck_codec.specs.declared.record.Lists.{Lists}
 use Rattle.muck_codec.specs.declared.record.Texts.{Texts}
 use Rattle.muck_codec.specs.declared.stored.Stored.{Stored}
-use Rattle.muck_codec.specs.Records.{stored_of}
+use Rattle.muck_codec.specs.Records.{stored_from_parts}
 use Rattle.muck_log.specs.inner.Same.{HasSameHead, HasSameTies, HasSameLists, HasSameTexts}
 
 abbrev parts_of : Stored → Head × (Ties × (Lists × Texts))
@@ -23,7 +20,7 @@ parts_of o = (
 )
 
 same_all : (a b : Stored) → HasSameHead a b → HasSameTies a b → HasSameLists a b → HasSameTexts a b → a ≡ b
-same_all a b head ties lists texts = ap stored_of parts
+same_all a b head ties lists texts = ap stored_from_parts parts
   where
     parts : parts_of a ≡ parts_of b
     parts = cc
@@ -45,7 +42,3 @@ same_by a b head ties lists texts h t l x =
 
     has_texts : a ≡ b → HasSameTexts a b
     has_texts e = (cc, (cc, (cc, cc)))
-
--- lists of texts
-pub texts_same : (xs ys : List (List ℕ)) (r : Bool) → r ≡ pointwise bytes_eq xs ys → Decides r (xs ≡ ys)
-texts_same = slice_eq-Decides bytes_eq-Decides

@@ -2,23 +2,23 @@
 use Rattle.std.proofs.Common.{◌≡◌, ◌⊎◌, inl, inr, ⊎_elim, ℕ, ◌+◌, ◌<◌, ◌≤◌, ◌^◌, Bool, true, false, not, cond, eqb, ltb, ◌||◌, List, length, Option, Some, None, Result, Ok, Err, option_map, option_and_then, refl, sym, ◌∙◌, ap, subst, arith}
 use Rattle.std.proofs.lemmas.Bool.{cases_eq, cases_Bool, cond-true, cond-false, eq-eqb, ne_eqb, lt-ltb, le-ltb, ltb-true, ltb-false, and_from, or_left, or_right}
 use Rattle.muck_log.specs.Body.{Body, body_bytes}
-use Rattle.muck_log.specs.World.{World, laid}
-use Rattle.muck_log.specs.File.{Held, End, Opened, begin, join, follows, after_number, file_of}
-use Rattle.muck_log.specs.Store.{Chosen, Damage, loaded, picked, stored, opens_new, target, framed, IsDone, MayBe, pick}
+use Rattle.muck_log.specs.World.{StoredWorld, laid}
+use Rattle.muck_log.specs.File.{Held, ReadingEnd, Opened, begin, join, follows, after_number, file_of}
+use Rattle.muck_log.specs.Store.{Chosen, Damage, file_loaded, file_picked, store_of, opens_new, target, framed, IsDone, MayBe, pick}
 use Rattle.muck_log.specs.Append.{IsEither}
 use Rattle.muck_log.proofs.Files.{opened, file_facts, kept_open, kept_start, done_open, done_start, body_reads, head_reads, body_length}
 
 -- the file that is written, and the other, in their order
 abbrev pub stored_at : Bool → List ℕ → List ℕ → Result Chosen Damage
-stored_at true own other = stored other own
-stored_at false own other = stored own other
+stored_at true own other = store_of other own
+stored_at false own other = store_of own other
 
 abbrev picked_at : Bool → Option (Option Opened) → Option (Option Opened) → Result Chosen Damage
-picked_at true own other = picked other own
-picked_at false own other = picked own other
+picked_at true own other = file_picked other own
+picked_at false own other = file_picked own other
 
 stored_is : (at : Bool) (own other : List ℕ) → stored_at at own other ≡ picked_at at (file_of own) (file_of other)
-unfolding stored
+unfolding store_of
 stored_is true own other = refl
 stored_is false own other = refl
 
@@ -27,12 +27,12 @@ IsLower None g = Unit {0}
 IsLower (Some None) g = ⊥
 IsLower (Some (Some o)) g = o.generation < g
 
-abbrev chosen_at : Bool → End → Chosen
+abbrev chosen_at : Bool → ReadingEnd → Chosen
 chosen_at at e = record { second = at; place = e.place; held = e.held }
 
 -- an open file with the greater generation is chosen
-wins : (at : Bool) (g : ℕ) (e : End) (other : Option (Option Opened)) → IsLower other g → picked_at at (opened g e) other ≡ Ok (chosen_at at e)
-unfolding picked
+wins : (at : Bool) (g : ℕ) (e : ReadingEnd) (other : Option (Option Opened)) → IsLower other g → picked_at at (opened g e) other ≡ Ok (chosen_at at e)
+unfolding file_picked
 wins true g e None low = refl
 wins false g e None low = refl
 wins at g e (Some None) low = absurd low
@@ -58,17 +58,17 @@ pub record IsEmpty (a b : List ℕ) (s : Chosen) : Type 0 where
 ok_eq : (x y : Chosen) (r : Result Chosen Damage) → r ≡ Ok x → r ≡ Ok y → x ≡ y
 ok_eq x y r p q = cc
 
-holds_of : (at : Bool) (g : ℕ) (r : Result End ℕ) (a b : List ℕ) (s : Chosen) → file_of (pick at a b) ≡ Some (Some (record { generation = g; ending = r })) → IsLower (file_of (pick at b a)) g
-    → loaded at r ≡ Ok s → Holds a b s
+holds_of : (at : Bool) (g : ℕ) (r : Result ReadingEnd ℕ) (a b : List ℕ) (s : Chosen) → file_of (pick at a b) ≡ Some (Some (record { generation = g; ending = r })) → IsLower (file_of (pick at b a)) g
+    → file_loaded at r ≡ Ok s → Holds a b s
 holds_of at g (Err n) a b s own low e = cc
-holds_of at g (Ok end) a b s own low e = subst (λ (c : Chosen). Holds a b c) (ok_eq (chosen_at at end) s (loaded at (Ok end)) refl e) (record { generation = g; own = own; other = low })
+holds_of at g (Ok end) a b s own low e = subst (λ (c : Chosen). Holds a b c) (ok_eq (chosen_at at end) s (file_loaded at (Ok end)) refl e) (record { generation = g; own = own; other = low })
 
-views : (a b : List ℕ) (s : Chosen) (fa fb : Option (Option Opened)) → file_of a ≡ fa → file_of b ≡ fb → picked fa fb ≡ Ok s → IsEmpty a b s ⊎ Holds a b s
-unfolding picked
+views : (a b : List ℕ) (s : Chosen) (fa fb : Option (Option Opened)) → file_of a ≡ fa → file_of b ≡ fb → file_picked fa fb ≡ Ok s → IsEmpty a b s ⊎ Holds a b s
+unfolding file_picked
 views a b s (Some None) fb ea eb e = cc
 views a b s None (Some None) ea eb e = cc
 views a b s (Some (Some x)) (Some None) ea eb e = cc
-views a b s None None ea eb e = inl (record { first = ea; second = eb; is = sym (ok_eq (record { second = false; place = 0; held = begin 1 }) s (picked None None) refl e) })
+views a b s None None ea eb e = inl (record { first = ea; second = eb; is = sym (ok_eq (record { second = false; place = 0; held = begin 1 }) s (file_picked None None) refl e) })
 views a b s (Some (Some x)) None ea eb e = inr (holds_of false x.generation x.ending a b s ea (subst (λ f. IsLower f x.generation) (sym eb) tt) e)
 views a b s None (Some (Some y)) ea eb e = inr (holds_of true y.generation y.ending a b s eb (subst (λ f. IsLower f y.generation) (sym ea) tt) e)
 views a b s (Some (Some x)) (Some (Some y)) ea eb e = elim (cases_eq x.generation y.generation) [
@@ -89,12 +89,12 @@ views a b s (Some (Some x)) (Some (Some y)) ea eb e = elim (cases_eq x.generatio
     below : (m n : ℕ) → (m ≡ n → ⊥) → m ≤ n → m < n
     below m n ne le = elim (cases_eq m n) [ inl same ↦ absurd (ne same) | inr other ↦ omega (arith, other) ]
 
-pub view : (a b : List ℕ) (s : Chosen) → stored a b ≡ Ok s → IsEmpty a b s ⊎ Holds a b s
-unfolding stored
+pub view : (a b : List ℕ) (s : Chosen) → store_of a b ≡ Ok s → IsEmpty a b s ⊎ Holds a b s
+unfolding store_of
 view a b s e = views a b s (file_of a) (file_of b) refl refl e
 
 -- a batch that may stand there, and makes this world
-pub join_makes : (place : ℕ) (held : Held) (n : ℕ) (payload : List ℕ) (w : World) → held.generation < 2 ^ 64 → n < 2 ^ 64 → 4 ≤ length payload
+pub join_makes : (place : ℕ) (held : Held) (n : ℕ) (payload : List ℕ) (w : StoredWorld) → held.generation < 2 ^ 64 → n < 2 ^ 64 → 4 ≤ length payload
     → (held.count ≡ 0) ⊎ (n ≡ after_number held.number) → laid payload held.world ≡ Some w
     → join place held (body_bytes held.generation n payload) ≡ Some (record { generation = held.generation; number = n; count = held.count + 1; last = place; world = w })
 unfolding join follows
@@ -108,7 +108,7 @@ join_makes place held n payload w gf nf long may makes =
     either (inr next) = or_right (eqb held.count 0) (eqb n (after_number held.number)) (eq-eqb n (after_number held.number) next)
 
 -- the store with a batch in the place that is given
-abbrev pub after_at : Chosen → Chosen → List ℕ → World → Chosen
+abbrev pub after_at : Chosen → Chosen → List ℕ → StoredWorld → Chosen
 after_at t s payload w = record {
   second = t.second;
   place = t.place + 9 + length (body_bytes t.held.generation (after_number s.held.number) payload);
@@ -118,14 +118,14 @@ after_at t s payload w = record {
 abbrev pub body_at : Chosen → Chosen → List ℕ → List ℕ
 body_at t s payload = body_bytes t.held.generation (after_number s.held.number) payload
 
-pub record Fits (t s : Chosen) (payload : List ℕ) (w : World) : Type 0 where
+pub record Fits (t s : Chosen) (payload : List ℕ) (w : StoredWorld) : Type 0 where
   pub generation : t.held.generation < 2 ^ 64
   pub number : after_number s.held.number < 2 ^ 64
   pub long : 4 ≤ length payload
   pub short : length payload < 2 ^ 63
   pub makes : laid payload t.held.world ≡ Some w
 
-module _ (s : Chosen) (payload : List ℕ) (w : World) where
+module _ (s : Chosen) (payload : List ℕ) (w : StoredWorld) where
   size : (t : Chosen) → length (body_at t s payload) ≡ 21 + length payload
   size t = body_length t.held.generation (after_number s.held.number) payload
 
@@ -161,7 +161,7 @@ module _ (s : Chosen) (payload : List ℕ) (w : World) where
 
   empty_store : (a b c : List ℕ) → IsEmpty a b s → let t : Chosen = record { second = false; place = 0; held = begin 1 } in
       Fits t s payload w → MayBe 0 (framed (body_at t s payload)) a c → IsEither t (after_at t s payload w) (stored_at false c b)
-  unfolding picked
+  unfolding file_picked
   empty_store a b c e f (inr did) = inr (start_done false 1 a b c f did (subst (λ o. IsLower o 1) (sym e.second) tt))
   empty_store a b c e f (inl kept) =
       inl (stored_is false c b ∙ ap (λ o. picked_at false o (file_of b)) (⊎_elim (λ none. none) (λ same. same ∙ e.first) (kept_start a c kept)) ∙ ap (λ o. picked_at false None o) e.second)
@@ -208,7 +208,7 @@ module _ (s : Chosen) (payload : List ℕ) (w : World) where
   Result_at t c y = IsEither s (after_at t s payload w) (stored_at t.second c y)
 
   -- whatever the write of a batch leaves of its file: the store as it was, or with the batch
-  pub either : (a b c : List ℕ) → stored a b ≡ Ok s → (t : Chosen) → target s ≡ t → Fits t s payload w → MayAt t (pick t.second a b) c → Result_at t c (pick t.second b a)
+  pub either : (a b c : List ℕ) → store_of a b ≡ Ok s → (t : Chosen) → target s ≡ t → Fits t s payload w → MayAt t (pick t.second a b) c → Result_at t c (pick t.second b a)
   either a b c e t is f may = elim (view a b s e) [
     | inl empty ↦
         let same : s ≡ t = sym (target_same (empty_same s empty.is)) ∙ is in
@@ -238,7 +238,7 @@ module _ (s : Chosen) (payload : List ℕ) (w : World) where
           subst (λ (v : Chosen). IsEither v (after_at none s payload w) (stored_at false c b)) (sym empty.is) (empty_store a b c empty f may))
 
   -- once the batch stands whole behind its open gate, the store has it
-  pub finished : (a b c : List ℕ) → stored a b ≡ Ok s → (t : Chosen) → target s ≡ t → Fits t s payload w → IsDone t.place (framed (body_at t s payload)) (pick t.second a b) c → stored_at t.second c (pick t.second b a) ≡ Ok (after_at t s payload w)
+  pub finished : (a b c : List ℕ) → store_of a b ≡ Ok s → (t : Chosen) → target s ≡ t → Fits t s payload w → IsDone t.place (framed (body_at t s payload)) (pick t.second a b) c → stored_at t.second c (pick t.second b a) ≡ Ok (after_at t s payload w)
   finished a b c e t is f did = elim (view a b s e) [
     | inl empty ↦ at_empty empty t (sym (sym (target_same (empty_same s empty.is)) ∙ is) ∙ empty.is) f did
     | inr h ↦ elim (cases_Bool (opens_new s.held)) [

@@ -1,25 +1,12 @@
 -- One file while a batch is written: what each torn write may leave.
-use Rattle.std.proofs.Common.{◌≡◌, ◌≢◌, ◌⊎◌, inl, inr, ℕ, ◌+◌, ◌-◌, ◌<◌, ◌≤◌, true, false, eqb, leb, List, [], ◌∷◌, ◌++◌, length, take, drop, get_or, refl, sym, ◌∙◌, ap, arith, length-append, length-take, length-drop, take-append-drop, append_assoc}
-use Rattle.std.proofs.lemmas.List.{drop_at, drop_more, take-take, get_or-take, get_or_at}
+use Rattle.std.proofs.Common.{◌≡◌, ◌≢◌, ◌⊎◌, inl, inr, ℕ, ◌+◌, ◌-◌, ◌<◌, ◌≤◌, true, false, eqb, leb, List, [], ◌∷◌, ◌++◌, length, take, drop, get_or, refl, sym, ◌∙◌, ap, arith, length-append, length-take, length-drop, append_assoc}
+use Rattle.std.proofs.lemmas.List.{drop_at, drop_more, get_or_at}
 use Rattle.std.proofs.lemmas.Bool.{cases_eq, cases_lt, leb-true, leb-false, eqb-true, eqb-false, or_cases, or_parts, or_from, lt-leb, ne_eqb}
-use Rattle.muck_disk.specs.Images.{Torn, written}
+use Rattle.muck_laws.proofs.Parts.{front_less}
+use Rattle.muck_laws.proofs.Places.{get_or_front, same_back}
+use Rattle.muck_disk.specs.Images.{Torn, bytes_written}
 use Rattle.muck_disk.specs.inner.Memory.{Torn-written}
 use Rattle.muck_log.specs.Store.{IsKept, IsDone, MayBe, must_close}
-
--- the byte at a place is that of a longer equal front
-pub get_front : (n : ℕ) (a b : List ℕ) (i : ℕ) → take n a ≡ take n b → i < n → get_or a i 0 ≡ get_or b i 0
-get_front n a b i e lt = sym (get_or-take n a i 0 lt) ∙ ap (λ l. get_or l i 0) e ∙ get_or-take n b i 0 lt
-
-pub front_less : (m n : ℕ) (a b : List ℕ) → m ≤ n → take n a ≡ take n b → take m a ≡ take m b
-front_less m n a b le e = sym (take-take m n a le) ∙ ap (take m) e ∙ take-take m n b le
-
--- the end of a list, known at one place and behind it
-pub same_back : (place : ℕ) (a b : List ℕ) → length a ≡ length b → take place a ≡ take place b → get_or a place 0 ≡ get_or b place 0 → drop (place + 1) a ≡ drop (place + 1) b → place < length a → a ≡ b
-same_back place a b len front at back lt =
-    sym (take-append-drop place a)
-    ∙ ap (λ l. take place a ++ l) (drop_more a place 0 lt ∙ ap (λ x. x ∷ drop (place + 1) a) at ∙ ap (λ l. get_or b place 0 ∷ l) back ∙ sym (drop_more b place 0 (omega (arith, len))))
-    ∙ ap (λ l. l ++ drop place b) front
-    ∙ take-append-drop place b
 
 -- the first write: a closed gate, where it was missing or 01
 pub closing : (place : ℕ) (old new : List ℕ) → place ≤ length old → must_close place old ≡ true → Torn place 1 old new → IsKept place old new
@@ -51,12 +38,12 @@ closed_already place old h =
     let parts = or_parts (leb (length old) place) (eqb (get_or old place 0) 1) h in
     record { front = refl; no_shorter = omega arith; there = leb-false (length old) place parts.0; shut = eqb-false (get_or old place 0) 1 parts.1 }
 
-pub closed_now : (place : ℕ) (old : List ℕ) → place ≤ length old → IsClosed place old (written old place (0 ∷ []))
+pub closed_now : (place : ℕ) (old : List ℕ) → place ≤ length old → IsClosed place old (bytes_written old place (0 ∷ []))
 closed_now place old le =
     let torn = Torn-written place (0 ∷ []) old le in
     let size : length (take place old) ≡ place = omega (arith, length-take place old) in
-    let is : get_or (written old place (0 ∷ [])) place 0 ≡ 0 = ap (λ l. get_or l place 0) (append_assoc (take place old) (0 ∷ []) (drop (place + 1) old)) ∙ get_or_at (take place old) 0 (drop (place + 1) old) 0 place size in
-    let len : length (written old place (0 ∷ [])) ≡ place + 1 + (length old - (place + 1)) =
+    let is : get_or (bytes_written old place (0 ∷ [])) place 0 ≡ 0 = ap (λ l. get_or l place 0) (append_assoc (take place old) (0 ∷ []) (drop (place + 1) old)) ∙ get_or_at (take place old) 0 (drop (place + 1) old) 0 place size in
+    let len : length (bytes_written old place (0 ∷ [])) ≡ place + 1 + (length old - (place + 1)) =
     omega (arith, length-append (take place old ++ 0 ∷ []) (drop (place + 1) old), length-append (take place old) (0 ∷ []), length-drop (place + 1) old, size) in
     record { front = torn.before; no_shorter = torn.no_shorter; there = omega (arith, len); shut = λ e. omega (arith, is, e) }
 
@@ -65,7 +52,7 @@ pub behind : (place n : ℕ) (old closed new : List ℕ) → IsClosed place old 
 behind place n old closed new c torn = record {
   front = front_less place (place + 1) new closed (omega arith) torn.before ∙ c.front;
   no_shorter = omega (arith, c.no_shorter, torn.no_shorter);
-  shut = inr (inl (λ e. c.shut (sym (get_front (place + 1) new closed place torn.before (omega arith)) ∙ e)));
+  shut = inr (inl (λ e. c.shut (sym (get_or_front (place + 1) new closed place torn.before (omega arith)) ∙ e)));
 }
 
 -- the closed gate with the batch behind it
@@ -73,7 +60,7 @@ pub record IsStaged (place : ℕ) (bytes old new : List ℕ) : Type 0 where
   pub closed : IsClosed place old new
   pub back : (rest : List ℕ) × (drop (place + 1) new ≡ bytes ++ rest)
 
-pub staged : (place : ℕ) (bytes old closed : List ℕ) → IsClosed place old closed → IsStaged place bytes old (written closed (place + 1) bytes)
+pub staged : (place : ℕ) (bytes old closed : List ℕ) → IsClosed place old closed → IsStaged place bytes old (bytes_written closed (place + 1) bytes)
 staged place bytes old closed c =
     let within : place + 1 ≤ length closed = omega (arith, c.there) in
     let torn = Torn-written (place + 1) bytes closed within in
@@ -81,10 +68,10 @@ staged place bytes old closed c =
     let rest = drop (place + 1 + length bytes) closed in
     record {
       closed = record {
-        front = front_less place (place + 1) (written closed (place + 1) bytes) closed (omega arith) torn.before ∙ c.front;
+        front = front_less place (place + 1) (bytes_written closed (place + 1) bytes) closed (omega arith) torn.before ∙ c.front;
         no_shorter = omega (arith, c.no_shorter, torn.no_shorter);
         there = omega (arith, c.there, torn.no_shorter);
-        shut = λ e. c.shut (sym (get_front (place + 1) (written closed (place + 1) bytes) closed place torn.before (omega arith)) ∙ e);
+        shut = λ e. c.shut (sym (get_or_front (place + 1) (bytes_written closed (place + 1) bytes) closed place torn.before (omega arith)) ∙ e);
       };
       back = (rest, ap (drop (place + 1)) (append_assoc (take (place + 1) closed) bytes rest) ∙ drop_at (take (place + 1) closed) (bytes ++ rest) (place + 1) size);
     }
@@ -103,11 +90,11 @@ gate place bytes old whole new s torn = elim (cases_eq (get_or new place 0) 1) [
   | inr other ↦ inl (record { front = torn.before ∙ s.closed.front; no_shorter = omega (arith, s.closed.no_shorter, torn.no_shorter); shut = inr (inl other) })
 ]
 
-pub done : (place : ℕ) (bytes old whole : List ℕ) → IsStaged place bytes old whole → IsDone place bytes old (written whole place (1 ∷ []))
+pub done : (place : ℕ) (bytes old whole : List ℕ) → IsStaged place bytes old whole → IsDone place bytes old (bytes_written whole place (1 ∷ []))
 done place bytes old whole s =
     let within : place ≤ length whole = omega (arith, s.closed.there) in
     let size : length (take place whole) ≡ place = omega (arith, length-take place whole) in
-    done_if place bytes old whole (written whole place (1 ∷ [])) s (Torn-written place (1 ∷ []) whole within)
+    done_if place bytes old whole (bytes_written whole place (1 ∷ [])) s (Torn-written place (1 ∷ []) whole within)
     (ap (λ l. get_or l place 0) (append_assoc (take place whole) (1 ∷ []) (drop (place + 1) whole)) ∙ get_or_at (take place whole) 1 (drop (place + 1) whole) 0 place size)
 
 -- of a file whose gate was closed first

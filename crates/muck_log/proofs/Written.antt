@@ -7,14 +7,14 @@ use Rattle.std.proofs.lemmas.List.Elements.{All-head, All-tail, All-filter}
 use Rattle.std.proofs.lemmas.List.Filters.{length-filter_both}
 use Rattle.muck_codec.specs.declared.stored.Stored.{Stored}
 use Rattle.muck_codec.specs.inner.Stored.{IsStored}
-use Rattle.muck_log.specs.World.{differs, written}
+use Rattle.muck_log.specs.World.{differs, records_written}
 
-pub few : (objects records : List Stored) → length (written objects records) ≤ length records
-unfolding written
+pub few : (objects records : List Stored) → length (records_written objects records) ≤ length records
+unfolding records_written
 few objects records = omega (arith, length-filter_both (differs objects) (λ o. not (differs objects o)) (λ o. refl) records)
 
-pub all_stored : (objects records : List Stored) → All IsStored records → All IsStored (written objects records)
-unfolding written
+pub all_stored : (objects records : List Stored) → All IsStored records → All IsStored (records_written objects records)
+unfolding records_written
 all_stored objects records all = All-filter (differs objects) IsStored records all
 
 -- A closure that says of each record whether it differs.
@@ -33,6 +33,6 @@ module _ {F : Type 0} (R : F → Stored → Bool → F → Type 0) (objects : Li
       goes_on o os bs b (one.0 kept (All-head IsStored o os stored)) (in_turn bs os q (All-tail IsStored o os stored) (omega arith) (subst (λ (y : F). ReturnsInTurn R y bs os q) one.1 told.2))
 
   -- what it retains are the records that differ
-  pub retained : (records left : List Stored) → All IsStored records → IsFiltered R f records left → left ≡ written objects records
-  unfolding written
+  pub retained : (records left : List Stored) → All IsStored records → IsFiltered R f records left → left ≡ records_written objects records
+  unfolding records_written
   retained records left stored told = told.4 ∙ in_turn told.0 records told.1 stored told.2 told.3

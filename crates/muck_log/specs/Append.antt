@@ -3,9 +3,9 @@ use Rattle.std.specs.Prelude.{◌≡◌, ◌⊎◌, ℕ, ◌+◌, ◌<◌, ◌�
 use Rattle.muck_codec.specs.declared.stored.Stored.{Stored}
 use Rattle.muck_codec.specs.declared.stored.Batch.{Batch}
 use Rattle.muck_codec.specs.Batches.{batch_bytes}
-use Rattle.muck_log.specs.World.{World, laid, written}
+use Rattle.muck_log.specs.World.{StoredWorld, laid, records_written}
 use Rattle.muck_log.specs.File.{after_number}
-use Rattle.muck_log.specs.Store.{Chosen, Damage, LogState, target, opens_new, next_body, after_batch, framed, stored}
+use Rattle.muck_log.specs.Store.{Chosen, Damage, LogState, target, opens_new, next_body, after_batch, framed, store_of}
 use Rattle.muck_log.specs.declared.log.Target.{Target}
 use Rattle.muck_log.specs.declared.log.Ready.{Ready}
 use Rattle.muck_log.specs.declared.fault.LogFault.{LogFault}
@@ -31,7 +31,7 @@ pub record IsLaidNext (old new : LogState) (payload : List ℕ) : Type 0 where
 -- the bytes of a batch: its records that differ from the world that it is laid over, which is the starting one where it opens a new
 -- generation
 unfoldable pub payload_of : LogState → Batch → List ℕ
-payload_of log batch = batch_bytes (written (target log.chosen).held.world.objects batch.records) batch.tune
+payload_of log batch = batch_bytes (records_written (target log.chosen).held.world.objects batch.records) batch.tune
 
 -- what a batch may leave out of the records of a world: the objects that are kept, or nothing where it opens a new generation
 unfoldable pub base_of : LogState → List Stored
@@ -39,7 +39,7 @@ base_of log = if opens_new log.chosen.held then [] else log.chosen.held.world.ob
 
 -- the batch, laid over the world on which it stands, makes a world that hangs together with every value within its limits
 abbrev pub MakesWorld : LogState → Batch → Type 0
-MakesWorld log batch = (w : World) × (laid (payload_of log batch) (target log.chosen).held.world ≡ Some w)
+MakesWorld log batch = (w : StoredWorld) × (laid (payload_of log batch) (target log.chosen).held.world ≡ Some w)
 
 -- how many bytes the batch takes: gate, length, body and closed gate
 unfoldable pub more_of : LogState → List ℕ → ℕ
@@ -85,7 +85,7 @@ IsFinished old new t number size = new ≡ record {
 
 -- two images load as the store before, or as the one after
 abbrev pub LoadsEither : Chosen → Chosen → List ℕ → List ℕ → Type 0
-LoadsEither before after c d = IsEither before after (stored c d)
+LoadsEither before after c d = IsEither before after (store_of c d)
 
 pub record IsNext (old new : LogState) (payload : List ℕ) : Type 0 where
   pub makes : laid payload (target old.chosen).held.world ≡ Some new.chosen.held.world

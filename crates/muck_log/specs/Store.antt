@@ -3,8 +3,8 @@ use Rattle.std.specs.Prelude.{◌≡◌, ◌==◌, ◌⊎◌, ◌≢◌, ℕ, �
 use Rattle.std.specs.Int.{w64, to_be_bytes}
 use Rattle.muck_disk.specs.Images.{Only}
 use Rattle.muck_log.specs.Body.{body_bytes}
-use Rattle.muck_log.specs.World.{World}
-use Rattle.muck_log.specs.File.{Held, End, Opened, begin, file_of, after_number}
+use Rattle.muck_log.specs.World.{StoredWorld}
+use Rattle.muck_log.specs.File.{Held, ReadingEnd, Opened, begin, file_of, after_number}
 
 -- The batches of the chosen file.
 pub record Chosen : Type 0 where
@@ -16,22 +16,22 @@ pub record Damage : Type 0 where
   pub second : Bool
   pub at : ℕ
 
-abbrev pub loaded : Bool → Result End ℕ → Result Chosen Damage
-loaded second (Ok end) = Ok (record { second = second; place = end.place; held = end.held })
-loaded second (Err at) = Err (record { second = second; at = at })
+abbrev pub file_loaded : Bool → Result ReadingEnd ℕ → Result Chosen Damage
+file_loaded second (Ok end) = Ok (record { second = second; place = end.place; held = end.held })
+file_loaded second (Err at) = Err (record { second = second; at = at })
 
 abbrev pub newer : Opened → Opened → Result Chosen Damage
 newer a b = if a.generation == b.generation then Err (record { second = true; at = 0 })
-    else (if nat_lt b.generation a.generation then loaded false a.ending else loaded true b.ending)
+    else (if nat_lt b.generation a.generation then file_loaded false a.ending else file_loaded true b.ending)
 
-unfoldable pub picked : Option (Option Opened) → Option (Option Opened) → Result Chosen Damage
-picked (Some None) b = Err (record { second = false; at = 0 })
-picked None (Some None) = Err (record { second = true; at = 0 })
-picked (Some (Some a)) (Some None) = Err (record { second = true; at = 0 })
-picked None None = Ok (record { second = false; place = 0; held = begin 1 })
-picked (Some (Some a)) None = loaded false a.ending
-picked None (Some (Some b)) = loaded true b.ending
-picked (Some (Some a)) (Some (Some b)) = newer a b
+unfoldable pub file_picked : Option (Option Opened) → Option (Option Opened) → Result Chosen Damage
+file_picked (Some None) b = Err (record { second = false; at = 0 })
+file_picked None (Some None) = Err (record { second = true; at = 0 })
+file_picked (Some (Some a)) (Some None) = Err (record { second = true; at = 0 })
+file_picked None None = Ok (record { second = false; place = 0; held = begin 1 })
+file_picked (Some (Some a)) None = file_loaded false a.ending
+file_picked None (Some (Some b)) = file_loaded true b.ending
+file_picked (Some (Some a)) (Some (Some b)) = newer a b
 
 -- of two files or disks, the one that is meant
 abbrev pub pick : {A : Type 0} → Bool → A → A → A
@@ -39,8 +39,8 @@ pick true a b = b
 pick false a b = a
 
 -- the store that two files hold, or the file and the place that are damaged
-unfoldable pub stored : List ℕ → List ℕ → Result Chosen Damage
-stored a b = picked (file_of a) (file_of b)
+unfoldable pub store_of : List ℕ → List ℕ → Result Chosen Damage
+store_of a b = file_picked (file_of a) (file_of b)
 
 -- the gate at this place isn't closed on the disk: it is missing or it is 01
 unfoldable pub must_close : ℕ → List ℕ → Bool
@@ -59,7 +59,7 @@ unfoldable pub next_body : Chosen → List ℕ → List ℕ
 next_body s payload = body_bytes (target s).held.generation (after_number s.held.number) payload
 
 -- the store with one batch more, which makes this world
-unfoldable pub after_batch : Chosen → List ℕ → World → Chosen
+unfoldable pub after_batch : Chosen → List ℕ → StoredWorld → Chosen
 after_batch s payload world = let t = target s in record {
   second = t.second;
   place = t.place + 9 + length (next_body s payload);
@@ -103,7 +103,7 @@ pub record LogState : Type 0 where
 -- It was mounted from these two disks, which only its own calls moved since.
 pub record IsMounted {D : Type 0} (seen : D → List ℕ) (moment : D → ℕ) (images : D → ℕ → List ℕ → Type 0) (log : LogState) (first second : D) : Type 0 where
   pub fresh : log.stale ≡ false
-  pub load : stored (seen first) (seen second) ≡ Ok log.chosen
+  pub load : store_of (seen first) (seen second) ≡ Ok log.chosen
   pub close : log.close ≡ must_close log.chosen.place (pick log.chosen.second (seen first) (seen second))
   pub other_close : log.other_close ≡ must_close 0 (pick log.chosen.second (seen second) (seen first))
   pub first_durable : Only (seen first) (images first (moment first))

@@ -4,11 +4,11 @@ ghost use Rattle.std.specs.Bool.{Decides};
 ghost use Rattle.std.specs.List.{flat_map, list_all};
 ghost use Rattle.muck_model.specs.Bytes.{text_fault};
 ghost use Rattle.muck_codec.specs.Spelling.{spelling};
-ghost use Rattle.muck_codec.specs.inner.Stored.{IsStored};
+ghost use Rattle.muck_codec.specs.inner.Stored.{IsStored, IsTune};
 ghost use Rattle.muck_codec.specs.Batches.{batch_bytes};
-ghost use Rattle.muck_log.specs.World.{World, room_zero, first_digest, player_one, first_tune, start, lost, is_between, tune_fits, is_fine, IsFine, placed, all_placed, laid, kept_of, differs, written};
-ghost use Rattle.muck_store.specs.Limits.{fits};
-ghost use Rattle.muck_log.specs.inner.Head.{HasWords, IsLaid, IsPut, IsPlaced, ArePlaced};
+ghost use Rattle.muck_log.specs.World.{StoredWorld, stored_room_zero, first_digest, stored_player_one, start, lost, is_fine, IsFine, record_placed, all_placed, laid, kept_record, differs, records_written};
+ghost use Rattle.muck_store.specs.Limits.{record_fits};
+ghost use Rattle.muck_log.specs.inner.Head.{IsLaid, IsPut, IsPlaced, ArePlaced};
 
 use crate::same::is_same;
 use muck_codec::{Batch, CodecFault, Stored, put_record, put_tune, take_batch};
@@ -30,9 +30,9 @@ pub struct Kept {
 impl Model for Kept {
     ghost use Rattle.std.specs.Prelude.{All};
     ghost use Rattle.muck_codec.specs.inner.Stored.{IsStored};
-    ghost use Rattle.muck_log.specs.World.{World};
+    ghost use Rattle.muck_log.specs.World.{StoredWorld};
 
-    ghost Value = { World };
+    ghost Value = { StoredWorld };
 
     ghost view = { λ w. record { objects = w.objects.items; tune = w.tune } };
 
@@ -52,9 +52,9 @@ fn text(alloc: Global, bytes: &[u8]) -> Result<Line, NoMemory>
 }
 
 // Room Zero, below which all rooms are.
-#[tactic(auto, unfolding(crate::specs::World::room_zero))]
+#[tactic(auto, unfolding(crate::specs::World::stored_room_zero))]
 fn room_zero(alloc: Global) -> Result<Stored, NoMemory>
-    ensures { IfOk result (λ o. o ≡ room_zero) }
+    ensures { IfOk result (λ o. o ≡ stored_room_zero) }
 {
     Ok(Stored {
         dbref: Dbref(0),
@@ -87,9 +87,9 @@ fn first_digest(alloc: Global) -> Result<Line, NoMemory>
 }
 
 // One, who is a wizard.
-#[tactic(auto, unfolding(crate::specs::World::player_one))]
+#[tactic(auto, unfolding(crate::specs::World::stored_player_one))]
 fn player_one(alloc: Global) -> Result<Stored, NoMemory>
-    ensures { IfOk result (λ o. o ≡ player_one) }
+    ensures { IfOk result (λ o. o ≡ stored_player_one) }
 {
     Ok(Stored {
         dbref: Dbref(1),
@@ -110,44 +110,8 @@ fn player_one(alloc: Global) -> Result<Stored, NoMemory>
     })
 }
 
-#[tactic(auto, unfolding(crate::specs::World::first_tune))]
-fn first_tune() -> Tune
-    ensures { result ≡ first_tune }
-{
-    Tune {
-        instr_slice: 2_000,
-        preempt_units: 20_000,
-        m1_units: 20_000,
-        m2_units: 80_000,
-        process_limit: 400,
-        player_processes: 32,
-        mpi_commands: 2_048,
-        dump_interval: 900,
-    }
-}
-
-fn is_between(n: u32, most: u32) -> bool
-    ensures { result ≡ is_between n most }
-{
-    n >= 1 && n <= most
-}
-
-#[tactic(auto, unfolding(crate::specs::World::tune_fits))]
-fn tune_fits(tune: &Tune) -> bool
-    ensures { result ≡ tune_fits tune.now }
-{
-    is_between(tune.instr_slice, 20_000)
-        && is_between(tune.preempt_units, 20_000)
-        && is_between(tune.m1_units, 1_000_000)
-        && is_between(tune.m2_units, 1_000_000)
-        && is_between(tune.process_limit, 400)
-        && is_between(tune.player_processes, 400)
-        && is_between(tune.mpi_commands, 2_048)
-        && is_between(tune.dump_interval, 86_400)
-}
-
 fn all_fit(objects: &[Stored]) -> bool
-    ensures { result ≡ list_all fits objects.now }
+    ensures { result ≡ list_all record_fits objects.now }
 {
     objects.iter().all(|object| fits(object))
 }
@@ -156,14 +120,14 @@ fn all_fit(objects: &[Stored]) -> bool
 fn is_fine(alloc: Global, objects: &[Stored], tune: &Tune) -> Result<bool, NoMemory>
     ensures { IfOk result (λ yes. yes ≡ is_fine objects.now tune.now) }
 {
-    if objects.len() > 100_000 || !all_fit(objects) || !tune_fits(tune) {
+    if objects.len() > 100_000 || !all_fit(objects) || !tune.fits() {
         return Ok(false);
     }
     Ok(is_whole(alloc, objects)?)
 }
 
 // Puts a record in the place of its number, or at the next number; false where that can't be.
-#[tactic(auto, unfolding(crate::specs::World::placed))]
+#[tactic(auto, unfolding(crate::specs::World::record_placed))]
 fn place(objects: &mut Vec<Stored>, object: Stored) -> Result<bool, NoMemory>
     ensures placed { IfOk result (λ yes. IsPlaced yes object objects.old.items objects.new.items) }
     ensures stored { IsStored object → All IsStored objects.old.items → All IsStored objects.new.items }
@@ -216,7 +180,7 @@ impl Kept {
         Ok(Kept {
             alloc,
             objects,
-            tune: first_tune(),
+            tune: Tune::first(),
         })
     }
 
@@ -226,7 +190,7 @@ impl Kept {
         ensures { self.new ≡ lost }
     {
         self.objects.clear();
-        self.tune = first_tune();
+        self.tune = Tune::first();
     }
 
     /// The record of each object, by its number from 0 on.
@@ -280,7 +244,7 @@ impl Kept {
     pub(crate) fn lay_known(&mut self, batch: Batch) -> Result<(), NoMemory>
         requires few { length batch.records < 2 ^ 32 }
         requires storable { All IsStored batch.records }
-        requires makes { (w : World) × (laid (batch_bytes batch.records batch.tune) self.old ≡ Some w) }
+        requires makes { (w : StoredWorld) × (laid (batch_bytes batch.records batch.tune) self.old ≡ Some w) }
         ensures laid { OnOk result (laid (batch_bytes batch.records batch.tune) self.old ≡ Some self.new) }
         ensures fine { OnOk result (IsFine self.new) }
     {
@@ -293,13 +257,14 @@ impl Kept {
 }
 
 // For contracts alone: each parameter fits its bytes.
+#[tactic(auto, unfolding(muck_model::specs::Parameters::parameters))]
 fn see_tune(tune: Tune)
-    ensures { HasWords tune }
+    ensures { IsTune tune }
 {}
 
 // Whether a record is what is kept of its object.
 fn is_kept(objects: &[Stored], object: &Stored) -> bool
-    ensures { Decides result (kept_of objects.now object.now ≡ Some object.now) }
+    ensures { Decides result (kept_record objects.now object.now ≡ Some object.now) }
 {
     if object.dbref.0 < 0 {
         return false;
@@ -322,7 +287,7 @@ fn is_written(objects: &[Stored], object: &Stored) -> bool
 fn leave_out_kept(objects: &[Stored], records: &mut Vec<Stored>)
     requires kept { All IsStored objects.now }
     requires storable { All IsStored records.old.items }
-    ensures { records.new.items ≡ written objects.now records.old.items }
+    ensures { records.new.items ≡ records_written objects.now records.old.items }
 {
     records.retain(|object| is_written(objects, object));
 }
@@ -332,7 +297,7 @@ impl Kept {
     #[tactic(auto, using(crate::proofs::Written::few))]
     pub(crate) fn leave_out(&self, batch: Batch) -> Batch
         requires storable { All IsStored batch.records }
-        ensures records { result.records ≡ written self.now.objects batch.records }
+        ensures records { result.records ≡ records_written self.now.objects batch.records }
         ensures tune { result.tune ≡ batch.tune }
         ensures few { length result.records ≤ length batch.records }
         ensures storable { All IsStored result.records }

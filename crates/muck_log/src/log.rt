@@ -3,14 +3,15 @@ ghost use Rattle.std.specs.Prelude.{◌≡◌, ◌⊎◌, ◌≤◌, ◌<◌, �
 ghost use Rattle.muck_disk.specs.Images.{Only};
 ghost use Rattle.muck_io.specs.Faults.{Rose};
 ghost use Rattle.muck_log.specs.Body.{body_bytes};
-ghost use Rattle.muck_log.specs.World.{World, IsFine, laid, tune_fits};
+ghost use Rattle.muck_log.specs.World.{StoredWorld, IsFine, laid};
+ghost use Rattle.muck_model.specs.Parameters.{tune_fits};
 ghost use Rattle.muck_model.specs.declared.tune.Tune.{Tune};
 ghost use Rattle.spec_live.specs.Objects.{Entry as WorldEntry};
 ghost use Rattle.muck_store.specs.inner.Changes.{LeavesOut};
 ghost use Rattle.muck_store.specs.Forms.{persist};
 ghost use Rattle.muck_log.specs.File.{after_number, begin};
 ghost use Rattle.muck_log.specs.inner.Mount.{IsLoaded, IsLoadFault};
-ghost use Rattle.muck_log.specs.Store.{LeavesBoth, MayBeAt, IsMounted, LogState, target, opens_new, next_body, after_batch, stored, framed, pick, IsDone};
+ghost use Rattle.muck_log.specs.Store.{LeavesBoth, MayBeAt, IsMounted, LogState, target, opens_new, next_body, after_batch, store_of, framed, pick, IsDone};
 ghost use Rattle.muck_log.specs.Append.{IsEither, IsAppended, IsLaidNext, IsTarget, IsReady, IsRefused, IsFinished, IsNext, IsTouching, LoadsEither, MakesWorld, base_of, payload_of};
 ghost use Rattle.muck_codec.specs.Batches.{batch_bytes};
 ghost use Rattle.muck_codec.specs.inner.Stored.{IsStored};
@@ -219,7 +220,7 @@ impl Log {
         requires fresh { self.old.stale ≡ false }
         requires few { length batch.records < 2 ^ 32 }
         requires storable { All IsStored batch.records }
-        requires makes { (w : World) × (laid (batch_bytes batch.records batch.tune) (target self.old.chosen).held.world ≡ Some w) }
+        requires makes { (w : StoredWorld) × (laid (batch_bytes batch.records batch.tune) (target self.old.chosen).held.world ≡ Some w) }
         ensures { OnOk result (IsLaidNext self.old self.new (batch_bytes batch.records batch.tune)) }
     {
         let opens = self.opens_new();
@@ -346,7 +347,7 @@ impl Log {
             → length self.old.chosen.held.world.objects ≤ length es → laid (payload_of self.old batch) (target self.old.chosen).held.world ≡ Some (record { objects = persist es; tune = tune }) }
         ensures chosen { OnOk result (IsNext self.old self.new (payload_of self.old batch)) }
         ensures mounted { D.tells ≡ true → OnOk result (IsMounted D.seen D.moment D.images self.new first.new second.new) }
-        ensures any { D.tells ≡ true → self.old.stale ≡ false → (w : World) → laid (payload_of self.old batch) (target self.old.chosen).held.world ≡ Some w
+        ensures any { D.tells ≡ true → self.old.stale ≡ false → (w : StoredWorld) → laid (payload_of self.old batch) (target self.old.chosen).held.world ≡ Some w
             → LeavesBoth D.moment D.images first.old second.old first.new second.new (LoadsEither self.old.chosen (after_batch self.old.chosen (payload_of self.old batch) w)) }
         ensures other { pick (target self.old.chosen).second second.new first.new ≡ pick (target self.old.chosen).second second.old first.old }
         ensures untouched { IsTouching result ⊎ ((first.new ≡ first.old) × (second.new ≡ second.old)) }

@@ -2,7 +2,7 @@
 ghost use Rattle.std.specs.Prelude.{◌≡◌, ◌⊎◌, ◌≤◌, ◌<◌, ◌+◌, ◌-◌, ◌^◌, min, List, ℕ, length, take, drop, true, false, IfOk, OnOk, IfErr, OnErr, IsErrOf};
 ghost use Rattle.muck_disk.specs.Images.{Only};
 ghost use Rattle.muck_io.specs.Faults.{Rose};
-ghost use Rattle.muck_log.specs.File.{gate_at, begin, run, reached, is_open};
+ghost use Rattle.muck_log.specs.File.{gate_at, begin, run, reached, is_gate_open};
 ghost use Rattle.muck_log.specs.Store.{LeavesOnly, LeavesBoth, must_close, pick};
 ghost use Rattle.muck_log.specs.World.{IsFine, is_fine};
 ghost use Rattle.muck_log.specs.inner.Mount.{IsLook, IsFirst, choice, IsMountedAs, IsMountFault};
@@ -28,7 +28,7 @@ pub struct Look {
     pub close: bool,
 }
 
-#[tactic(auto, unfolding(crate::specs::Store::must_close, crate::specs::File::is_open, crate::specs::File::header))]
+#[tactic(auto, unfolding(crate::specs::Store::must_close, crate::specs::File::is_gate_open, crate::specs::File::header))]
 fn look_at(bytes: &[u8]) -> Look
     ensures { IsLook result bytes.now }
 {
@@ -58,7 +58,7 @@ fn look_at(bytes: &[u8]) -> Look
 
 #[tactic(auto, unfolding(crate::specs::File::header))]
 fn first_of(bytes: &[u8]) -> First
-    requires { is_open bytes.now ≡ true }
+    requires { is_gate_open bytes.now ≡ true }
     ensures { IsFirst result bytes.now }
 {
     if bytes.len() < 34 || word_at(bytes, 1) < 25 {

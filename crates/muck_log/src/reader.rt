@@ -1,6 +1,6 @@
 // A file, read byte by byte.
 ghost use Rattle.std.specs.Prelude.{◌≡◌, ◌≤◌, ◌<◌, ◌+◌, ◌-◌, ◌^◌, List, ℕ, length, take, true, OnOk, IfOk, IfErr};
-ghost use Rattle.muck_log.specs.File.{gate_at, begin, step, run, reached, sized, judged, forgotten, join, follows};
+ghost use Rattle.muck_log.specs.File.{gate_at, begin, byte_step, run, reached, length_read, body_judged, forgotten, join, follows};
 ghost use Rattle.muck_log.specs.declared.reader.Mode.TheVariants.{Broken};
 ghost use Rattle.muck_log.specs.inner.Head.{IsJoined, IsParts, is_over};
 ghost use Rattle.muck_log.specs.World.{IsFine};
@@ -37,10 +37,10 @@ pub struct Reader {
 
 impl Model for Reader {
     ghost use Rattle.std.specs.Prelude.{◌≤◌};
-    ghost use Rattle.muck_log.specs.File.{Reading};
+    ghost use Rattle.muck_log.specs.File.{FileReading};
     ghost use Rattle.muck_log.specs.inner.Head.{IsFineIn};
 
-    ghost Value = { Reading };
+    ghost Value = { FileReading };
 
     ghost view = { λ r. record { place = r.place; mode = r.mode; size = r.size; bytes = r.bytes.items; held = record { generation = r.generation; number = r.number; count = r.count; last = r.last; world = r.world } } };
 
@@ -68,10 +68,10 @@ impl Reader {
     }
 
     // Takes one byte.
-    #[tactic(auto, unfolding(crate::specs::File::step, crate::specs::File::gate_at, crate::specs::File::after_number))]
+    #[tactic(auto, unfolding(crate::specs::File::byte_step, crate::specs::File::gate_at, crate::specs::File::after_number))]
     pub fn take(&mut self, byte: u8) -> Result<(), LogFault>
         requires { reached self.old < 2 ^ 64 - 1 }
-        ensures step { OnOk result (self.new ≡ step self.old byte) }
+        ensures step { OnOk result (self.new ≡ byte_step self.old byte) }
         ensures reached { OnOk result (reached self.new ≤ reached self.old + 1) }
         ensures err { IfErr result (λ e. e ≡ LogFault.NoMemory) }
     {
@@ -107,7 +107,7 @@ impl Reader {
     fn sized(&mut self)
         requires whole { length self.old.bytes ≡ 8 }
         requires fine { IsFine self.old.held.world }
-        ensures { self.new ≡ sized self.old (from_be_bytes w64 self.old.bytes) }
+        ensures { self.new ≡ length_read self.old (from_be_bytes w64 self.old.bytes) }
     {
         let size = word_at(&self.bytes, 0);
         self.bytes.clear();
@@ -155,7 +155,7 @@ impl Reader {
     fn judge(&mut self) -> Result<(), LogFault>
         requires { self.old.place + 9 + length self.old.bytes < 2 ^ 64 }
         ensures err { IfErr result (λ e. e ≡ LogFault.NoMemory) }
-        ensures judged { OnOk result (self.new ≡ judged self.old self.old.bytes (join self.old.place self.old.held self.old.bytes)) }
+        ensures judged { OnOk result (self.new ≡ body_judged self.old self.old.bytes (join self.old.place self.old.held self.old.bytes)) }
     {
         let size = self.bytes.len() as u64;
         if self.lay()? {
@@ -245,7 +245,7 @@ impl Reader {
     }
 
     // What the bytes that were read make, or the gate of the first batch that is outside the format.
-    #[tactic(auto, unfolding(crate::specs::File::ending))]
+    #[tactic(auto, unfolding(crate::specs::File::reading_end))]
     pub fn finish(self) -> Result<Parts, u64>
         ensures parts { IsParts self result }
         ensures fine { IfOk result (λ parts. IsFine parts.world) }

@@ -5,7 +5,7 @@ ghost use Rattle.muck_log.specs.inner.Same.{HasSameHead, HasSameTies, HasSameLis
 
 use muck_codec::{Property, Stored};
 use muck_model::Line;
-use muck_prop::{Path, PropValue};
+use muck_prop::Path;
 
 fn has_same_head(a: &Stored, b: &Stored) -> bool
     ensures { Decides result (HasSameHead a.now b.now) }
@@ -37,27 +37,17 @@ fn are_same_lines(a: &[Line], b: &[Line]) -> bool
     a == b
 }
 
-#[tactic(auto, using(crate::proofs::Sameness::texts_same))]
+#[tactic(auto, using(muck_laws::proofs::Texts::texts_same))]
 fn is_same_path(a: &Path, b: &Path) -> bool
     ensures { Decides result (a.now ≡ b.now) }
 {
     a == b
 }
 
-fn is_same_value(a: &PropValue, b: &PropValue) -> bool
-    ensures { Decides result (a.now ≡ b.now) }
-{
-    match (a, b) {
-        (PropValue::Text(a), PropValue::Text(b)) => is_same_text(a, b),
-        (PropValue::Number(a), PropValue::Number(b)) => a == b,
-        _ => false,
-    }
-}
-
 fn is_same_property(a: &Property, b: &Property) -> bool
     ensures { Decides result (a.now ≡ b.now) }
 {
-    is_same_path(&a.path, &b.path) && is_same_value(&a.value, &b.value)
+    is_same_path(&a.path, &b.path) && a.value.is_same(&b.value)
 }
 
 fn are_same_properties(a: &[Property], b: &[Property]) -> bool

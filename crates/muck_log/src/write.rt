@@ -1,6 +1,6 @@
 // One batch on one disk.
 ghost use Rattle.std.specs.Prelude.{◌≡◌, ◌⊎◌, ◌≤◌, ◌<◌, ◌+◌, ◌-◌, ◌^◌, List, ℕ, length, true, false, OnOk, OnErr};
-ghost use Rattle.muck_disk.specs.Images.{Only, Torn, written};
+ghost use Rattle.muck_disk.specs.Images.{Only, Torn, bytes_written};
 ghost use Rattle.muck_io.specs.Faults.{Rose};
 ghost use Rattle.muck_log.specs.Store.{LeavesOnly, LeavesBoth, IsDone, MayBe, MayBeAt, must_close, pick};
 
@@ -11,7 +11,7 @@ fn write_synced<D: Disk>(disk: &mut D, at: u64, bytes: &[u8]) -> Result<(), Disk
     requires within { D.tells ≡ true → at ≤ length (D.seen disk.old) }
     requires durable { D.tells ≡ true → Only (D.seen disk.old) (D.images disk.old (D.moment disk.old)) }
     ensures keeps { D.attached disk.new ≡ D.attached disk.old }
-    ensures written { D.tells ≡ true → OnOk result (D.seen disk.new ≡ written (D.seen disk.old) at bytes.now) }
+    ensures written { D.tells ≡ true → OnOk result (D.seen disk.new ≡ bytes_written (D.seen disk.old) at bytes.now) }
     ensures durable { D.tells ≡ true → OnOk result (Only (D.seen disk.new) (D.images disk.new (D.moment disk.new))) }
     ensures any { D.tells ≡ true → LeavesOnly D.moment D.images disk.old disk.new (Torn at (length bytes.now) (D.seen disk.old)) }
     ensures later { D.faults disk.old ≤ D.faults disk.new }

@@ -14,12 +14,12 @@ use Rattle.muck_lock.proofs.Places.{is_inside, inside_from}
 use Rattle.spec_live.specs.declared.object.Object.{Object}
 use Rattle.spec_live.specs.Flags.{has_flag, flag_of}
 use Rattle.spec_live.specs.Seen.{kind_letter, flag_letters, level_letters, long_form}
-use Rattle.muck_looking.specs.Looks.{cut}
+use Rattle.muck_looking.specs.Looks.{line_shortened}
 use Rattle.muck_looking.specs.inner.Inside.{AreInside}
 
 -- what is cut of them is a text
-pub cut_text : (bytes : List ℕ) → AreInside bytes → text_fault (cut bytes) ≡ None
-cut_text bytes h = text_if (cut bytes) (omega (arith, passes-take is_inside text_most bytes h)) (omega (arith, length-take text_most bytes))
+pub cut_text : (bytes : List ℕ) → AreInside bytes → text_fault (line_shortened bytes) ≡ None
+cut_text bytes h = text_if (line_shortened bytes) (omega (arith, passes-take is_inside text_most bytes h)) (omega (arith, length-take text_most bytes))
 
 pub inside_both : (xs ys : List ℕ) → text_fault xs ≡ None → text_fault ys ≡ None → AreInside (xs ++ ys)
 inside_both xs ys h k = passes-append is_inside xs ys (inside_from xs h) (inside_from ys k)

@@ -1,5 +1,5 @@
 -- What is seen of an object by who only looks into a world, as a list of lines.
-use Rattle.std.specs.Prelude.{ℕ, false, not, List, [], ◌∷◌, ◌++◌, map, take, codes, Option, Some, None}
+use Rattle.std.specs.Prelude.{ℕ, false, not, List, [], ◌∷◌, ◌++◌, map, take, Option, Some, None}
 use Rattle.std.specs.Option.{option_map, option_map_or}
 use Rattle.std.specs.List.{filter}
 use Rattle.muck_model.specs.Bytes.{text_most}
@@ -8,26 +8,28 @@ use Rattle.spec_live.specs.Flags.{dark}
 use Rattle.spec_live.specs.Objects.{Entry, object_at}
 use Rattle.spec_live.specs.Seen.{listed_in, long_form}
 use Rattle.spec_live.specs.Worth.{message_at, lock_text}
-use Rattle.spec_rights.specs.Levels.{number_of, owner_at, flag_at}
+use Rattle.spec_live.specs.Messages.{path_of}
+use Rattle.spec_live.specs.declared.message.Message.TheVariants.{Describe}
+use Rattle.spec_rights.specs.Levels.{dbref_number, owner_at, flag_at}
 use Rattle.spec_commands.specs.Replies.{contents_head, owner_line, lock_line}
 
 -- a line that is made has no more bytes than a text may have
-abbrev pub cut : List ℕ → List ℕ
-cut line = take text_most line
+abbrev pub line_shortened : List ℕ → List ℕ
+line_shortened line = take text_most line
 
 -- the long form of an object, and its name; what isn't there has none
-abbrev pub form_at : List Entry → Dbref → List ℕ
-form_at es d = option_map_or (long_form (number_of d)) (object_at d es) []
+abbrev pub long_form_at : List Entry → Dbref → List ℕ
+long_form_at es d = option_map_or (long_form (dbref_number d)) (object_at d es) []
 
 -- a line of it
 abbrev pub form_line : List Entry → Dbref → List ℕ
-form_line es d = cut (form_at es d)
+form_line es d = line_shortened (long_form_at es d)
 
-abbrev pub name_at : List Entry → Dbref → List ℕ
-name_at es d = option_map_or (λ o. o.name) (object_at d es) []
+abbrev pub entry_name : List Entry → Dbref → List ℕ
+entry_name es d = option_map_or (λ o. o.name) (object_at d es) []
 
 abbrev pub description_path : List (List ℕ)
-description_path = codes "_" ∷ codes "de" ∷ []
+description_path = path_of Describe
 
 abbrev pub if_any : Option (List ℕ) → List (List ℕ)
 if_any None = []
@@ -48,11 +50,11 @@ look_lines es d = form_line es d ∷ (if_any (message_at description_path d es) 
 
 -- the long form, the owner and the lock, as a player sees them who controls the object
 abbrev pub examine_lines : List Entry → Dbref → List (List ℕ)
-examine_lines es d = form_line es d ∷ cut (owner_line (name_at es (owner_at es d))) ∷ cut (lock_line (lock_text d es)) ∷ []
+examine_lines es d = form_line es d ∷ line_shortened (owner_line (entry_name es (owner_at es d))) ∷ line_shortened (lock_line (lock_text d es)) ∷ []
 
 -- what is seen of an object that is there
-unfoldable pub looked : Dbref → List Entry → Option (List (List ℕ))
-looked d es = option_map (λ o. look_lines es d) (object_at d es)
+unfoldable pub object_looked_at : Dbref → List Entry → Option (List (List ℕ))
+object_looked_at d es = option_map (λ o. look_lines es d) (object_at d es)
 
-unfoldable pub examined : Dbref → List Entry → Option (List (List ℕ))
-examined d es = option_map (λ o. examine_lines es d) (object_at d es)
+unfoldable pub object_examined : Dbref → List Entry → Option (List (List ℕ))
+object_examined d es = option_map (λ o. examine_lines es d) (object_at d es)

@@ -2,35 +2,23 @@
 ghost use Rattle.std.specs.Prelude.{◌≡◌, ◌++◌, ◌∷◌, None, IfOk, OnOk, map};
 ghost use Rattle.std.specs.Option.{option_copied};
 ghost use Rattle.muck_model.specs.Bytes.{text_fault};
-ghost use Rattle.spec_live.specs.Worth.{message_at, lock_text, lock_of_object};
+ghost use Rattle.spec_live.specs.Worth.{message_at, lock_text};
 ghost use Rattle.spec_rights.specs.Levels.{owner_at};
-ghost use Rattle.muck_looking.specs.Looks.{cut, form_line, name_at, description_path, if_any, under_head, open_in, looked, examined};
+ghost use Rattle.muck_looking.specs.Looks.{line_shortened, form_line, entry_name, description_path, if_any, under_head, open_in, object_looked_at, object_examined};
 ghost use Rattle.spec_commands.specs.Replies.{owner_line, lock_line};
 
 use crate::lines::{form, headed};
-use muck_db::{Db, KnownPaths, value_text};
+use muck_db::{Db, KnownPaths};
 use muck_model::{Dbref, Line, LineList, NoMemory};
-use muck_perm::{flag_at, owner_at};
-use muck_prop::{Path, PropValue};
-use spec_live::{DARK, Object};
+use muck_perm::{flag_at, lock_text, message_at, owner_at};
+use spec_live::{DARK, Message};
 use std::alloc::Global;
-
-// The text that an object keeps at a path.
-#[tactic(auto, unfolding(spec_live::specs::Worth::message_at))]
-fn message_at<'a>(db: &'a Db, d: Dbref, path: &Path) -> Option<&'a Line>
-    ensures { option_copied result ≡ message_at path.now d db.now }
-{
-    match db.get(d)?.props().get(path) {
-        Some(PropValue::Text(text)) => Some(text),
-        _ => None,
-    }
-}
 
 // The description of an object.
 fn description<'a>(db: &'a Db, paths: &KnownPaths, d: Dbref) -> Option<&'a Line>
     ensures { option_copied result ≡ message_at description_path d db.now }
 {
-    message_at(db, d, &paths.describe)
+    message_at(db, d, paths.message(Message::Describe))
 }
 
 // Adds its description, where it has one.
@@ -82,9 +70,9 @@ fn add_contents(alloc: Global, db: &Db, d: Dbref, lines: &mut Vec<Line>) -> Resu
 
 /// What is seen of an object: its long form, its description as it is kept, where that is a text, and under `Contents:` the long forms of what it holds without the
 /// flag D, where there is any. None where it isn't there or is garbage.
-#[tactic(auto, unfolding(crate::specs::Looks::looked))]
+#[tactic(auto, unfolding(crate::specs::Looks::object_looked_at))]
 pub fn look(alloc: Global, db: &Db, d: Dbref) -> Result<Option<LineList>, NoMemory>
-    ensures { IfOk result (λ lines. lines ≡ looked d db.now) }
+    ensures { IfOk result (λ lines. lines ≡ object_looked_at d db.now) }
 {
     if db.get(d).is_none() {
         return Ok(None);
@@ -98,7 +86,7 @@ pub fn look(alloc: Global, db: &Db, d: Dbref) -> Result<Option<LineList>, NoMemo
 
 // The name of an object; what isn't there has none.
 fn name_of(db: &Db, d: Dbref) -> &[u8]
-    ensures name { result.now ≡ name_at db.now d }
+    ensures name { result.now ≡ entry_name db.now d }
     ensures text { text_fault result.now ≡ None }
 {
     match db.get(d) {
@@ -109,46 +97,24 @@ fn name_of(db: &Db, d: Dbref) -> &[u8]
 
 // The line of its owner.
 fn owner_line(alloc: Global, db: &Db, d: Dbref) -> Result<Line, NoMemory>
-    ensures { IfOk result (λ line. line ≡ cut (owner_line (name_at db.now (owner_at db.now d)))) }
+    ensures { IfOk result (λ line. line ≡ line_shortened (owner_line (entry_name db.now (owner_at db.now d)))) }
 {
     let owner = owner_at(db, d);
     headed(alloc, b"Owner: ", name_of(db, owner))
 }
 
-// What is kept as the lock of an object.
-fn kept_lock<'a>(paths: &KnownPaths, object: &'a Object) -> Option<&'a PropValue>
-    ensures { option_copied result ≡ lock_of_object object.now }
-{
-    object.props().get(&paths.lock)
-}
-
-// Its lock, as it is shown.
-#[tactic(auto, unfolding(spec_live::specs::Worth::lock_text))]
-fn lock_text(alloc: Global, db: &Db, d: Dbref) -> Result<Line, NoMemory>
-    ensures { IfOk result (λ text. text ≡ lock_text d db.now) }
-{
-    let kept = match db.get(d) {
-        Some(object) => kept_lock(db.paths(), object),
-        None => None,
-    };
-    match kept {
-        Some(value) => value_text(alloc, value),
-        None => Line::of_text(alloc, b"*UNLOCKED*"),
-    }
-}
-
 // The line of its lock.
 fn lock_line(alloc: Global, db: &Db, d: Dbref) -> Result<Line, NoMemory>
-    ensures { IfOk result (λ line. line ≡ cut (lock_line (lock_text d db.now))) }
+    ensures { IfOk result (λ line. line ≡ line_shortened (lock_line (lock_text d db.now))) }
 {
     let lock = lock_text(alloc, db, d)?;
     headed(alloc, b"Lock: ", lock.as_slice())
 }
 
 /// What is seen of an object by who controls it: its long form, its owner and its lock. None where it isn't there or is garbage.
-#[tactic(auto, unfolding(crate::specs::Looks::examined))]
+#[tactic(auto, unfolding(crate::specs::Looks::object_examined))]
 pub fn examine(alloc: Global, db: &Db, d: Dbref) -> Result<Option<LineList>, NoMemory>
-    ensures { IfOk result (λ lines. lines ≡ examined d db.now) }
+    ensures { IfOk result (λ lines. lines ≡ object_examined d db.now) }
 {
     if db.get(d).is_none() {
         return Ok(None);

@@ -3,6 +3,7 @@ use Rattle.std.proofs.Common.{◌≡◌, ◌≢◌, ℕ, zero, suc, Bool, true, 
 use Rattle.std.proofs.lemmas.Bool.{cond-true, cond-false}
 use Rattle.std.specs.Prelude.{ℤ}
 use Rattle.std.specs.Option.{option_map}
+use Rattle.muck_laws.proofs.Truths.{alive_where}
 use Rattle.muck_model.specs.Told.{Told}
 use Rattle.muck_model.specs.declared.event.Entry.{Entry}
 use Rattle.muck_model.specs.declared.event.Event.{Event}
@@ -13,20 +14,24 @@ use Rattle.muck_queue.specs.Queues.{next_due}
 use Rattle.muck_queue.specs.inner.Numbered.{IsNumbered}
 use Rattle.muck_model.specs.declared.note.Count.{Count}
 use Rattle.muck_model.specs.declared.tune.Tune.{Tune}
-use Rattle.spec_live.specs.Objects.{Entry as Kept, mark_in}
-use Rattle.spec_live.specs.Start.{first_objects}
-use Rattle.spec_events.specs.World.{World, booted}
-use Rattle.spec_events.specs.Steps.{is_free, happened, effect, is_died, is_lawful, is_allowed, next_ready, next_process}
+use Rattle.spec_live.specs.Objects.{Entry as Kept, mark_in, object_in}
+use Rattle.spec_live.specs.Start.{first_objects, room_zero, player_one}
+use Rattle.spec_live.specs.Stood.{stood_in, stands_in, IsStill}
+use Rattle.spec_events.specs.World.{World, world_booted}
+use Rattle.spec_events.specs.Steps.{has_line_to_do, happened, hooked_by, effect, is_died, is_lawful, is_allowed, next_ready, next_process}
 use Rattle.spec_events.specs.Histories.{History, after, now, AllLawful}
 use Rattle.spec_events.specs.Logged.{ArePlaced, IsCountPlaced, IsPlaced}
+use Rattle.spec_commands.specs.inner.Rising.{IsRising}
 use Rattle.spec_events.specs.inner.Sound.{IsSound}
-use Rattle.spec_events.proofs.Happening.{effect-is}
 use Rattle.spec_events.proofs.Living.{dead-effect}
 use Rattle.spec_events.proofs.Reached.{sound-effect, died_lawful}
 use Rattle.spec_events.proofs.Runs.{after-append, lawful-append}
+use Rattle.spec_events.proofs.Stilling.{still_effect}
+use Rattle.spec_events.proofs.Turns.{told_effect}
 use Rattle.spec_events.proofs.Logging.{placed_entered, placed_noted, placed_linked}
+use Rattle.muck_turns.specs.inner.Hooks.{AreTold}
 use Rattle.muck_machine.specs.declared.past.Past.{Past}
-use Rattle.muck_machine.specs.inner.Keeping.{AreTold, Keeps, history, told, remarked, counted_at_end, lost, Concludes}
+use Rattle.muck_machine.specs.inner.Keeping.{Keeps, history, told, remarked, counted_at_end, lost, Concludes}
 
 one_more : (start : World) (entries : List Entry) (e : Entry) → after start (entries ++ e ∷ []) ≡ effect (after start entries) e
 one_more start entries e = after-append entries (e ∷ []) start
@@ -38,7 +43,8 @@ not_died event other = λ e. differ (is_died event) (ap is_died e) other where
 
 -- an entry that is lawful and isn't Died was entered, and done to the state
 keeps_told : (p : Past) (state next : World) (e : Entry) → Keeps p state → p.dead ≡ false → is_lawful (after p.origin p.tale.entries) e ≡ true → is_died e.event ≡ false →
-    next ≡ happened state e.party e.event → Keeps (told e p) next
+    next ≡ hooked_by state e.event (happened state e.party e.event) → Keeps (told e p) next
+unfolding effect
 keeps_told p state next e k alive may other is =
     let whole = one_more p.origin p.tale.entries e in
     record {
@@ -47,18 +53,19 @@ keeps_told p state next e k alive may other is =
       placed = placed_entered (history p) e k.placed;
       dies = ap (λ (w : World). w.dead) whole ∙ dead-effect (after p.origin p.tale.entries) e other ∙ k.dies;
       sound = λ h. subst IsSound (sym (after-append p.tale.entries (e ∷ []) p.origin)) (sound-effect (after p.origin p.tale.entries) e (not_died e.event other) may (k.sound alive));
-      lives = λ h. is ∙ ap (λ w. happened w e.party e.event) (k.lives alive) ∙ sym (effect-is (after p.origin p.tale.entries) e) ∙ sym whole;
+      lives = λ h. is ∙ ap (λ w. effect w e) (k.lives alive) ∙ sym whole;
       told = k.told;
+      still = k.still;
       numbered = k.numbered;
     }
 
 -- a note changes nothing of what is kept
 pub keeps_noted : (p : Past) (note : Note) (state : World) → note.entries ≡ length p.tale.entries → Keeps p state → Keeps (remarked note p) state
-keeps_noted p note state at k = record { grows = refl; lawful = k.lawful; placed = placed_noted (history p) note at k.placed; dies = k.dies; sound = k.sound; lives = k.lives; told = k.told; numbered = k.numbered }
+keeps_noted p note state at k = record { grows = refl; lawful = k.lawful; placed = placed_noted (history p) note at k.placed; dies = k.dies; sound = k.sound; lives = k.lives; told = k.told; still = k.still; numbered = k.numbered }
 
 -- nor does that of the links
 pub keeps_linked : (p : Past) (cs : List Count) (state : World) → Keeps p state → Keeps (counted_at_end cs p) state
-keeps_linked p cs state k = record { grows = refl; lawful = k.lawful; placed = placed_linked (history p) cs k.placed; dies = k.dies; sound = k.sound; lives = k.lives; told = k.told; numbered = k.numbered }
+keeps_linked p cs state k = record { grows = refl; lawful = k.lawful; placed = placed_linked (history p) cs k.placed; dies = k.dies; sound = k.sound; lives = k.lives; told = k.told; still = k.still; numbered = k.numbered }
 
 -- memory was wanted, whatever stood before
 pub keeps_lost : (p : Past) (party : ℕ) (state next : World) → Keeps p state → Keeps (lost party p) next
@@ -71,15 +78,9 @@ keeps_lost p party state next k = record {
   sound = λ h. cc;
   lives = λ h. cc;
   told = k.told;
+  still = k.still;
   numbered = k.numbered;
 }
-
--- where something other than Died is lawful, the world isn't dead
-alive_where : (dead allowed died : Bool) → cond dead died allowed ≡ true → died ≡ false → dead ≡ false
-alive_where true allowed died e other = absurd (differ died e other) where
-  differ : (b : Bool) → b ≡ true → b ≡ false → ⊥
-  differ b p q = cc
-alive_where false allowed died e other = refl
 
 -- whether the world as it is now is dead
 pub dead_seen : (p : Past) (state : World) (h : History) → Keeps p state → history p ≡ h → (now h).dead ≡ p.dead
@@ -96,14 +97,14 @@ alive_now w e may other = alive_where w.dead _ _ may other
 
 -- an entry that is lawful now and isn't Died was entered
 pub keeps_entered : (p q : Past) (state next : World) (h : History) (e : Entry) → Keeps p state → history p ≡ h → is_lawful (now h) e ≡ true → is_died e.event ≡ false →
-    q ≡ told e p → next ≡ happened state e.party e.event → Keeps q next
+    q ≡ told e p → next ≡ hooked_by state e.event (happened state e.party e.event) → Keeps q next
 unfolding now
 keeps_entered p q state next h e k v may other l is =
     rw l (keeps_told p state next e k (alive_if_lawful p state h e k v may other) (ap (λ (x : History). is_lawful (now x) e) v ∙ may) other is)
 
 -- a deed was concluded
 pub keeps_concluded : (p q : Past) (state next : World) (h : History) (e : Entry) (done result : Result (Unit {0}) NoMemory) → Keeps p state → history p ≡ h → is_lawful (now h) e ≡ true → is_died e.event ≡ false →
-    OnOk done (next ≡ happened state e.party e.event) → result ≡ done → Concludes e result p q → Keeps q next
+    OnOk done (next ≡ hooked_by state e.event (happened state e.party e.event)) → result ≡ done → Concludes e result p q → Keeps q next
 keeps_concluded p q state next h e done (Ok x) k v may other is same c = keeps_entered p q state next h e k v may other c (rw (sym same) at is)
 keeps_concluded p q state next h e done (Err x) k v may other is same c = rw c (keeps_lost p e.party state next k)
 
@@ -111,6 +112,28 @@ keeps_concluded p q state next h e done (Err x) k v may other is same c = rw c (
 pub sound_seen : (p : Past) (state : World) (h : History) → Keeps p state → history p ≡ h → (now h).dead ≡ false → IsSound (now h)
 unfolding now
 sound_seen p state h k v alive = subst (λ (x : History). IsSound (now x)) v (k.sound (sym (dead_seen p state h k v) ∙ alive))
+
+-- between entries nobody has moved
+still_after : (w : World) (es : List Entry) → IsStill w.live.objects → IsStill (after w es).live.objects
+still_after w [] still = still
+still_after w (e ∷ es) still = still_after (effect w e) es (still_effect w e still)
+
+pub still_seen : (p : Past) (state : World) (h : History) → Keeps p state → history p ≡ h → (now h).dead ≡ false → IsStill state.live.objects
+still_seen p state h k v alive = subst (λ (w : World). IsStill w.live.objects) (sym (k.lives (sym (dead_seen p state h k v) ∙ alive))) (still_after p.origin p.tale.entries k.still)
+
+-- nor is anything to be told
+told_after : (w : World) (es : List Entry) → AreTold w.live.objects → AreTold (after w es).live.objects
+told_after w [] told = told
+told_after w (e ∷ es) told = told_after (effect w e) es (told_effect w e told)
+
+pub told_seen : (p : Past) (state : World) (h : History) → Keeps p state → history p ≡ h → (now h).dead ≡ false → AreTold state.live.objects
+told_seen p state h k v alive = subst (λ (w : World). AreTold w.live.objects) (sym (k.lives (sym (dead_seen p state h k v) ∙ alive))) (told_after p.origin p.tale.entries k.told)
+
+-- and the connections stand by rising number
+pub rising_seen : (p : Past) (state : World) (h : History) → Keeps p state → history p ≡ h → (now h).dead ≡ false → IsRising state.live.board.connections
+rising_seen p state h k v alive =
+    let lives : p.dead ≡ false = sym (dead_seen p state h k v) ∙ alive in
+    subst (λ (w : World). IsRising w.live.board.connections) (sym (k.lives lives)) (k.sound lives).rising
 
 -- and each entry so far was lawful
 pub lawful_seen : (p : Past) (state : World) (h : History) → Keeps p state → history p ≡ h → AllLawful h.start h.entries
@@ -132,8 +155,8 @@ lawful_as p allowed state h e k v alive is =
     is ∙ ap (λ w. is_allowed w e.party e.event) (k.lives alive ∙ ap now v) ∙ sym (cond-false _ _ _ (dead_seen p state h k v ∙ alive))
 
 -- of the objects of which a world is booted, where nothing is to be told of them; and of the first ones nothing is
-pub told_begun : (objects : List Kept) (tune : Tune) (moment start : ℕ) → AreTold objects → AreTold (booted objects tune moment start).live.objects
-unfolding booted
+pub told_begun : (objects : List Kept) (tune : Tune) (moment start : ℕ) → AreTold objects → AreTold (world_booted objects tune moment start).live.objects
+unfolding world_booted
 told_begun objects tune moment start h = h
 
 pub told_first : AreTold first_objects
@@ -142,9 +165,20 @@ told_first zero = refl
 told_first (suc zero) = refl
 told_first (suc (suc n)) = refl
 
+-- nor has any of them moved
+pub still_begun : (objects : List Kept) (tune : Tune) (moment start : ℕ) → IsStill objects → IsStill (world_booted objects tune moment start).live.objects
+unfolding world_booted
+still_begun objects tune moment start h = h
+
+pub still_first : IsStill first_objects
+unfolding first_objects room_zero player_one stood_in stands_in object_in
+still_first zero = refl
+still_first (suc zero) = refl
+still_first (suc (suc n)) = refl
+
 -- a world begins, in which nothing has happened yet
-pub keeps_begun : (p : Past) (state : World) → p.tale ≡ record { entries = []; notes = []; counted = None; open_ended = true } → p.dead ≡ false → IsSound p.origin → AreTold p.origin.live.objects → IsNumbered p.origin.queue → state ≡ p.origin → Keeps p state
-keeps_begun p state t alive sound told numbered is =
+pub keeps_begun : (p : Past) (state : World) → p.tale ≡ record { entries = []; notes = []; counted = None; open_ended = true } → p.dead ≡ false → IsSound p.origin → AreTold p.origin.live.objects → IsStill p.origin.live.objects → IsNumbered p.origin.queue → state ≡ p.origin → Keeps p state
+keeps_begun p state t alive sound told still numbered is =
     let none : p.tale.entries ≡ [] = ap (λ (x : Told). x.entries) t in
     let unnoted : p.tale.notes ≡ [] = ap (λ (x : Told). x.notes) t in
     let uncounted : p.tale.counted ≡ None = ap (λ (x : Told). x.counted) t in
@@ -156,6 +190,7 @@ keeps_begun p state t alive sound told numbered is =
       sound = λ h. subst (λ (es : List Entry). IsSound (after p.origin es)) (sym none) sound;
       lives = λ h. is ∙ sym (ap (after p.origin) none);
       told = told;
+      still = still;
       numbered = numbered;
     }
 
@@ -190,13 +225,13 @@ next_dead w e = sym (cond-true _ _ _ (ap (λ b. b || w.stopping) e))
 
 -- where a world isn't dead the state chooses
 abbrev pub line_chosen : World → Option ℕ
-line_chosen w = cond w.stopping None (option_map (λ c. c.number) (find (is_free w) w.live.board.connections))
+line_chosen w = cond w.stopping None (option_map (λ c. c.number) (find (has_line_to_do w) w.live.board.connections))
 
 pub next_seen : (p : Past) (state : World) (h : History) (found : Option ℕ) → Keeps p state → history p ≡ h → p.dead ≡ false → found ≡ line_chosen state → found ≡ next_ready (now h)
 unfolding next_ready
 next_seen p state h found k v alive is =
     let e = dead_seen p state h k v ∙ alive in
-    reads line_chosen found p state h k v is e ∙ sym (ap (λ b. cond (b || (now h).stopping) None (option_map (λ c. c.number) (find (is_free (now h)) (now h).live.board.connections))) e)
+    reads line_chosen found p state h k v is e ∙ sym (ap (λ b. cond (b || (now h).stopping) None (option_map (λ c. c.number) (find (has_line_to_do (now h)) (now h).live.board.connections))) e)
 
 -- the choice of the next process
 pub process_dead : (w : World) → w.dead ≡ true → None ≡ next_process w
@@ -222,4 +257,4 @@ alive_if_found w d e = alive w.dead _ e where
 
 -- nothing happened, and the state is as it was
 pub keeps_same : (p : Past) (state next : World) → Keeps p state → next ≡ state → Keeps p next
-keeps_same p state next k e = record { grows = k.grows; lawful = k.lawful; placed = k.placed; dies = k.dies; sound = k.sound; lives = λ h. e ∙ k.lives h; told = k.told; numbered = k.numbered }
+keeps_same p state next k e = record { grows = k.grows; lawful = k.lawful; placed = k.placed; dies = k.dies; sound = k.sound; lives = λ h. e ∙ k.lives h; told = k.told; still = k.still; numbered = k.numbered }

@@ -4,7 +4,7 @@ use Rattle.std.specs.List.{list_any}
 use Rattle.std.proofs.lemmas.Bool.Decides.{nat_tests}
 use mathlib.Core.Option.{some}
 use lib.ListN.{get_elem?}
-use Rattle.turn_lock.specs.Histories.{kept, own_of, StartsWith}
+use Rattle.turn_lock.specs.Histories.{entry_kept, own_of, StartsWith}
 use Rattle.turn_lock.specs.declared.view.Place.TheVariants.{Idle, Told}
 use Rattle.turn_lock.proofs.Parts.{own_append, own_mine}
 use Rattle.muck_model.specs.declared.event.Entry.{Entry}
@@ -94,7 +94,7 @@ not_first p l ls none = from (l.entry.party == p) refl none
     other : (a b : ℕ) → (a == b) ≡ false → ¬ (a ≡ b)
     other a b is = λ same. grind (arith, nat_tests)
 
-    from : (t : Bool) → (l.entry.party == p) ≡ t → kept t l (own_of logged_by p ls) ≡ [] → (¬ (l.entry.party ≡ p)) × (own_of logged_by p ls ≡ [])
+    from : (t : Bool) → (l.entry.party == p) ≡ t → entry_kept t l (own_of logged_by p ls) ≡ [] → (¬ (l.entry.party ≡ p)) × (own_of logged_by p ls ≡ [])
     from true is e = absurd (none_or_more l (own_of logged_by p ls) e)
     from false is e = (other l.entry.party p is, e)
 
@@ -121,7 +121,7 @@ notes_own (l ∷ ls) all = from (l.entry.party == 9) refl (notes_own ls (λ i x 
     other : (a b : ℕ) → (a == b) ≡ false → ¬ (a ≡ b)
     other a b is = λ same. grind (arith, nat_tests)
 
-    from : (t : Bool) → (l.entry.party == 9) ≡ t → notes_of ls ≡ notes_of (own_of logged_by 9 ls) → l.notes ++ notes_of ls ≡ notes_of (kept t l (own_of logged_by 9 ls))
+    from : (t : Bool) → (l.entry.party == 9) ≡ t → notes_of ls ≡ notes_of (own_of logged_by 9 ls) → l.notes ++ notes_of ls ≡ notes_of (entry_kept t l (own_of logged_by 9 ls))
     from true is ih = ap (λ (ns : List Note). l.notes ++ ns) ih
     from false is ih = ap (λ (ns : List Note). ns ++ notes_of ls) ((all 0 l refl).notes (other l.entry.party 9 is)) ∙ ih
 
@@ -133,7 +133,7 @@ counts_own (l ∷ ls) all none = from (l.entry.party == 0) refl none (counts_own
     other : (a b : ℕ) → (a == b) ≡ false → ¬ (a ≡ b)
     other a b is = λ same. grind (arith, nat_tests)
 
-    from : (t : Bool) → (l.entry.party == 0) ≡ t → NoCounts (kept t l (own_of logged_by 0 ls)) → (NoCounts (own_of logged_by 0 ls) → NoCounts ls) → (l.counted ≡ None) × NoCounts ls
+    from : (t : Bool) → (l.entry.party == 0) ≡ t → NoCounts (entry_kept t l (own_of logged_by 0 ls)) → (NoCounts (own_of logged_by 0 ls) → NoCounts ls) → (l.counted ≡ None) × NoCounts ls
     from true is h ih = (h.0, ih h.1)
     from false is h ih = ((all 0 l refl).counted (other l.entry.party 0 is), ih h)
 

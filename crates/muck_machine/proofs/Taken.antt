@@ -5,15 +5,15 @@ use Rattle.std.proofs.lemmas.Bool.{cond_both}
 use Rattle.muck_model.specs.declared.tune.Tune.{Tune}
 use Rattle.muck_model.specs.declared.event.Event.TheVariants.{Opened, Claim, Lost, Take}
 use Rattle.spec_live.specs.Objects.{Entry}
-use Rattle.spec_live.specs.Output.{taken}
-use Rattle.spec_live.specs.Connections.{Connection, has_number, changed_in}
-use Rattle.spec_live.specs.Boards.{Board, early_board, opened, bytes_taken, with_connections}
+use Rattle.spec_live.specs.Output.{output_taken}
+use Rattle.spec_live.specs.Connections.{Connection, is_connection, changed_in}
+use Rattle.spec_live.specs.Boards.{Board, early_board, connection_opened, bytes_taken, with_connections}
 use Rattle.spec_live.specs.Lives.{on_board}
 use Rattle.spec_commands.specs.Talk.{welcome}
 use Rattle.muck_board.proofs.Outputs.{taken_rest}
 use Rattle.muck_library.specs.Library.{Library}
 use Rattle.muck_queue.specs.Queues.{Queue, empty_queue, claimed, released}
-use Rattle.spec_events.specs.World.{World, Dumps, no_dumps, booted, on_live, on_queue}
+use Rattle.spec_events.specs.World.{World, Dumps, no_dumps, world_booted, on_live, on_queue}
 use Rattle.spec_events.specs.Steps.{happened}
 
 -- the board of a state that is seen as w is changed so
@@ -23,9 +23,9 @@ board_so f w v b is seen = ap (λ (x : Board). record w { live = record w.live {
 pub taken_so : (d n : ℕ) (w v : World) (b : Board) → b ≡ bytes_taken d n w.live.board → w ≡ v → record w { live = record w.live { board = b } } ≡ happened v 0 (Take d n)
 taken_so d n = board_so (bytes_taken d n)
 
-pub opened_so : (d : ℕ) (w v : World) (b : Board) → b ≡ opened d (codes "Use: connect NAME PASSWORD, WHO or QUIT.") w.live.board → w ≡ v → record w { live = record w.live { board = b } } ≡ happened v 0 (Opened d)
+pub opened_so : (d : ℕ) (w v : World) (b : Board) → b ≡ connection_opened d (codes "Use: connect NAME PASSWORD, WHO or QUIT.") w.live.board → w ≡ v → record w { live = record w.live { board = b } } ≡ happened v 0 (Opened d)
 unfolding welcome
-opened_so d = board_so (opened d welcome)
+opened_so d = board_so (connection_opened d welcome)
 
 pub claimed_so : (pid : ℤ) (party : ℕ) (w v : World) (q : Queue) → q ≡ claimed pid party w.queue → w ≡ v → record w { queue = q } ≡ happened v party (Claim pid)
 claimed_so pid party w v q is seen = ap (λ (x : Queue). record w { queue = x }) is ∙ ap (on_queue (claimed pid party)) seen
@@ -35,16 +35,16 @@ lost_so pid party w v q is seen = ap (λ (x : Queue). record w { queue = x }) is
 
 -- how it begins, by its parts
 pub booted_so : (objects : List Entry) (tune : Tune) (moment start : ℕ) (board : Board) (library : Library) (queue : Queue) (dumps : Dumps) → board ≡ early_board start tune → library ≡ [] → queue ≡ empty_queue → dumps ≡ no_dumps moment →
-    record { live = record { objects = objects; board = board }; library = library; queue = queue; moment = moment; dumps = dumps; stopping = false; dead = false } ≡ booted objects tune moment start
-unfolding booted
+    record { live = record { objects = objects; board = board }; library = library; queue = queue; moment = moment; dumps = dumps; stopping = false; dead = false } ≡ world_booted objects tune moment start
+unfolding world_booted
 booted_so objects tune moment start board library queue dumps b l q n = rw (b, l, q, n) refl
 
 -- no bytes are taken
-none_in : (d : ℕ) (cs : List Connection) → changed_in d (λ c. record c { output = taken 0 c.output }) cs ≡ cs
+none_in : (d : ℕ) (cs : List Connection) → changed_in d (λ c. record c { output = output_taken 0 c.output }) cs ≡ cs
 none_in d [] = refl
 none_in d (c ∷ cs) =
-    let f : Connection → Connection = λ x. record x { output = taken 0 x.output } in
-    cond_both (has_number d c) (f c ∷ cs) (c ∷ changed_in d f cs) (λ l. l ≡ c ∷ cs)
+    let f : Connection → Connection = λ x. record x { output = output_taken 0 x.output } in
+    cond_both (is_connection d c) (f c ∷ cs) (c ∷ changed_in d f cs) (λ l. l ≡ c ∷ cs)
     (λ e. ap (λ o. record c { output = o } ∷ cs) (taken_rest 0 c.output (omega arith)))
     (λ e. ap (λ l. c ∷ l) (none_in d cs))
 

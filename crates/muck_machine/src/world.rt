@@ -2,18 +2,18 @@
 ghost use Rattle.std.specs.Prelude.{◌≡◌, ◌≤◌, IfOk, IfSome, OnOk, OnErr, MatchOption, length, take, min, true, false, if◌then◌else◌, nat_lt, is_some, option_copied, [], List, ℕ, None};
 ghost use Rattle.std.specs.Option.{option_map_or};
 ghost use Rattle.muck_model.specs.declared.event.Event.{Event};
-ghost use Rattle.muck_queue.specs.Queues.{is_tied};
-ghost use Rattle.spec_admin.specs.Parameters.{IsInRange};
-ghost use Rattle.spec_events.specs.World.{starting, booted, connection, queue_of, is_leaving};
-ghost use Rattle.spec_events.specs.Steps.{is_lawful, has_claim, is_there, next_ready, next_process};
-ghost use Rattle.spec_events.specs.Histories.{now, entered, by_porter, AllLawful};
+ghost use Rattle.muck_queue.specs.Queues.{has_process_tied};
+ghost use Rattle.muck_model.specs.Parameters.{IsInRange};
+ghost use Rattle.spec_live.specs.Stood.{IsStill};
+ghost use Rattle.spec_events.specs.World.{starting_world, world_booted, connection, queue_of, is_leaving};
+ghost use Rattle.spec_events.specs.Steps.{is_lawful, has_claim, is_process_there, next_ready, next_process};
+ghost use Rattle.spec_events.specs.Histories.{now, entered, by_porter, AllLawful, EntryLicensed};
 ghost use Rattle.spec_events.specs.Logged.{IsPlaced};
-ghost use Rattle.spec_events.specs.Licences.{EventLicensed};
 ghost use Rattle.spec_events.specs.Sections.{IsWhole};
-ghost use Rattle.spec_events.specs.Slices.{awake, units_of};
+ghost use Rattle.spec_events.specs.Slices.{process_awake, units_of};
 ghost use Rattle.muck_machine.specs.declared.world.Sliced.TheVariants.{Ran, Lost};
 ghost use Rattle.muck_machine.specs.inner.Claims.{slice_event};
-ghost use Rattle.muck_machine.specs.inner.Keeping.{AreTold};
+ghost use Rattle.muck_turns.specs.inner.Hooks.{AreTold};
 
 mod dumping;
 mod seeing;
@@ -33,18 +33,6 @@ use std::marker::Model;
 
 /// The most connections.
 const CONNECTIONS_MOST: usize = 256;
-
-/// What a wizard tuned before anybody did.
-const FIRST_TUNE: Tune = Tune {
-    instr_slice: 2000,
-    preempt_units: 20_000,
-    m1_units: 20_000,
-    m2_units: 80_000,
-    process_limit: 400,
-    player_processes: 32,
-    mpi_commands: 2048,
-    dump_interval: 900,
-};
 
 /// The world. Contracts see it as its history: how it began, each entry since, and the notes of the disks between them. The world as it is now is the one
 /// after these entries. A dead world has lost memory in the midst of something: it takes no entry any more but `Died`.
@@ -82,11 +70,12 @@ pub enum Sliced {
 
 impl World {
     /// The world of these objects and parameters at this second, in which nobody is connected and nothing has happened
-    /// yet; its random numbers begin with `start`. The objects are as a store held them: of none of them a change is still to be told.
+    /// yet; its random numbers begin with `start`. The objects are as a store held them: of none of them a change is still to be told, and no player has moved.
     pub fn boot(alloc: Global, from: Persisted, moment: u64, start: u64) -> Result<Self, NoMemory>
         requires tune { IsInRange from.tune }
         requires told { AreTold from.db }
-        ensures { IfOk result (λ w. w ≡ record { start = booted from.db from.tune moment start; entries = []; notes = []; counted = None }) }
+        requires still { IsStill from.db }
+        ensures { IfOk result (λ w. w ≡ record { start = world_booted from.db from.tune moment start; entries = []; notes = []; counted = None }) }
     {
         let Persisted { db, tune } = from;
         let begun = Begun {
@@ -118,16 +107,16 @@ impl World {
     }
 
     /// Room Zero and One as they are at first, and nobody connected: nothing has happened yet.
-    #[tactic(auto, unfolding(spec_events::specs::World::starting, spec_live::specs::Boards::first_tune), using(crate::proofs::Keepings::told_first))]
+    #[tactic(auto, unfolding(spec_events::specs::World::starting_world), using(crate::proofs::Keepings::told_first, crate::proofs::Keepings::still_first))]
     pub fn starting(alloc: Global) -> Result<Self, NoMemory>
-        ensures { IfOk result (λ w. w ≡ record { start = starting; entries = []; notes = []; counted = None }) }
+        ensures { IfOk result (λ w. w ≡ record { start = starting_world; entries = []; notes = []; counted = None }) }
     {
         let db = Db::starting(alloc)?;
         World::boot(
             alloc,
             Persisted {
                 db,
-                tune: FIRST_TUNE,
+                tune: Tune::first(),
             },
             0,
             0,
@@ -249,7 +238,7 @@ impl World {
         Ok(true)
     }
 
-    /// A connection goes, and where it was a player's last one, others are told. After `NoMemory` the world is dead.
+    /// A connection goes, and where it was a player's last one, others are told; what is hooked to that starts. After `NoMemory` the world is dead.
     pub fn closed(&mut self, d: u32) -> Result<(), NoMemory>
         requires { is_lawful (now self.old) (by_porter (Event.Closed d)) ≡ true }
         ensures ok { OnOk result (self.new ≡ entered self.old (by_porter (Event.Closed d))) }
@@ -283,7 +272,7 @@ impl World {
     pub fn exec(&mut self, party: u8) -> Result<Option<u32>, NoMemory>
         ensures found { IfOk result (λ found. found ≡ next_ready (now self.old)) }
         ensures step { IfOk result (λ found. MatchOption found (self.new ≡ self.old) (λ d. self.new ≡ entered self.old (record { party = party; event = Event.Exec d }))) }
-        ensures licensed { IfOk result (λ found. IfSome found (λ d. EventLicensed (Event.Exec d) (now self.old) (now self.new))) }
+        ensures licensed { IfOk result (λ found. IfSome found (λ d. EntryLicensed (record { party = party; event = Event.Exec d }) (now self.old) (now self.new))) }
         ensures died { OnErr result (self.new ≡ entered self.old (record { party = party; event = Event.Died })) }
     {
         let Some(d) = self.next_ready() else {
@@ -325,10 +314,10 @@ impl World {
     pub fn slice(&mut self, party: u8, pid: i32) -> Result<Sliced, NoMemory>
         requires alive { (now self.old).dead ≡ false }
         requires claim { has_claim party pid (now self.old) ≡ true }
-        ensures ran { IfOk result (λ sliced. sliced ≡ (if is_there pid (now self.old) then Ran else Lost)) }
+        ensures ran { IfOk result (λ sliced. sliced ≡ (if is_process_there pid (now self.old) then Ran else Lost)) }
         ensures step { IfOk result (λ sliced. self.new ≡ entered self.old (record { party = party; event = slice_event pid sliced })) }
-        ensures licensed { IfOk result (λ sliced. EventLicensed (slice_event pid sliced) (now self.old) (now self.new)) }
-        ensures whole { IfOk result (λ sliced. sliced ≡ Ran → IsWhole (now self.old).live.board.tune pid (awake pid (now self.old)) (units_of pid (now self.old))) }
+        ensures licensed { IfOk result (λ sliced. EntryLicensed (record { party = party; event = slice_event pid sliced }) (now self.old) (now self.new)) }
+        ensures whole { IfOk result (λ sliced. sliced ≡ Ran → IsWhole (now self.old).live.board.tune pid (process_awake pid (now self.old)) (units_of pid (now self.old))) }
         ensures died { OnErr result (self.new ≡ entered self.old (record { party = party; event = Event.Died })) }
     {
         if !self.has_process(pid) {
@@ -351,7 +340,7 @@ impl World {
 
     // Whether the process is there. On a dead world nothing is said of the answer.
     fn has_process(&self, pid: i32) -> bool
-        ensures { (now self.now).dead ≡ false → result ≡ is_there pid (now self.now) }
+        ensures { (now self.now).dead ≡ false → result ≡ is_process_there pid (now self.now) }
     {
         let state = &self.state;
         state.queue.get(pid).is_some()
@@ -454,7 +443,7 @@ impl World {
 
     /// Whether a process is tied to the connection. On a dead world nothing is said of the answer.
     pub fn tied(&self, d: u32) -> bool
-        ensures { (now self.now).dead ≡ false → result ≡ is_tied d (now self.now).queue }
+        ensures { (now self.now).dead ≡ false → result ≡ has_process_tied d (now self.now).queue }
     {
         let state = &self.state;
         state.queue.is_tied(d)

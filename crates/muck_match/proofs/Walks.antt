@@ -3,9 +3,9 @@ use Rattle.std.proofs.Common.{◌≡◌, ℕ, ◌<◌, ◌≤◌, suc, zero, Boo
 use Rattle.std.proofs.lemmas.Bool.{cases_Bool, ltb-true, true≢false}
 use Rattle.std.specs.Option.{option_map, option_map_or}
 use Rattle.muck_model.specs.declared.dbref.Dbref.{Dbref}
-use Rattle.muck_model.specs.Numbers.{numbered}
+use Rattle.muck_model.specs.Numbers.{dbref_numbered}
 use Rattle.muck_match.proofs.Lists.{chain_step, chain_end}
-use Rattle.muck_match.specs.Scenery.{Scenery, nothing, is_nothing, chain, upward, is_there}
+use Rattle.muck_match.specs.Scenery.{Scenery, nothing, is_nothing, chain, upward, is_in_scenery}
 use Rattle.muck_model.specs.Dbrefs.{index_at}
 use Rattle.muck_match.specs.inner.Memory.{height, lower, led, walk, behind, object_at, slot_at, next_at, above_at, after_in, sight_of, scenery_of}
 use Rattle.muck_match.specs.declared.memory.MemObject.{MemObject}
@@ -43,8 +43,8 @@ step_at f h (suc n) d e = elim (cases_Bool (is_nothing (f d))) [
 pub behind_step : (f : Dbref → Dbref) → IsFalling f → (d : Dbref) → behind f d ≡ chain (behind f) (f d)
 behind_step f h d = step_at f h (height d) d refl
 
-lower_z : (d : Dbref) (z : ℤ) → is_nothing (option_map_or (λ n. if ltb n (height d) then numbered z else nothing) (index_at z) nothing) ≡ false
-    → height (option_map_or (λ n. if ltb n (height d) then numbered z else nothing) (index_at z) nothing) < height d
+lower_z : (d : Dbref) (z : ℤ) → is_nothing (option_map_or (λ n. if ltb n (height d) then dbref_numbered z else nothing) (index_at z) nothing) ≡ false
+    → height (option_map_or (λ n. if ltb n (height d) then dbref_numbered z else nothing) (index_at z) nothing) < height d
 lower_z d (pos n) h = elim (cases_Bool (ltb n (height d))) [
   | inl t ↦ rw t (ltb-true n (height d) t)
   | inr t ↦ absurd (true≢false (rw t at h))
@@ -80,14 +80,14 @@ nothing_absent : (objects : List MemObject) → object_at objects nothing ≡ No
 unfolding object_at slot_at
 nothing_absent objects = refl
 
-there_is_z : (objects : List MemObject) (z : ℤ) (o : MemObject) → object_at objects (numbered z) ≡ Some o → is_nothing (numbered z) ≡ false
+there_is_z : (objects : List MemObject) (z : ℤ) (o : MemObject) → object_at objects (dbref_numbered z) ≡ Some o → is_nothing (dbref_numbered z) ≡ false
 unfolding object_at slot_at
 there_is_z objects (pos n) o h = refl
 there_is_z objects (negsuc n) o h = absurd (cc)
 
 at_place : (objects : List MemObject) (place : Dbref) (p : Option MemObject) → object_at objects place ≡ p
     → chain (behind (above_at objects)) (if is_some (object_at objects place) then place else nothing) ≡ upward (scenery_of objects) (Some place)
-unfolding upward is_there scenery_of
+unfolding upward is_in_scenery scenery_of
 at_place objects place None q = rw q (chain_end (behind (above_at objects)) nothing refl)
 at_place objects place (Some o) q = rw q (chain_step (behind (above_at objects)) place (there_is_z objects place.0 o q))
 

@@ -2,8 +2,8 @@
 ghost use Rattle.std.specs.Prelude.{◌≡◌, ◌≤◌, ◌<◌, ◌^◌, ◌+◌, ◌==◌, length, false, slice_index};
 ghost use Rattle.std.specs.Option.{option_map_or};
 ghost use Rattle.std.specs.List.{flat_map};
-ghost use Rattle.muck_match.specs.Scenery.{things_in, place_in};
-ghost use Rattle.muck_match.specs.Exits.{first, takes, rest_behind, hit_of, hits_in, runs, hits_at, hits_on, hits, exit_for};
+ghost use Rattle.muck_match.specs.Scenery.{things_in, place_in_scenery};
+ghost use Rattle.muck_match.specs.Exits.{first_item, alias_takes, rest_behind, hit_of, hits_in, leads_to_program, hits_at, hits_on, hits, exit_for};
 
 use crate::Scene;
 use crate::sights::{is_nothing, is_program, is_thing, place_above, place_in};
@@ -27,9 +27,9 @@ fn has_space_at(line: &[u8], at: usize) -> bool
 }
 
 // Whether the alias takes the line, which may have an argument or not.
-#[tactic(auto, unfolding(crate::specs::Exits::takes))]
+#[tactic(auto, unfolding(crate::specs::Exits::alias_takes))]
 fn takes(argument: bool, line: &[u8], alias: &[u8]) -> bool
-    ensures { result ≡ takes argument line.now alias.now }
+    ensures { result ≡ alias_takes argument line.now alias.now }
 {
     is_same(alias, line)
         || (argument && (begins_with(alias, line) && has_space_at(line, alias.len())))
@@ -61,7 +61,7 @@ fn hit_of(exit: Dbref, line: &[u8], alias: &[u8], from: usize) -> ExitHit
 
 // The first alias of the name that takes the line.
 fn hit_in(exit: Dbref, argument: bool, line: &[u8], name: &[u8]) -> Option<ExitHit>
-    ensures { result ≡ first (hits_in exit argument line.now name.now) }
+    ensures { result ≡ first_item (hits_in exit argument line.now name.now) }
 {
     let mut from = 0;
     let mut more = name;
@@ -80,9 +80,9 @@ fn hit_in(exit: Dbref, argument: bool, line: &[u8], name: &[u8]) -> Option<ExitH
 }
 
 // Whether the exit leads to a program.
-#[tactic(auto, unfolding(crate::specs::Exits::runs))]
+#[tactic(auto, unfolding(crate::specs::Exits::leads_to_program))]
 fn runs<S: Scene>(scene: &S, exit: Dbref) -> bool
-    ensures { result ≡ option_map_or (runs (S.shown scene.now)) ((S.shown scene.now).sight exit) false }
+    ensures { result ≡ option_map_or (leads_to_program (S.shown scene.now)) ((S.shown scene.now).sight exit) false }
 {
     match scene.link(exit) {
         Some(link) => is_program(scene, link),
@@ -93,7 +93,7 @@ fn runs<S: Scene>(scene: &S, exit: Dbref) -> bool
 // The first alias of the exit that takes the line.
 #[tactic(auto, unfolding(crate::specs::Exits::hits_at))]
 fn hit_at<S: Scene>(scene: &S, typed: bool, line: &[u8], exit: Dbref) -> Option<ExitHit>
-    ensures { result ≡ first (hits_at (S.shown scene.now) typed line.now exit) }
+    ensures { result ≡ first_item (hits_at (S.shown scene.now) typed line.now exit) }
 {
     let argument = typed && runs(scene, exit);
     let name = scene.name(exit)?;
@@ -102,7 +102,7 @@ fn hit_at<S: Scene>(scene: &S, typed: bool, line: &[u8], exit: Dbref) -> Option<
 
 // The first of the exits on an object that takes the line.
 pub fn hit_on<S: Scene>(scene: &S, typed: bool, line: &[u8], owner: Dbref) -> Option<ExitHit>
-    ensures { result ≡ first (hits_on (S.shown scene.now) typed line.now owner) }
+    ensures { result ≡ first_item (hits_on (S.shown scene.now) typed line.now owner) }
 {
     let mut at = scene.first_exit(owner);
     while !is_nothing(at) {
@@ -116,7 +116,7 @@ pub fn hit_on<S: Scene>(scene: &S, typed: bool, line: &[u8], owner: Dbref) -> Op
 
 // The first of the exits on the things in an object that takes the line.
 fn hit_on_things<S: Scene>(scene: &S, typed: bool, line: &[u8], owner: Dbref) -> Option<ExitHit>
-    ensures { result ≡ first (flat_map (hits_on (S.shown scene.now) typed line.now) (things_in (S.shown scene.now) owner)) }
+    ensures { result ≡ first_item (flat_map (hits_on (S.shown scene.now) typed line.now) (things_in (S.shown scene.now) owner)) }
 {
     let mut at = scene.first_content(owner);
     while !is_nothing(at) {
@@ -132,7 +132,7 @@ fn hit_on_things<S: Scene>(scene: &S, typed: bool, line: &[u8], owner: Dbref) ->
 
 // The first of the exits on the places upward that takes the line.
 fn hit_above<S: Scene>(scene: &S, typed: bool, line: &[u8], place: Dbref) -> Option<ExitHit>
-    ensures { result ≡ first (flat_map (hits_on (S.shown scene.now) typed line.now) ((S.shown scene.now).places place)) }
+    ensures { result ≡ first_item (flat_map (hits_on (S.shown scene.now) typed line.now) ((S.shown scene.now).places place)) }
 {
     let mut at = place;
     while let Some(up) = place_above(scene, at) {
@@ -146,7 +146,7 @@ fn hit_above<S: Scene>(scene: &S, typed: bool, line: &[u8], place: Dbref) -> Opt
 
 /// The first exit in exit order that takes the line, where only a typed line may have an argument for a program.
 pub fn first_hit<S: Scene>(scene: &S, typed: bool, line: &[u8], player: Dbref) -> Option<ExitHit>
-    ensures { result ≡ first (hits (S.shown scene.now) typed line.now player) }
+    ensures { result ≡ first_item (hits (S.shown scene.now) typed line.now player) }
 {
     let place = place_in(scene, player);
     if let Some(hit) = hit_on(scene, typed, line, place) {
@@ -172,9 +172,9 @@ pub fn hit_besides<S: Scene>(
     carried: Option<ExitHit>,
     beside: Option<ExitHit>,
 ) -> Option<ExitHit>
-    requires carried { carried ≡ first (flat_map (hits_on (S.shown scene.now) false text.now) (things_in (S.shown scene.now) player)) }
-    requires beside { beside ≡ first (flat_map (hits_on (S.shown scene.now) false text.now) (things_in (S.shown scene.now) (place_in (S.shown scene.now) player))) }
-    ensures { result ≡ first (hits (S.shown scene.now) false text.now player) }
+    requires carried { carried ≡ first_item (flat_map (hits_on (S.shown scene.now) false text.now) (things_in (S.shown scene.now) player)) }
+    requires beside { beside ≡ first_item (flat_map (hits_on (S.shown scene.now) false text.now) (things_in (S.shown scene.now) (place_in_scenery (S.shown scene.now) player))) }
+    ensures { result ≡ first_item (hits (S.shown scene.now) false text.now player) }
 {
     let place = place_in(scene, player);
     let here = hit_on(scene, false, text, place);

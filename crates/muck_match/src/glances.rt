@@ -5,8 +5,8 @@ ghost use Rattle.std.specs.Option.{option_or, option_map};
 ghost use Rattle.std.specs.List.{filter, flat_map};
 ghost use Rattle.muck_match.specs.declared.naming.Fit.TheVariants.{Whole};
 ghost use Rattle.muck_match.specs.Scenery.{sees, is_thing};
-ghost use Rattle.muck_match.specs.Exits.{first, hits_on};
-ghost use Rattle.muck_match.specs.Naming.{chosen, joined, one_of, or_else, answers, named};
+ghost use Rattle.muck_match.specs.Exits.{first_item, hits_on};
+ghost use Rattle.muck_match.specs.Naming.{candidate_chosen, joined, one_of, found_or_else, answers_to, name_matched};
 ghost use Rattle.muck_match.specs.inner.Glances.{Sees};
 
 use crate::Scene;
@@ -26,7 +26,7 @@ pub struct Glance {
 // With one object more that may answer to the text.
 #[tactic(auto, using(crate::proofs::Looks::one_fits, crate::proofs::Looks::one_fails))]
 fn one_more<S: Scene>(scene: &S, fit: Fit, text: &[u8], found: Found, d: Dbref) -> Found
-    ensures { result ≡ joined found (chosen (filter (answers fit text.now (S.shown scene.now)) (d ∷ []))) }
+    ensures { result ≡ joined found (candidate_chosen (filter (answers_to fit text.now (S.shown scene.now)) (d ∷ []))) }
 {
     if matches!(found, Found::Many) {
         return Found::Many;
@@ -40,7 +40,7 @@ fn one_more<S: Scene>(scene: &S, fit: Fit, text: &[u8], found: Found, d: Dbref) 
 
 // Those in an object whose name equals the text. It ends where there is a second.
 fn equal_in<S: Scene>(scene: &S, text: &[u8], owner: Dbref) -> Found
-    ensures { result ≡ chosen (filter (answers Whole text.now (S.shown scene.now)) ((S.shown scene.now).contents owner)) }
+    ensures { result ≡ candidate_chosen (filter (answers_to Whole text.now (S.shown scene.now)) ((S.shown scene.now).contents owner)) }
 {
     let mut found = Found::None;
     let mut at = scene.first_content(owner);
@@ -57,7 +57,7 @@ fn equal_in<S: Scene>(scene: &S, text: &[u8], owner: Dbref) -> Found
 // With the exits on one object more, where it is a thing.
 #[tactic(auto, using(crate::proofs::Looks::thing_hits, crate::proofs::Looks::no_thing))]
 fn hit_more<S: Scene>(scene: &S, text: &[u8], hit: Option<ExitHit>, d: Dbref) -> Option<ExitHit>
-    ensures { result ≡ option_or hit (first (flat_map (hits_on (S.shown scene.now) false text.now) (filter (sees (λ s. is_thing s.kind) (S.shown scene.now)) (d ∷ [])))) }
+    ensures { result ≡ option_or hit (first_item (flat_map (hits_on (S.shown scene.now) false text.now) (filter (sees (λ s. is_thing s.kind) (S.shown scene.now)) (d ∷ [])))) }
 {
     match hit {
         Some(hit) => Some(hit),
@@ -91,7 +91,7 @@ fn look_into<S: Scene>(scene: &S, text: &[u8], owner: Dbref) -> Glance
 
 // An exit, or else parts of names.
 fn exit_or_part(hit: Option<ExitHit>, part: Found) -> Found
-    ensures { result ≡ or_else (one_of (option_map (λ h. h.exit) hit)) part }
+    ensures { result ≡ found_or_else (one_of (option_map (λ h. h.exit) hit)) part }
 {
     match hit {
         Some(hit) => Found::One(hit.exit),
@@ -101,7 +101,7 @@ fn exit_or_part(hit: Option<ExitHit>, part: Found) -> Found
 
 /// What the text names by a name: equal names of objects come first, then exits, then parts of names of objects.
 pub fn named<S: Scene>(scene: &S, text: &[u8], player: Dbref) -> Found
-    ensures { result ≡ named (S.shown scene.now) player text.now }
+    ensures { result ≡ name_matched (S.shown scene.now) player text.now }
 {
     let carried = equal_in(scene, text, player);
     if matches!(carried, Found::Many) {

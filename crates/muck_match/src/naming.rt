@@ -1,9 +1,9 @@
 // What a text names.
 ghost use Rattle.std.specs.Prelude.{◌≡◌, ◌<◌, ◌^◌, pos};
 ghost use Rattle.std.specs.Option.{option_copied};
-ghost use Rattle.muck_model.specs.Numbers.{numbered};
+ghost use Rattle.muck_model.specs.Numbers.{dbref_numbered};
 ghost use Rattle.muck_match.specs.inner.Listed.{AreListed};
-ghost use Rattle.muck_match.specs.Naming.{joined, one_of, is_nobody, answers, fits, is_player_named, player_named, if_there, starred, found_by_sign, found};
+ghost use Rattle.muck_match.specs.Naming.{joined, one_of, is_nobody, answers_to, name_fits, is_player_named, player_named, if_there, starred, found_by_sign, thing_found};
 
 use crate::glances::named;
 use crate::sights::{is_player, is_there, place_in};
@@ -30,9 +30,9 @@ pub enum Found {
 }
 
 // Whether a name answers to the text.
-#[tactic(auto, unfolding(crate::specs::Naming::fits))]
+#[tactic(auto, unfolding(crate::specs::Naming::name_fits))]
 fn fits(fit: Fit, text: &[u8], name: &[u8]) -> bool
-    ensures { result ≡ fits fit text.now name.now }
+    ensures { result ≡ name_fits fit text.now name.now }
 {
     match fit {
         Fit::Whole => is_same(text, name),
@@ -41,9 +41,9 @@ fn fits(fit: Fit, text: &[u8], name: &[u8]) -> bool
 }
 
 // Whether the object answers to the text.
-#[tactic(auto, unfolding(crate::specs::Naming::answers))]
+#[tactic(auto, unfolding(crate::specs::Naming::answers_to))]
 pub fn answers<S: Scene>(scene: &S, fit: Fit, text: &[u8], d: Dbref) -> bool
-    ensures { result ≡ answers fit text.now (S.shown scene.now) d }
+    ensures { result ≡ answers_to fit text.now (S.shown scene.now) d }
 {
     match scene.name(d) {
         Some(name) => fits(fit, text, name.as_slice()),
@@ -92,7 +92,7 @@ fn is_player_named<S: Scene>(scene: &S, name: &[u8], d: Dbref) -> bool
 // The number as that of an object.
 fn numbered(n: u32) -> Dbref
     requires { n < 2 ^ 31 }
-    ensures { result ≡ numbered (pos n) }
+    ensures { result ≡ dbref_numbered (pos n) }
 {
     Dbref(n as i32)
 }
@@ -168,9 +168,9 @@ fn found_by_sign<S: Scene>(scene: &S, player: Dbref, text: &[u8]) -> Found
 /// exit order. Equal names of objects come first, where several are `Many`; then an exit with an equal alias, of which
 /// the first in exit order stands; then objects other than exits of which some word of the name begins with the text.
 /// Only home is found without being there. It takes no memory.
-#[tactic(auto, unfolding(crate::specs::Naming::found))]
+#[tactic(auto, unfolding(crate::specs::Naming::thing_found))]
 pub fn find<S: Scene>(scene: &S, player: Dbref, text: &Line) -> Found
-    ensures { result ≡ found (S.shown scene.now) player text.now }
+    ensures { result ≡ thing_found (S.shown scene.now) player text.now }
 {
     let bytes = text.as_slice();
     if is_same(bytes, b"me") {
@@ -196,7 +196,7 @@ fn behind_star(text: &[u8]) -> Option<&[u8]>
 /// What the text names for the player, as `find` finds it, where each player is among these numbers: for `*player` it looks at them alone.
 pub fn find_among<S: Scene>(scene: &S, numbers: &[u32], player: Dbref, text: &Line) -> Found
     requires { AreListed (S.shown scene.now) numbers.now }
-    ensures { result ≡ found (S.shown scene.now) player text.now }
+    ensures { result ≡ thing_found (S.shown scene.now) player text.now }
 {
     match behind_star(text.as_slice()) {
         Some(name) => one_of(player_among(scene, numbers, name)),

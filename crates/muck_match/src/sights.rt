@@ -1,7 +1,7 @@
 // Questions about one object of a scene.
 ghost use Rattle.std.specs.Prelude.{◌≡◌, []};
 ghost use Rattle.std.specs.Prelude.{◌∷◌, MatchOption};
-ghost use Rattle.muck_match.specs.Scenery.{is_nothing, is_there, is_thing, is_player, is_program, sees, place_in};
+ghost use Rattle.muck_match.specs.Scenery.{is_nothing, is_in_scenery, is_thing, is_player, is_program, sees, place_in_scenery};
 
 use crate::{NOTHING, Scene};
 use muck_model::{Dbref, Kind};
@@ -14,9 +14,9 @@ pub fn is_nothing(d: Dbref) -> bool
 }
 
 /// Whether it is there.
-#[tactic(auto, unfolding(crate::specs::Scenery::is_there))]
+#[tactic(auto, unfolding(crate::specs::Scenery::is_in_scenery))]
 pub fn is_there<S: Scene>(scene: &S, d: Dbref) -> bool
-    ensures { result ≡ is_there (S.shown scene.now) d }
+    ensures { result ≡ is_in_scenery (S.shown scene.now) d }
 {
     scene.kind(d).is_some()
 }
@@ -43,9 +43,9 @@ pub fn is_program<S: Scene>(scene: &S, d: Dbref) -> bool
 }
 
 /// Its place, `#-1` where it isn't there.
-#[tactic(auto, unfolding(crate::specs::Scenery::place_in))]
+#[tactic(auto, unfolding(crate::specs::Scenery::place_in_scenery))]
 pub fn place_in<S: Scene>(scene: &S, d: Dbref) -> Dbref
-    ensures { result ≡ place_in (S.shown scene.now) d }
+    ensures { result ≡ place_in_scenery (S.shown scene.now) d }
 {
     scene.place(d).unwrap_or(NOTHING)
 }

@@ -1,6 +1,6 @@
 // Names, and the words and aliases in them.
 ghost use Rattle.std.specs.Prelude.{◌≡◌};
-ghost use Rattle.muck_match.specs.Words.{is_same, begins_with, has_word};
+ghost use Rattle.muck_match.specs.Words.{is_same, begins_alike, has_word};
 
 /// Whether the texts are equal, without regard to case.
 #[tactic(auto, unfolding(crate::specs::Words::is_same))]
@@ -11,9 +11,9 @@ pub fn is_same(a: &[u8], b: &[u8]) -> bool
 }
 
 /// Whether the text begins with this, without regard to case.
-#[tactic(auto, unfolding(crate::specs::Words::begins_with))]
+#[tactic(auto, unfolding(crate::specs::Words::begins_alike))]
 pub fn begins_with(front: &[u8], text: &[u8]) -> bool
-    ensures { result ≡ begins_with front.now text.now }
+    ensures { result ≡ begins_alike front.now text.now }
 {
     if text.len() < front.len() {
         return false;

@@ -5,12 +5,14 @@ use Rattle.std.proofs.lemmas.List.Elements.{All-head, All-tail}
 use Rattle.std.proofs.lemmas.Option.{same_Some}
 use Rattle.std.proofs.Common.{eqb, ltb}
 use Rattle.std.proofs.lemmas.Bool.{eqb-true, eqb-false, ltb-true, ltb-false}
+use Rattle.muck_laws.proofs.Places.{within}
+use Rattle.muck_laws.proofs.Truths.{none}
 use Rattle.muck_log.specs.World.{start}
-use Rattle.muck_mirror.specs.Mirrors.{Mirror, made, fed}
-use Rattle.muck_mirror.specs.Fronts.{AreBatches, AllOneOf, Call, HoldsFront, Holds, IsOneOf, IsTaken, WasFed, after_calls, front_world, is_full, left_by}
+use Rattle.muck_mirror.specs.Mirrors.{Mirror, mirror_made, fed}
+use Rattle.muck_mirror.specs.Fronts.{AreBatches, AllOneOf, Call, HoldsFront, Holds, IsOneOf, IsTaken, WasFed, after_calls, front_world, is_full_answer, mirror_after_call}
 use Rattle.muck_mirror.proofs.Numbers.{num_zero}
 use Rattle.muck_mirror.proofs.Indices.{Has, Rising, Comes, put, cont, cont_comes, put_rising, put_only, put_has, has_put, rising_has}
-use Rattle.muck_mirror.proofs.Batches.{same_place, within}
+use Rattle.muck_mirror.proofs.Batches.{same_place}
 use Rattle.muck_mirror.proofs.Steps.{mirror_at, Outcome, knows, is_filled, keeps, applies, fed_at}
 
 -- A mirror that holds the first j batches and keeps those of these places, where so many were taken.
@@ -41,9 +43,6 @@ order k j = by (ltb k j) (eqb k j) refl refl
     by true b e f = inl (ltb-true k j e)
     by false true e f = inr (inl (eqb-true k j f))
     by false false e f = inr (inr (omega (arith, ltb-false k j e, eqb-false k j f)))
-
-none : {A : Type 0} {b : Bool} → b ≡ false → b ≡ true → A
-none a b = cc
 
 module _ (g first : ℕ) (bodies : List (List ℕ)) (small : first < 2 ^ 64) (few : length bodies ≤ 2 ^ 63) (are : AreBatches g first start bodies) where
   abbrev Now : Mirror → ℕ → List ℕ → (ℕ → Type 0) → Type 0
@@ -112,7 +111,7 @@ module _ (g first : ℕ) (bodies : List (List ℕ)) (small : first < 2 ^ 64) (fe
       all_of k (inr q) = inl (omega (arith, only k q, at, comes.later))
 
   -- one call
-  after_one : (m : Mirror) (j i : ℕ) (is : List ℕ) (P : ℕ → Type 0) (c : Call) → slice_get bodies i ≡ Some c.bytes → Now m j is P → Leads g first bodies (left_by c m) (λ k. P k ⊎ TakenAt bodies m c k)
+  after_one : (m : Mirror) (j i : ℕ) (is : List ℕ) (P : ℕ → Type 0) (c : Call) → slice_get bodies i ≡ Some c.bytes → Now m j is P → Leads g first bodies (mirror_after_call c m) (λ k. P k ⊎ TakenAt bodies m c k)
   after_one m j i is P c there inv = by c.refused refl
     where
       only : (k : ℕ) → TakenAt bodies m c k → k ≡ i
@@ -125,30 +124,30 @@ module _ (g first : ℕ) (bodies : List (List ℕ)) (small : first < 2 ^ 64) (fe
       known k (inl lt) t = inl (omega (arith, only k t, lt))
       known k (inr has) t = inr (subst (λ n. Has n is) (sym (only k t)) has)
 
-      full : (k : ℕ) → is_full (fed m c.bytes).0 ≡ true → TakenAt bodies m c k → (k < j) ⊎ Has k is
+      full : (k : ℕ) → is_full_answer (fed m c.bytes).0 ≡ true → TakenAt bodies m c k → (k < j) ⊎ Has k is
       full k so t = none t.0.1 so
 
-      left : c.refused ≡ false → left_by c m ≡ (fed m c.bytes).1
+      left : c.refused ≡ false → mirror_after_call c m ≡ (fed m c.bytes).1
       left went = ap (λ r. elim r as (λ _. Mirror) [ true ↦ m | false ↦ (fed m c.bytes).1 ]) went
 
       il : i < length bodies
       il = within bodies i c.bytes there
 
-      ends : c.refused ≡ false → Outcome g first bodies j is i (fed m c.bytes) → Leads g first bodies (left_by c m) (λ k. P k ⊎ TakenAt bodies m c k)
-      ends went (knows at old) = record { j = j; places = is; inv = stays m j is P (TakenAt bodies m c) (left_by c m) (left went ∙ at) inv (λ k. known k old) }
-      ends went (is_filled at so) = record { j = j; places = is; inv = stays m j is P (TakenAt bodies m c) (left_by c m) (left went ∙ at) inv (λ k. full k so) }
-      ends went (keeps at open_ lt new) = record { j = j; places = put i is; inv = one_kept m j i is P (TakenAt bodies m c) (left_by c m) (left went ∙ at) lt il new inv ((went, open_), there) only }
+      ends : c.refused ≡ false → Outcome g first bodies j is i (fed m c.bytes) → Leads g first bodies (mirror_after_call c m) (λ k. P k ⊎ TakenAt bodies m c k)
+      ends went (knows at old) = record { j = j; places = is; inv = stays m j is P (TakenAt bodies m c) (mirror_after_call c m) (left went ∙ at) inv (λ k. known k old) }
+      ends went (is_filled at so) = record { j = j; places = is; inv = stays m j is P (TakenAt bodies m c) (mirror_after_call c m) (left went ∙ at) inv (λ k. full k so) }
+      ends went (keeps at open_ lt new) = record { j = j; places = put i is; inv = one_kept m j i is P (TakenAt bodies m c) (mirror_after_call c m) (left went ∙ at) lt il new inv ((went, open_), there) only }
       ends went (applies at open_ is_j) = record {
         j = (cont (suc j) is).0;
         places = (cont (suc j) is).1;
-        inv = some_laid m j i is P (TakenAt bodies m c) (left_by c m) (left went ∙ at) is_j il inv ((went, open_), there) only (cont_comes (suc j) (length bodies) is (omega (arith, il, is_j)) inv.rises);
+        inv = some_laid m j i is P (TakenAt bodies m c) (mirror_after_call c m) (left went ∙ at) is_j il inv ((went, open_), there) only (cont_comes (suc j) (length bodies) is (omega (arith, il, is_j)) inv.rises);
       }
 
-      by : (b : Bool) → c.refused ≡ b → Leads g first bodies (left_by c m) (λ k. P k ⊎ TakenAt bodies m c k)
+      by : (b : Bool) → c.refused ≡ b → Leads g first bodies (mirror_after_call c m) (λ k. P k ⊎ TakenAt bodies m c k)
       by true so = record {
         j = j;
         places = is;
-        inv = stays m j is P (TakenAt bodies m c) (left_by c m) (ap (λ r. elim r as (λ _. Mirror) [ true ↦ m | false ↦ (fed m c.bytes).1 ]) so ∙ inv.shape) inv (λ k t. none t.0.0 so);
+        inv = stays m j is P (TakenAt bodies m c) (mirror_after_call c m) (ap (λ r. elim r as (λ _. Mirror) [ true ↦ m | false ↦ (fed m c.bytes).1 ]) so ∙ inv.shape) inv (λ k t. none t.0.0 so);
       }
       by false went = ends went (subst (Outcome g first bodies j is i) (sym same) (fed_at g first bodies small few are j i is c.bytes inv.count inv.rises there))
 
@@ -177,23 +176,23 @@ module _ (g first : ℕ) (bodies : List (List ℕ)) (small : first < 2 ^ 64) (fe
   after_all (c ∷ calls) m P ones l =
       let one : IsOneOf bodies c.bytes = All-head (λ (c : Call). IsOneOf bodies c.bytes) c calls ones in
       let next = after_one m l.j one.0 l.places P c one.1 l.inv in
-      renamed (after_calls calls (left_by c m)) _ (λ k. P k ⊎ FedAt bodies (c ∷ calls) m k) (after_all calls (left_by c m) (λ k. P k ⊎ TakenAt bodies m c k) (All-tail (λ (c : Call). IsOneOf bodies c.bytes) c calls ones) next) to from
+      renamed (after_calls calls (mirror_after_call c m)) _ (λ k. P k ⊎ FedAt bodies (c ∷ calls) m k) (after_all calls (mirror_after_call c m) (λ k. P k ⊎ TakenAt bodies m c k) (All-tail (λ (c : Call). IsOneOf bodies c.bytes) c calls ones) next) to from
     where
-      to : (k : ℕ) → (P k ⊎ TakenAt bodies m c k) ⊎ FedAt bodies calls (left_by c m) k → P k ⊎ FedAt bodies (c ∷ calls) m k
+      to : (k : ℕ) → (P k ⊎ TakenAt bodies m c k) ⊎ FedAt bodies calls (mirror_after_call c m) k → P k ⊎ FedAt bodies (c ∷ calls) m k
       to k (inl (inl p)) = inl p
       to k (inl (inr t)) = inr (c.bytes, t.1, inl (t.0, refl))
       to k (inr f) = inr (f.0, f.1, inr f.2)
 
-      split : (k : ℕ) (bytes : List ℕ) → slice_get bodies k ≡ Some bytes → WasFed (c ∷ calls) m bytes → (P k ⊎ TakenAt bodies m c k) ⊎ FedAt bodies calls (left_by c m) k
+      split : (k : ℕ) (bytes : List ℕ) → slice_get bodies k ≡ Some bytes → WasFed (c ∷ calls) m bytes → (P k ⊎ TakenAt bodies m c k) ⊎ FedAt bodies calls (mirror_after_call c m) k
       split k bytes at (inl t) = inl (inr (t.0, at ∙ ap Some (sym t.1)))
       split k bytes at (inr f) = inr (bytes, at, f)
 
-      from : (k : ℕ) → P k ⊎ FedAt bodies (c ∷ calls) m k → (P k ⊎ TakenAt bodies m c k) ⊎ FedAt bodies calls (left_by c m) k
+      from : (k : ℕ) → P k ⊎ FedAt bodies (c ∷ calls) m k → (P k ⊎ TakenAt bodies m c k) ⊎ FedAt bodies calls (mirror_after_call c m) k
       from k (inl p) = inl (inl p)
       from k (inr f) = split k f.0 f.1 f.2
 
-  at_first : Leads g first bodies (made g first) (λ k. ⊥)
-  unfolding made front_world
+  at_first : Leads g first bodies (mirror_made g first) (λ k. ⊥)
+  unfolding mirror_made front_world
   at_first = record {
     j = 0;
     places = [];
@@ -218,12 +217,12 @@ module _ (g first : ℕ) (bodies : List (List ℕ)) (small : first < 2 ^ 64) (fe
     },
   )
     where
-      l : Leads g first bodies (after_calls calls (made g first)) (λ k. ⊥ ⊎ FedAt bodies calls (made g first) k)
-      l = after_all calls (made g first) (λ k. ⊥) ones at_first
+      l : Leads g first bodies (after_calls calls (mirror_made g first)) (λ k. ⊥ ⊎ FedAt bodies calls (mirror_made g first) k)
+      l = after_all calls (mirror_made g first) (λ k. ⊥) ones at_first
 
-      was : (i : ℕ) (bytes : List ℕ) → slice_get bodies i ≡ Some bytes → ⊥ ⊎ FedAt bodies calls (made g first) i → WasFed calls (made g first) bytes
+      was : (i : ℕ) (bytes : List ℕ) → slice_get bodies i ≡ Some bytes → ⊥ ⊎ FedAt bodies calls (mirror_made g first) i → WasFed calls (mirror_made g first) bytes
       was i bytes at (inl none) = absurd none
-      was i bytes at (inr f) = subst (WasFed calls (made g first)) (same_Some f.0 bytes (sym f.1 ∙ at)) f.2
+      was i bytes at (inr f) = subst (WasFed calls (mirror_made g first)) (same_Some f.0 bytes (sym f.1 ∙ at)) f.2
 
       past : (l.j < l.j) ⊎ Has l.j l.places → ⊥
       past (inl lt) = omega (arith, lt)

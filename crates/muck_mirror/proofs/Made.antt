@@ -6,29 +6,29 @@ use Rattle.muck_model.specs.declared.tune.Tune.{Tune}
 use Rattle.muck_codec.specs.inner.Stored.{IsStored}
 use Rattle.muck_codec.specs.declared.stored.Stored.{Stored}
 use Rattle.muck_codec.specs.declared.stored.Batch.{Batch}
-use Rattle.muck_log.specs.World.{World, IsFine, is_fine, judged_world, laid_over, all_placed}
+use Rattle.muck_log.specs.World.{StoredWorld, IsFine, is_fine, judged_world, laid_over, all_placed}
 use Rattle.muck_mirror.specs.Laying.{IsSound}
 use Rattle.muck_mirror.specs.declared.world.Replaced.{Replaced}
 use Rattle.muck_mirror.specs.inner.Undoing.{AreLaid, undone}
 
-abbrev held : List Stored → Tune → World
+abbrev held : List Stored → Tune → StoredWorld
 held objects tune = record { objects = objects; tune = tune }
 
-pub made : (yes : Bool) (b : Batch) (old now : List Stored) (tune : Tune) (w : World) → yes ≡ true → AreLaid yes b old now → held old tune ≡ w → laid_over b w ≡ Some (held now b.tune)
+pub made : (yes : Bool) (b : Batch) (old now : List Stored) (tune : Tune) (w : StoredWorld) → yes ≡ true → AreLaid yes b old now → held old tune ≡ w → laid_over b w ≡ Some (held now b.tune)
 unfolding laid_over
 made true b old now tune w e laid is = ap (laid_over b) (sym is) ∙ laid
 made false b old now tune w e laid is = absurd cc
 
-pub never_made : (yes : Bool) (b : Batch) (old now : List Stored) (tune : Tune) (w : World) → yes ≡ false → AreLaid yes b old now → held old tune ≡ w → laid_over b w ≡ None
+pub never_made : (yes : Bool) (b : Batch) (old now : List Stored) (tune : Tune) (w : StoredWorld) → yes ≡ false → AreLaid yes b old now → held old tune ≡ w → laid_over b w ≡ None
 unfolding laid_over
 never_made false b old now tune w e laid is = ap (laid_over b) (sym is) ∙ laid
 never_made true b old now tune w e laid is = absurd cc
 
 -- what was made can be undone
-pub unmade : (count : ℕ) (old now : List Stored) (rs : List Replaced) (tune : Tune) (w : World) → count ≡ length old → undone (length old) rs now ≡ old → held old tune ≡ w → held (undone count rs now) tune ≡ w
+pub unmade : (count : ℕ) (old now : List Stored) (rs : List Replaced) (tune : Tune) (w : StoredWorld) → count ≡ length old → undone (length old) rs now ≡ old → held old tune ≡ w → held (undone count rs now) tune ≡ w
 unmade count old now rs tune w n back is = ap (λ o. held o tune) (ap (λ m. undone m rs now) n ∙ back) ∙ is
 
-judged_fine : (tune : Tune) (o : Option (List Stored)) (v : World) → option_and_then (judged_world tune) o ≡ Some v → IsFine v
+judged_fine : (tune : Tune) (o : Option (List Stored)) (v : StoredWorld) → option_and_then (judged_world tune) o ≡ Some v → IsFine v
 judged_fine tune None v e = absurd (none-some v e)
 judged_fine tune (Some l) v e = by (is_fine l tune) refl e
   where
@@ -42,5 +42,5 @@ sound_made true b old now e laid stored = record { fine = judged_fine b.tune (al
 sound_made false b old now e laid stored = absurd cc
 
 -- the same of what is there by another name
-pub moved : (now then_ : List Stored) (tune : Tune) (w : World) → now ≡ then_ → held then_ tune ≡ w → held now tune ≡ w
+pub moved : (now then_ : List Stored) (tune : Tune) (w : StoredWorld) → now ≡ then_ → held then_ tune ≡ w → held now tune ≡ w
 moved now then_ tune w is held_is = ap (λ o. held o tune) is ∙ held_is

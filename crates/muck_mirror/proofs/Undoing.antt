@@ -1,31 +1,11 @@
 -- Records that are put back.
-use Rattle.std.proofs.Common.{◌≡◌, ◌⊎◌, inl, inr, ℕ, zero, suc, ◌<◌, ◌≤◌, List, [], ◌∷◌, ◌++◌, length, take, get_or, refl, sym, ◌∙◌, ap, arith, length-take}
+use Rattle.std.proofs.Common.{◌≡◌, ℕ, ◌≤◌, List, [], ◌∷◌, ◌++◌, length, take, get_or, refl, sym, ◌∙◌, ap, arith}
 use Rattle.std.specs.Prelude.{slice_set}
-use Rattle.std.proofs.lemmas.Bool.{cases_lt}
-use Rattle.std.proofs.lemmas.List.{take-set-le, set-get_or, set_past, take-append-le, take_all}
-use Rattle.std.proofs.Math.Seq.{take-set-lt}
+use Rattle.std.proofs.lemmas.List.{set_past, take-append-le, take_all}
+use Rattle.muck_laws.proofs.Places.{restored}
 use Rattle.muck_codec.specs.declared.stored.Stored.{Stored}
 use Rattle.muck_mirror.specs.declared.world.Replaced.{Replaced}
 use Rattle.muck_mirror.specs.inner.Undoing.{put_back, undone}
-
-set_again : {X : Type 0} (xs : List X) (i : ℕ) (x y : X) → slice_set (slice_set xs i x) i y ≡ slice_set xs i y
-set_again [] i x y = refl
-set_again (z ∷ xs) zero x y = refl
-set_again (z ∷ xs) (suc i) x y = ap (λ l. z ∷ l) (set_again xs i x y)
-
--- what was replaced stands in its place again
-restored : {X : Type 0} (xs : List X) (count at : ℕ) (x y : X) → y ≡ get_or xs at y → slice_set (take count (slice_set xs at x)) at y ≡ take count xs
-restored xs count at x y is = by (cases_lt at count)
-  where
-    by : (at < count) ⊎ (count ≤ at) → slice_set (take count (slice_set xs at x)) at y ≡ take count xs
-    by (inl lt) =
-        ap (λ l. slice_set l at y) (take-set-lt count xs at x lt) ∙ set_again (take count xs) at x y ∙ sym (take-set-lt count xs at y lt)
-        ∙ ap (take count) (ap (slice_set xs at) is ∙ set-get_or xs at y)
-    by (inr ge) = ap (λ l. slice_set l at y) (take-set-le count xs at x ge) ∙ set_past (take count xs) at y (omega (arith, length-take count xs, ge))
-
--- a record is put back that was just replaced
-pub same_again : {X : Type 0} (xs now : List X) (at : ℕ) (x y : X) → y ≡ get_or xs at y → now ≡ slice_set xs at x → slice_set now at y ≡ xs
-same_again xs now at x y is set = ap (λ l. slice_set l at y) set ∙ set_again xs at x y ∙ ap (slice_set xs at) is ∙ set-get_or xs at y
 
 -- one more record was put aside
 pub put_back_push : (rs : List Replaced) (r : Replaced) (objects : List Stored) → put_back (rs ++ r ∷ []) objects ≡ put_back rs (slice_set objects r.at r.was)

@@ -20,26 +20,26 @@ pub record Head : Type 0 where
   pub version : ℕ
   pub number : ℕ
 
-unfoldable pub head_at : ℕ → List ℕ → Result (Head × List ℕ) ℕ
-head_at generation bytes =
+unfoldable pub body_head_at : ℕ → List ℕ → Result (Head × List ℕ) ℕ
+body_head_at generation bytes =
     literal_at (codes "MUCK") bytes >>= λ rest. version_at rest >>= λ v. literal_at (to_be_bytes w64 generation) v.1
     >>= λ tail. number_at w64 tail >>= λ n. Ok (record { version = v.0; number = n.0 }, n.1)
 
 -- a body that was read: its version, its number and the bytes of its batch
-pub record Body : Type 0 where
+pub record FedBody : Type 0 where
   pub version : ℕ
   pub number : ℕ
   pub payload : List ℕ
 
 -- where reading fails, the place of the first byte that nothing continues, from the front of all bytes, of which so many stand before
 -- these
-abbrev pub placed : {A : Type 0} → ℕ → List ℕ → Result A ℕ → Result A ℕ
-placed before bytes (Ok x) = Ok x
-placed before bytes (Err left) = Err (before + (length bytes - left))
+abbrev pub fault_placed : {A : Type 0} → ℕ → List ℕ → Result A ℕ → Result A ℕ
+fault_placed before bytes (Ok x) = Ok x
+fault_placed before bytes (Err left) = Err (before + (length bytes - left))
 
 -- bytes that are a body of this generation to their end, or the place of the first byte that no such body continues
-unfoldable pub body_in : ℕ → List ℕ → Result Body ℕ
-body_in generation bytes =
-    placed 0 bytes (head_at generation bytes)
-    >>= λ h. placed (length bytes - length h.1) h.1 (whole_batch h.0.version h.1)
+unfoldable pub fed_body_in : ℕ → List ℕ → Result FedBody ℕ
+fed_body_in generation bytes =
+    fault_placed 0 bytes (body_head_at generation bytes)
+    >>= λ h. fault_placed (length bytes - length h.1) h.1 (whole_batch h.0.version h.1)
     >>= λ b. Ok (record { version = h.0.version; number = h.0.number; payload = h.1 })

@@ -2,7 +2,7 @@
 ghost use Rattle.std.specs.Prelude.{◌≡◌, IfOk};
 ghost use Rattle.std.specs.Int.{w64};
 ghost use Rattle.muck_codec.specs.Reading.{number_at};
-ghost use Rattle.muck_mirror.specs.Bodies.{literal_at, version_at, head_at};
+ghost use Rattle.muck_mirror.specs.Bodies.{literal_at, version_at, body_head_at};
 ghost use Rattle.muck_mirror.specs.inner.Heading.{Gives, seen};
 
 /// Version and number of a body.
@@ -56,9 +56,9 @@ fn number_at(bytes: &[u8]) -> Result<(u64, &[u8]), usize>
 }
 
 /// The head of a body of this generation, and the bytes behind it; or how many are left from the first on that no body continues.
-#[tactic(auto, unfolding(crate::specs::Bodies::head_at))]
+#[tactic(auto, unfolding(crate::specs::Bodies::body_head_at))]
 pub(crate) fn head_at(generation: u64, bytes: &[u8]) -> Result<(Head, &[u8]), usize>
-    ensures reads { Gives (λ x. (seen x.0, x.1.now)) result (head_at generation bytes.now) }
+    ensures reads { Gives (λ x. (seen x.0, x.1.now)) result (body_head_at generation bytes.now) }
     ensures one { IfOk result (λ x. x.0.version ≡ 1) }
 {
     let rest = literal_at(b"MUCK", bytes)?;

@@ -1,8 +1,8 @@
 // Feeding a mirror.
 ghost use Rattle.std.specs.Prelude.{◌≡◌, ◌≤◌, length, drop, IfOk, OnOk, OnErr};
 ghost use Rattle.muck_mirror.specs.Laying.{IsSound, laid_in};
-ghost use Rattle.muck_mirror.specs.Bodies.{body_in};
-ghost use Rattle.muck_mirror.specs.Mirrors.{ahead, is_kept, kept_with, followed, fed, next_fed};
+ghost use Rattle.muck_mirror.specs.Bodies.{fed_body_in};
+ghost use Rattle.muck_mirror.specs.Mirrors.{ahead, is_body_kept, bodies_kept_with, bodies_followed, fed, next_fed};
 ghost use Rattle.muck_mirror.specs.inner.Feeding.{IsBodyRead, ComesTo, IsPlace};
 
 use crate::World;
@@ -21,9 +21,9 @@ enum Reading<'a> {
     Strange(usize),
 }
 
-#[tactic(auto, unfolding(crate::specs::Bodies::body_in))]
+#[tactic(auto, unfolding(crate::specs::Bodies::fed_body_in))]
 fn read_body<'a>(alloc: Global, generation: u64, bytes: &'a [u8]) -> Result<Reading<'a>, NoMemory>
-    ensures { IfOk result (λ read. IsBodyRead read (body_in generation bytes.now)) }
+    ensures { IfOk result (λ read. IsBodyRead read (fed_body_in generation bytes.now)) }
 {
     let (head, rest) = match head_at(generation, bytes) {
         Ok(found) => found,
@@ -45,7 +45,7 @@ fn ahead(next: u64, number: u64) -> u64
 }
 
 fn is_kept(number: u64, kept: &[Waiting]) -> bool
-    ensures { result ≡ is_kept number kept.now }
+    ensures { result ≡ is_body_kept number kept.now }
 {
     kept.iter().any(|k| k.number == number)
 }
@@ -58,10 +58,10 @@ pub struct Come {
 }
 
 // Lays kept bodies that follow over a world, as long as they are next. Where memory is wanted it is as it was.
-#[tactic(auto, unfolding(crate::specs::Mirrors::followed, muck_log::specs::File::after_number))]
+#[tactic(auto, unfolding(crate::specs::Mirrors::bodies_followed, muck_log::specs::File::after_number))]
 fn follow(world: &mut World, kept: &[Waiting], next: u64) -> Result<Come, NoMemory>
     requires sound { IsSound world.old }
-    ensures come { IfOk result (λ c. ComesTo c kept.now (followed kept.now next world.old) world.new) }
+    ensures come { IfOk result (λ c. ComesTo c kept.now (bodies_followed kept.now next world.old) world.new) }
     ensures unchanged { OnErr result (world.new ≡ world.old) }
     ensures sound { OnOk result (IsSound world.new) }
 {
@@ -167,7 +167,7 @@ impl Mirror {
 
     // One that is ahead.
     fn keep(&mut self, number: u64, payload: &[u8]) -> Result<(), NoMemory>
-        ensures kept { OnOk result (self.new ≡ record self.old { kept = kept_with self.old.next (record { version = 1; number = number; payload = payload.now }) self.old.kept }) }
+        ensures kept { OnOk result (self.new ≡ record self.old { kept = bodies_kept_with self.old.next (record { version = 1; number = number; payload = payload.now }) self.old.kept }) }
         ensures unchanged { OnErr result (self.new ≡ self.old) }
     {
         let payload = Vec::from_slice(self.alloc, payload)?;

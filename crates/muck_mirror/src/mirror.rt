@@ -1,7 +1,7 @@
 // A mirror, as it stands.
 ghost use Rattle.std.specs.Prelude.{◌≡◌, IfOk};
 ghost use Rattle.muck_mirror.specs.Laying.{IsSound};
-ghost use Rattle.muck_mirror.specs.Mirrors.{made};
+ghost use Rattle.muck_mirror.specs.Mirrors.{mirror_made};
 
 use crate::World;
 use muck_model::NoMemory;
@@ -31,9 +31,9 @@ pub struct Waiting {
 }
 
 impl Model for Waiting {
-    ghost use Rattle.muck_mirror.specs.Bodies.{Body};
+    ghost use Rattle.muck_mirror.specs.Bodies.{FedBody};
 
-    ghost Value = { Body };
+    ghost Value = { FedBody };
 
     ghost view = { λ b. record { version = 1; number = b.number; payload = b.payload.items } };
 }
@@ -61,9 +61,9 @@ impl Model for Mirror {
 
 impl Mirror {
     /// A mirror of the batches of this generation, from this number on, which holds the starting world.
-    #[tactic(auto, unfolding(crate::specs::Mirrors::made))]
+    #[tactic(auto, unfolding(crate::specs::Mirrors::mirror_made))]
     pub fn new(alloc: Global, generation: u64, first: u64) -> Result<Mirror, NoMemory>
-        ensures { IfOk result (λ m. m ≡ made generation first) }
+        ensures { IfOk result (λ m. m ≡ mirror_made generation first) }
     {
         Ok(Mirror {
             alloc,

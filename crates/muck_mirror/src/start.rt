@@ -1,17 +1,17 @@
 // The starting world.
 ghost use Rattle.std.specs.Prelude.{◌≡◌, None, IfOk};
 ghost use Rattle.muck_model.specs.Bytes.{text_fault};
-ghost use Rattle.muck_log.specs.World.{room_zero, first_digest, player_one, first_tune};
+ghost use Rattle.muck_log.specs.World.{stored_room_zero, first_digest, stored_player_one};
 
 use muck_codec::Stored;
-use muck_model::{Dbref, Flags, Kind, Line, LineList, NoMemory, Row, Tune};
+use muck_model::{Dbref, Flags, Kind, Line, LineList, NoMemory, Row};
 use spec_live::WIZARD;
 use std::alloc::Global;
 
 // Room Zero, below which all rooms are.
-#[tactic(auto, unfolding(muck_log::specs::World::room_zero))]
+#[tactic(auto, unfolding(muck_log::specs::World::stored_room_zero))]
 pub fn room_zero(alloc: Global) -> Result<Stored, NoMemory>
-    ensures { IfOk result (λ o. o ≡ room_zero) }
+    ensures { IfOk result (λ o. o ≡ stored_room_zero) }
 {
     Ok(Stored {
         dbref: Dbref(0),
@@ -44,9 +44,9 @@ fn first_digest(alloc: Global) -> Result<Line, NoMemory>
 }
 
 // One, who is a wizard.
-#[tactic(auto, unfolding(muck_log::specs::World::player_one))]
+#[tactic(auto, unfolding(muck_log::specs::World::stored_player_one))]
 pub fn player_one(alloc: Global) -> Result<Stored, NoMemory>
-    ensures { IfOk result (λ o. o ≡ player_one) }
+    ensures { IfOk result (λ o. o ≡ stored_player_one) }
 {
     Ok(Stored {
         dbref: Dbref(1),
@@ -65,20 +65,4 @@ pub fn player_one(alloc: Global) -> Result<Stored, NoMemory>
         lines: LineList::new(alloc)?,
         digest: first_digest(alloc)?,
     })
-}
-
-#[tactic(auto, unfolding(muck_log::specs::World::first_tune))]
-pub fn first_tune() -> Tune
-    ensures { result ≡ first_tune }
-{
-    Tune {
-        instr_slice: 2_000,
-        preempt_units: 20_000,
-        m1_units: 20_000,
-        m2_units: 80_000,
-        process_limit: 400,
-        player_processes: 32,
-        mpi_commands: 2_048,
-        dump_interval: 900,
-    }
 }

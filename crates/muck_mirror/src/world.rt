@@ -3,13 +3,13 @@ ghost use Rattle.std.specs.Prelude.{◌≡◌, ◌≤◌, ◌<◌, ℕ, All, IfO
 ghost use Rattle.spec_live.specs.Objects.{index_of};
 ghost use Rattle.std.specs.List.{list_all};
 ghost use Rattle.muck_codec.specs.inner.Stored.{IsStored};
-ghost use Rattle.muck_log.specs.World.{start, is_between, tune_fits, is_fine, placed, all_placed};
+ghost use Rattle.muck_log.specs.World.{start, is_fine, record_placed, all_placed};
 ghost use Rattle.muck_log.specs.inner.Head.{IsPlaced, ArePlaced};
-ghost use Rattle.muck_store.specs.Limits.{fits};
+ghost use Rattle.muck_store.specs.Limits.{record_fits};
 ghost use Rattle.muck_mirror.specs.Laying.{IsSound, laid_in};
 ghost use Rattle.muck_mirror.specs.inner.Undoing.{put_back, undone, undone_world, AreLaid, IsLaid, IsUndone};
 
-use crate::start::{first_tune, player_one, room_zero};
+use crate::start::{player_one, room_zero};
 use muck_codec::{Batch, CodecFault, Stored, take_batch};
 use muck_model::{Dbref, NoMemory, Row, Tune};
 use muck_store::{fits, is_whole};
@@ -26,7 +26,7 @@ pub struct World {
 }
 
 impl Model for World {
-    ghost use Rattle.muck_log.specs.World.{World as Held};
+    ghost use Rattle.muck_log.specs.World.{StoredWorld as Held};
 
     ghost Value = { Held };
 
@@ -48,28 +48,8 @@ pub struct Undo {
     tune: Tune,
 }
 
-fn is_between(n: u32, most: u32) -> bool
-    ensures { result ≡ is_between n most }
-{
-    n >= 1 && n <= most
-}
-
-#[tactic(auto, unfolding(muck_log::specs::World::tune_fits))]
-fn tune_fits(tune: &Tune) -> bool
-    ensures { result ≡ tune_fits tune.now }
-{
-    is_between(tune.instr_slice, 20_000)
-        && is_between(tune.preempt_units, 20_000)
-        && is_between(tune.m1_units, 1_000_000)
-        && is_between(tune.m2_units, 1_000_000)
-        && is_between(tune.process_limit, 400)
-        && is_between(tune.player_processes, 400)
-        && is_between(tune.mpi_commands, 2_048)
-        && is_between(tune.dump_interval, 86_400)
-}
-
 fn all_fit(objects: &[Stored]) -> bool
-    ensures { result ≡ list_all fits objects.now }
+    ensures { result ≡ list_all record_fits objects.now }
 {
     objects.iter().all(|object| fits(object))
 }
@@ -78,7 +58,7 @@ fn all_fit(objects: &[Stored]) -> bool
 fn is_fine(alloc: Global, objects: &[Stored], tune: &Tune) -> Result<bool, NoMemory>
     ensures { IfOk result (λ yes. yes ≡ is_fine objects.now tune.now) }
 {
-    if objects.len() > 100_000 || !all_fit(objects) || !tune_fits(tune) {
+    if objects.len() > 100_000 || !all_fit(objects) || !tune.fits() {
         return Ok(false);
     }
     Ok(is_whole(alloc, objects)?)
@@ -230,7 +210,7 @@ impl World {
         Ok(World {
             alloc,
             objects,
-            tune: first_tune(),
+            tune: Tune::first(),
         })
     }
 

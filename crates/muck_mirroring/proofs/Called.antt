@@ -6,7 +6,7 @@ use Rattle.muck_follow.specs.declared.fault.FollowFault.TheVariants as follow
 use Rattle.muck_why.specs.declared.why.Why.{Why}
 use Rattle.muck_why.specs.declared.why.Why.TheVariants.{Fine, BadScript, NoMemory, ReadFault, WriteFault, DiskFault, Damaged}
 use Rattle.muck_run.specs.inner.Ends.{MayRefuse}
-use Rattle.muck_mirroring.specs.Mirroring.{IsInGrammar, IsFirstOutside, HasWritten, AreReplies, MirrorsAs}
+use Rattle.muck_mirroring.specs.Mirroring.{IsMirrorScriptLeft, IsFirstOutsideMirror, HasWrittenReplies, AreReplies, MirrorsAs}
 use Rattle.muck_follow.specs.declared.act.Act.{Act}
 use Rattle.muck_mirroring.specs.inner.Reading.{IsScriptWhy, why_of}
 use Rattle.muck_io.specs.Sink.{AppendsFront}
@@ -31,7 +31,7 @@ ceased_ends follow.NoMemory U B b = inr b
 ceased_ends follow.DiskFault U B b = inr b
 ceased_ends follow.WriteFault U B b = b
 
-pub ceased_text : (fault : FollowFault) (before now : Option (List ℕ)) (text : List ℕ) → AppendsFront before now text → HasWritten (why_of fault) before now text
+pub ceased_text : (fault : FollowFault) (before now : Option (List ℕ)) (text : List ℕ) → AppendsFront before now text → HasWrittenReplies (why_of fault) before now text
 ceased_text follow.NoMemory before now text front = front
 ceased_text follow.DiskFault before now text front = front
 ceased_text follow.WriteFault before now text front = front
@@ -58,13 +58,13 @@ is_disk follow.NoMemory e = cc
 is_disk follow.DiskFault e = refl
 is_disk follow.WriteFault e = cc
 
-grammar_stands : (left : Option (List ℕ)) (line : ℕ) → IsInGrammar left → IsFirstOutside left line → ⊥
+grammar_stands : (left : Option (List ℕ)) (line : ℕ) → IsMirrorScriptLeft left → IsFirstOutsideMirror left line → ⊥
 grammar_stands None line is outside = is
 grammar_stands (Some bytes) line is outside = let both = sym is.1 ∙ outside in cc
 
 -- where nothing stood in its way
-pub completes : (left : Option (List ℕ)) (r : Result Chosen Damage) (chosen : Chosen) (U B : Type 0) (why : Why) → MirrorsAs why U B → ((line : ℕ) → why ≡ BadScript line → IsFirstOutside left line) → (why ≡ ReadFault → ⊥) → (why ≡ WriteFault → ⊥) → (why ≡ DiskFault → ⊥)
-    → ((file : Bool) (at : ℕ) → why ≡ Damaged file at → r ≡ Err (record { second = file; at = at })) → r ≡ Ok chosen → IsInGrammar left → (why ≡ Fine) ⊎ (why ≡ NoMemory)
+pub completes : (left : Option (List ℕ)) (r : Result Chosen Damage) (chosen : Chosen) (U B : Type 0) (why : Why) → MirrorsAs why U B → ((line : ℕ) → why ≡ BadScript line → IsFirstOutsideMirror left line) → (why ≡ ReadFault → ⊥) → (why ≡ WriteFault → ⊥) → (why ≡ DiskFault → ⊥)
+    → ((file : Bool) (at : ℕ) → why ≡ Damaged file at → r ≡ Err (record { second = file; at = at })) → r ≡ Ok chosen → IsMirrorScriptLeft left → (why ≡ Fine) ⊎ (why ≡ NoMemory)
 completes left r chosen U B Fine ends bad read write disk damaged ok grammar = inl refl
 completes left r chosen U B NoMemory ends bad read write disk damaged ok grammar = inr refl
 completes left r chosen U B (BadScript line) ends bad read write disk damaged ok grammar = absurd (grammar_stands left line grammar (bad line refl))

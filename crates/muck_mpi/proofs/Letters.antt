@@ -1,9 +1,11 @@
 -- What objects are written with are texts.
-use Rattle.std.proofs.Common.{◌≡◌, ◌≤◌, ◌<◌, ℕ, suc, Bool, true, false, cond, List, [], ◌∷◌, ◌++◌, length, drop, None, refl, arith, sym, ap, ◌∙◌, subst, append_assoc}
+use Rattle.std.proofs.Common.{◌≡◌, ◌≤◌, ◌<◌, ℕ, Bool, cond, List, [], ◌∷◌, ◌++◌, length, drop, None, refl, arith, sym, ap, ◌∙◌, subst, append_assoc}
 use Rattle.std.specs.Prelude.{codes, Result, Ok, Err}
-use Rattle.std.specs.List.{filter, list_all, flat_map}
+use Rattle.std.specs.List.{filter, flat_map}
 use Rattle.std.proofs.lemmas.Bool.{lt-ltb}
 use Rattle.std.proofs.lemmas.List.{append-nil, length-append, length-drop}
+use Rattle.muck_laws.proofs.Lists.{sign_put}
+use Rattle.muck_laws.proofs.Tests.{all_append, all_cons, all_drop, all_filter, few_filter}
 use Rattle.muck_model.specs.declared.dbref.Dbref.{Dbref}
 use Rattle.mpi.specs.declared.fault.MpiFault.{MpiFault}
 use Rattle.mpi.specs.declared.fault.MpiFault.TheVariants.{TooLong}
@@ -16,7 +18,7 @@ use Rattle.muck_model.specs.declared.dbref.Flags.{Flags}
 use Rattle.spec_live.specs.Flags.{has_flag, flag_of}
 use Rattle.spec_live.specs.Seen.{flag_letters}
 use Rattle.mpi.specs.Made.{Inside, is_long, text_or_long}
-use Rattle.mpi.proofs.Inside.{is_inside, all_head, all_tail, all_cons, all_append, all_drop, made_is_text, text_inside}
+use Rattle.mpi.proofs.Inside.{is_inside, made_is_text, text_inside}
 
 -- a name behind a `*`
 pub name_text : (name : List ℕ) → text_fault name ≡ None → length name ≤ 80 → text_fault (42 ∷ name) ≡ None
@@ -25,23 +27,6 @@ name_text name h short = made_is_text (42 ∷ name) (all_cons is_inside 42 name 
 pub ruleset name_texts = (name_text)
 
 -- Letters of flags.
-
-all_filter : (p q : ℕ → Bool) (xs : List ℕ) → list_all p xs ≡ true → list_all p (filter q xs) ≡ true
-all_filter p q [] h = refl
-all_filter p q (x ∷ xs) h =
-    let rest = all_filter p q xs (all_tail p x xs h) in
-    elim (q x) as (λ b. list_all p (cond b (x ∷ filter q xs) (filter q xs)) ≡ true) [
-      | true ↦ all_cons p x (filter q xs) (all_head p x xs h) rest
-      | false ↦ rest
-    ]
-
-few_filter : (q : ℕ → Bool) (xs : List ℕ) → length (filter q xs) ≤ length xs
-few_filter q [] = omega arith
-few_filter q (x ∷ xs) =
-    elim (q x) as (λ b. length (cond b (x ∷ filter q xs) (filter q xs)) ≤ suc (length xs)) [
-      | true ↦ omega (arith, few_filter q xs)
-      | false ↦ omega (arith, few_filter q xs)
-    ]
 
 pub flag_text : (flags : Flags) → text_fault (flag_letters flags) ≡ None
 unfolding flag_letters
@@ -57,9 +42,6 @@ pub ruleset flag_texts = (flag_text)
 pub sign_inside : (text new sign whole : List ℕ) → Inside text → text_fault sign ≡ None → new ≡ text ++ 13 ∷ [] → whole ≡ new ++ sign → Inside whole
 sign_inside text new sign whole h s n w =
     subst Inside (sym (w ∙ ap (λ ys. ys ++ sign) n)) (all_append is_inside (text ++ 13 ∷ []) sign (all_append is_inside text (13 ∷ []) h refl) (text_inside sign s))
-
-pub sign_put : (text new sign whole : List ℕ) → new ≡ text ++ 13 ∷ [] → whole ≡ new ++ sign → whole ≡ text ++ 13 ∷ sign
-sign_put text new sign whole n w = w ∙ ap (λ ys. ys ++ sign) n ∙ append_assoc text (13 ∷ []) sign
 
 pub ruleset sign_steps = (sign_inside, sign_put, append_assoc)
 

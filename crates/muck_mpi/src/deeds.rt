@@ -3,9 +3,9 @@ ghost use Rattle.std.specs.Prelude.{◌≡◌};
 ghost use Rattle.mpi.specs.Hosting.{Meant};
 ghost use Rattle.muck_prop.specs.declared.value.PropValue.TheVariants.{Text};
 ghost use Rattle.spec_live.specs.Lives.{tell_player, tell_others};
-ghost use Rattle.spec_rights.specs.Changing.{stored, unstored};
+ghost use Rattle.spec_rights.specs.Changing.{property_stored, unstored};
 ghost use Rattle.muck_perm.specs.inner.Guards.{Same};
-ghost use Rattle.spec_mpi.specs.Doing.{changed, written, does_in};
+ghost use Rattle.spec_mpi.specs.Doing.{stage_changed, path_written, does_in};
 ghost use Rattle.muck_mpi.specs.inner.Seeing.{stage_of, IsWritten, Did};
 
 use crate::properties::path_of;
@@ -28,7 +28,7 @@ fn written(answer: Result<(), DbFault>) -> Result<(), MpiFault>
 
 // Stores a text as a property, by leave.
 fn store(guard: &mut Guard, object: Dbref, path: &Line, text: &Line) -> Result<(), MpiFault>
-    ensures { Did (written object path.now (λ p. stored object p (Text text.now)) (stage_of guard.old)) guard.old guard.new result }
+    ensures { Did (path_written object path.now (λ p. property_stored object p (Text text.now)) (stage_of guard.old)) guard.old guard.new result }
 {
     if guard.db().get(object).is_none() {
         return Err(MpiFault::BadValue);
@@ -48,7 +48,7 @@ fn store(guard: &mut Guard, object: Dbref, path: &Line, text: &Line) -> Result<(
 
 // Takes a property away, by leave.
 fn unstore(guard: &mut Guard, object: Dbref, path: &Line) -> Result<(), MpiFault>
-    ensures { Did (written object path.now (λ p. unstored object p) (stage_of guard.old)) guard.old guard.new result }
+    ensures { Did (path_written object path.now (λ p. unstored object p) (stage_of guard.old)) guard.old guard.new result }
 {
     if guard.db().get(object).is_none() {
         return Err(MpiFault::BadValue);
@@ -66,14 +66,14 @@ fn unstore(guard: &mut Guard, object: Dbref, path: &Line) -> Result<(), MpiFault
 }
 
 fn tell(guard: &mut Guard, player: Dbref, text: &Line) -> Result<(), MpiFault>
-    ensures { Did (changed (tell_player player text.now) (stage_of guard.old)) guard.old guard.new result }
+    ensures { Did (stage_changed (tell_player player text.now) (stage_of guard.old)) guard.old guard.new result }
 {
     guard.tell_player(player, text.as_slice())?;
     Ok(())
 }
 
 fn tell_others(guard: &mut Guard, room: Dbref, text: &Line) -> Result<(), MpiFault>
-    ensures { Did (changed (tell_others room guard.old.actor.player text.now) (stage_of guard.old)) guard.old guard.new result }
+    ensures { Did (stage_changed (tell_others room guard.old.actor.player text.now) (stage_of guard.old)) guard.old guard.new result }
 {
     let player = guard.actor().player;
     guard.tell_others(room, player, text.as_slice())?;

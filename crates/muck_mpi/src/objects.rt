@@ -4,7 +4,7 @@ ghost use Rattle.std.specs.List.{filter};
 ghost use Rattle.spec_live.specs.Flags.{has_flag, flag_of};
 ghost use Rattle.mpi.specs.Hosting.{Means};
 ghost use Rattle.mpi.specs.Made.{text_or_long};
-ghost use Rattle.mpi.specs.Values.{truth};
+ghost use Rattle.mpi.specs.Values.{truth_text};
 ghost use Rattle.spec_live.specs.Objects.{same};
 ghost use Rattle.spec_live.specs.Seen.{listed_in, flag_letters};
 ghost use Rattle.spec_rights.specs.Verdict.{controls};
@@ -147,7 +147,7 @@ pub(crate) fn exits(alloc: Global, db: &Db, d: Dbref) -> Result<Line, MpiFault>
 
 /// Whether that is its place.
 pub(crate) fn holds(alloc: Global, db: &Db, d: Dbref, place: Dbref) -> Result<Line, MpiFault>
-    ensures { Means (of_object (λ o. Ok (truth (same o.place place))) d db.now) result }
+    ensures { Means (of_object (λ o. Ok (truth_text (same o.place place))) d db.now) result }
 {
     match db.get(d) {
         Some(object) => Ok(truth(alloc, object.place() == place)?),
@@ -158,7 +158,7 @@ pub(crate) fn holds(alloc: Global, db: &Db, d: Dbref, place: Dbref) -> Result<Li
 /// Whether who acts controls it.
 #[tactic(auto, unfolding(spec_rights::specs::Verdict::controls))]
 pub(crate) fn controls(guard: &Guard, d: Dbref) -> Result<Line, MpiFault>
-    ensures { Means (of_object (λ o. Ok (truth (controls (objects_of guard.now) guard.now.actor d))) d (objects_of guard.now)) result }
+    ensures { Means (of_object (λ o. Ok (truth_text (controls (objects_of guard.now) guard.now.actor d))) d (objects_of guard.now)) result }
 {
     let actor = guard.actor();
     match guard.db().get(d) {

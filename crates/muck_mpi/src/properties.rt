@@ -7,7 +7,7 @@ ghost use Rattle.muck_prop.specs.Store.{is_dir};
 ghost use Rattle.spec_live.specs.Seen.{places_of};
 ghost use Rattle.spec_live.specs.Worth.{value_text};
 ghost use Rattle.muck_perm.specs.inner.Guards.{objects_of};
-ghost use Rattle.spec_mpi.specs.Telling.{fault, path_in, at_path, of_object, value_of, text_at, first_text, below_at};
+ghost use Rattle.spec_mpi.specs.Telling.{fault_told, path_written_in, at_written_path, of_object, value_of, property_text_at, first_text, below_at};
 
 use crate::texts::truth;
 use mpi::MpiFault;
@@ -23,7 +23,7 @@ use std::alloc::Global;
 /// The path that a text writes; `BadValue` exactly where it writes none.
 #[tactic(auto, using(crate::proofs::Paths::path_steps))]
 pub(crate) fn path_of(alloc: Global, text: &Line) -> Result<Path, MpiFault>
-    ensures { Means (found_or_bad (path_in text.now)) result }
+    ensures { Means (found_or_bad (path_written_in text.now)) result }
 {
     match read_path(alloc, text) {
         Ok(path) => Ok(path),
@@ -53,9 +53,9 @@ fn text_of(alloc: Global, value: Option<&PropValue>) -> Result<Option<Line>, NoM
 }
 
 // The text of a property, where there is one, by leave.
-#[tactic(auto, unfolding(spec_mpi::specs::Telling::text_at))]
+#[tactic(auto, unfolding(spec_mpi::specs::Telling::property_text_at))]
 fn text_at(guard: &Guard, d: Dbref, path: &Path) -> Result<Option<Line>, MpiFault>
-    ensures { Means (text_at (objects_of guard.now) guard.now.actor path.now d) result }
+    ensures { Means (property_text_at (objects_of guard.now) guard.now.actor path.now d) result }
 {
     let act = Act::Read {
         object: d,
@@ -92,7 +92,7 @@ fn has_below(object: Option<&Object>, path: &Path) -> bool
 }
 
 // The next of the places upward.
-#[tactic(auto, unfolding(spec_live::specs::Seen::scenery_of, muck_match::specs::Scenery::upward, muck_match::specs::Scenery::is_there))]
+#[tactic(auto, unfolding(spec_live::specs::Seen::scenery_of, muck_match::specs::Scenery::upward, muck_match::specs::Scenery::is_in_scenery))]
 fn place_above(db: &Db, object: Dbref) -> Option<Dbref>
     ensures { MatchOption result (places_of db.now object ≡ []) (λ up. places_of db.now object ≡ up ∷ places_of db.now up) }
 {
@@ -130,7 +130,7 @@ fn text_here(guard: &Guard, object: Dbref, path: &Path) -> Result<Line, MpiFault
 
 /// The property of a path, from an object on upward.
 pub(crate) fn prop(guard: &Guard, d: Dbref, path: &Line) -> Result<Line, MpiFault>
-    ensures { Means (of_object (λ o. at_path fault (λ p. first_text (objects_of guard.now) guard.now.actor p (d ∷ places_of (objects_of guard.now) d)) path.now) d (objects_of guard.now)) result }
+    ensures { Means (of_object (λ o. at_written_path fault_told (λ p. first_text (objects_of guard.now) guard.now.actor p (d ∷ places_of (objects_of guard.now) d)) path.now) d (objects_of guard.now)) result }
 {
     match guard.db().get(d) {
         Some(_) => {
@@ -143,7 +143,7 @@ pub(crate) fn prop(guard: &Guard, d: Dbref, path: &Line) -> Result<Line, MpiFaul
 
 /// The property of an object alone.
 pub(crate) fn prop_here(guard: &Guard, d: Dbref, path: &Line) -> Result<Line, MpiFault>
-    ensures { Means (of_object (λ o. at_path fault (λ p. first_text (objects_of guard.now) guard.now.actor p (d ∷ [])) path.now) d (objects_of guard.now)) result }
+    ensures { Means (of_object (λ o. at_written_path fault_told (λ p. first_text (objects_of guard.now) guard.now.actor p (d ∷ [])) path.now) d (objects_of guard.now)) result }
 {
     match guard.db().get(d) {
         Some(_) => {
@@ -156,7 +156,7 @@ pub(crate) fn prop_here(guard: &Guard, d: Dbref, path: &Line) -> Result<Line, Mp
 
 /// Whether properties stand below the path.
 pub(crate) fn prop_dir(guard: &Guard, d: Dbref, path: &Line) -> Result<Line, MpiFault>
-    ensures { Means (of_object (λ o. at_path fault (below_at (objects_of guard.now) guard.now.actor d) path.now) d (objects_of guard.now)) result }
+    ensures { Means (of_object (λ o. at_written_path fault_told (below_at (objects_of guard.now) guard.now.actor d) path.now) d (objects_of guard.now)) result }
 {
     match guard.db().get(d) {
         Some(_) => {

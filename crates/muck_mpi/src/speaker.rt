@@ -5,7 +5,7 @@ ghost use Rattle.mpi.specs.Hosting.{Means, IfMemory};
 ghost use Rattle.spec_rights.specs.Licence.{Licensed, nobody};
 ghost use Rattle.muck_perm.specs.inner.Guards.{world_of, Same, Did};
 ghost use Rattle.muck_mpi.specs.inner.Showing.{IsShown};
-ghost use Rattle.spec_mpi.specs.Messages.{heard, variables_of, spoken};
+ghost use Rattle.spec_mpi.specs.Messages.{formula_heard, variables_of, message_spoken};
 ghost use Rattle.spec_mpi.specs.Touching.{TouchesNotes};
 ghost use Rattle.muck_mpi.specs.inner.Plain.{is_plain};
 
@@ -86,15 +86,15 @@ impl<'g, 'a> Host for Speaker<'g, 'a> {
 
 /// Evaluates a text that an object carries, for who acts: what it means, or its fault, and the variables and the world after it. What was
 /// changed before a fault stays. After `NoMemory` nothing is said of the variables and of the world.
-#[tactic(auto, unfolding(spec_mpi::specs::Messages::heard))]
+#[tactic(auto, unfolding(spec_mpi::specs::Messages::formula_heard))]
 pub fn hear(
     guard: &mut Guard,
     this: Dbref,
     text: &Line,
     vars: &mut VarMap,
 ) -> Result<Line, MpiFault>
-    ensures means { Means (heard guard.old.actor this text.now vars.old (world_of guard.old)).0 result }
-    ensures world { IfMemory result (world_of guard.new ≡ (heard guard.old.actor this text.now vars.old (world_of guard.old)).1) }
+    ensures means { Means (formula_heard guard.old.actor this text.now vars.old (world_of guard.old)).0 result }
+    ensures world { IfMemory result (world_of guard.new ≡ (formula_heard guard.old.actor this text.now vars.old (world_of guard.old)).1) }
     ensures actor { IfMemory result (guard.new.actor ≡ guard.old.actor) }
     ensures same { Same guard.old guard.new }
     ensures open { IfMemory result (Licensed guard.old.actor nobody (world_of guard.old) (world_of guard.new)) }
@@ -122,7 +122,7 @@ fn fault_line(alloc: Global, fault: MpiFault) -> Result<Line, NoMemory>
 }
 
 // What is shown of a value or a fault.
-#[tactic(auto, unfolding(spec_mpi::specs::Messages::shown))]
+#[tactic(auto, unfolding(spec_mpi::specs::Messages::answer_shown))]
 fn shown_line(alloc: Global, answer: Result<Line, MpiFault>) -> Result<Line, NoMemory>
     ensures { IsShown answer result }
 {
@@ -165,8 +165,8 @@ pub fn speak(
     text: Line,
 ) -> Result<Line, NoMemory>
     requires { text_fault how.now ≡ None }
-    ensures shown { IfOk result (λ line. line ≡ (spoken guard.old.actor this how.now cmd.now arg.now text (world_of guard.old)).0) }
-    ensures did { Did (λ w. (spoken guard.old.actor this how.now cmd.now arg.now text w).1) guard.old guard.new result }
+    ensures shown { IfOk result (λ line. line ≡ (message_spoken guard.old.actor this how.now cmd.now arg.now text (world_of guard.old)).0) }
+    ensures did { Did (λ w. (message_spoken guard.old.actor this how.now cmd.now arg.now text w).1) guard.old guard.new result }
 {
     if is_plain(text.as_slice()) {
         return Ok(text);

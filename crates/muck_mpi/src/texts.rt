@@ -4,7 +4,7 @@ ghost use Rattle.muck_model.specs.Bytes.{text_fault};
 ghost use Rattle.mpi.specs.Hosting.{Means};
 ghost use Rattle.mpi.specs.Made.{Inside, text_or_long};
 ghost use Rattle.mpi.specs.Meaning.{reference};
-ghost use Rattle.mpi.specs.Values.{truth};
+ghost use Rattle.mpi.specs.Values.{truth_text};
 
 use mpi::MpiFault;
 use muck_model::{Dbref, Line, NoMemory, TEXT_MOST};
@@ -12,7 +12,7 @@ use std::alloc::Global;
 
 /// `1` for true and `0` for false.
 pub(crate) fn truth(alloc: Global, holds: bool) -> Result<Line, NoMemory>
-    ensures { IfOk result (λ line. line ≡ truth holds) }
+    ensures { IfOk result (λ line. line ≡ truth_text holds) }
 {
     if holds {
         Line::of_text(alloc, b"1")

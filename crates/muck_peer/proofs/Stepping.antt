@@ -1,10 +1,8 @@
 -- The steps of one link.
 use Rattle.std.proofs.Common.{◌≡◌, ℕ, ◌≤◌, Bool, true, false, List, [], ◌∷◌, take, drop, length, refl, sym, ap, ◌∙◌, subst, arith}
-use Rattle.std.specs.Prelude.{nat_lt, min, ◌<◌, if◌then◌else◌, not, ◌&&◌, is_some}
-use Rattle.std.proofs.lemmas.Bool.{ltb-true, ltb-false, lt-ltb}
-use Rattle.std.proofs.lemmas.List.{length-drop, length-take, length-take-le}
+use Rattle.std.specs.Prelude.{if◌then◌else◌, not, ◌&&◌, is_some}
 use Rattle.muck_links.specs.inner.Cutting.{Cut, Rest, fed}
-use Rattle.muck_links.specs.Sessions.{Told, on_session, with_read, with_end, with_fault, with_written, with_refusal}
+use Rattle.muck_links.specs.Sessions.{LinksTold, on_session, with_read, with_end, with_fault, with_written, with_refusal}
 use Rattle.muck_model.specs.declared.event.Event.TheVariants.{Input, Closed, Take}
 use Rattle.spec_live.specs.Connections.{is_ready}
 use Rattle.spec_events.specs.World.{World, queue_of}
@@ -20,60 +18,37 @@ use Rattle.muck_peer.specs.Moves.{LinkStep, LinkLoss, PeerStep, IsWorkedOff, Has
 
 -- Calls of the links.
 
-pub link_same : (counted : LinksNote) (p : Peer) (k k' : Told) → k' ≡ on_session p.number (λ s. s) k → LinkStep counted p p k k'
+pub link_same : (counted : LinksNote) (p : Peer) (k k' : LinksTold) → k' ≡ on_session p.number (λ s. s) k → LinkStep counted p p k k'
 link_same counted p k k' is = record { change = λ s. s; told = is; link = λ s. refl; refuses = λ s. omega arith; number = refl; keeps = λ t s h. h }
 
-pub link_read : (counted : LinksNote) (v p p' : Peer) (k k' : Told) (bytes : List ℕ) (c : Cut) → v ≡ p → k' ≡ on_session v.number (with_read bytes) k → c ≡ fed v.cut bytes → p' ≡ record v { cut = c }
+pub link_read : (counted : LinksNote) (v p p' : Peer) (k k' : LinksTold) (bytes : List ℕ) (c : Cut) → v ≡ p → k' ≡ on_session v.number (with_read bytes) k → c ≡ fed v.cut bytes → p' ≡ record v { cut = c }
     → LinkStep counted p p' k k'
 link_read counted v p p' k k' bytes c view is cut same = subst (λ (q : Peer). LinkStep counted q p' k k') view (subst (λ (q : Peer). LinkStep counted v q k k') (sym same)
     (record { change = with_read bytes; told = is; link = λ s. refl; refuses = λ s. omega arith; number = refl; keeps = λ t s h. keeps_read counted v t s bytes c cut h }))
 
-pub link_end : (counted : LinksNote) (v p p' : Peer) (k k' : Told) → v ≡ p → k' ≡ on_session v.number with_end k → p' ≡ record v { ended = true } → LinkStep counted p p' k k'
+pub link_end : (counted : LinksNote) (v p p' : Peer) (k k' : LinksTold) → v ≡ p → k' ≡ on_session v.number with_end k → p' ≡ record v { ended = true } → LinkStep counted p p' k k'
 link_end counted v p p' k k' view is same = subst (λ (q : Peer). LinkStep counted q p' k k') view (subst (λ (q : Peer). LinkStep counted v q k k') (sym same)
     (record { change = with_end; told = is; link = λ s. refl; refuses = λ s. omega arith; number = refl; keeps = λ t s h. keeps_end counted v t s h }))
 
-pub link_fault : (counted : LinksNote) (v p p' : Peer) (k k' : Told) → v ≡ p → k' ≡ on_session v.number with_fault k → p' ≡ record v { faulted = true } → LinkStep counted p p' k k'
+pub link_fault : (counted : LinksNote) (v p p' : Peer) (k k' : LinksTold) → v ≡ p → k' ≡ on_session v.number with_fault k → p' ≡ record v { faulted = true } → LinkStep counted p p' k k'
 link_fault counted v p p' k k' view is same = subst (λ (q : Peer). LinkStep counted q p' k k') view (subst (λ (q : Peer). LinkStep counted v q k k') (sym same)
     (record { change = with_fault; told = is; link = λ s. refl; refuses = λ s. omega arith; number = refl; keeps = λ t s h. keeps_fault counted v t s h }))
 
-pub link_written : (counted : LinksNote) (v p p' : Peer) (k k' : Told) (n : ℕ) → v ≡ p → k' ≡ on_session v.number (with_written (take n v.unsent)) k → p' ≡ record v { unsent = drop n v.unsent }
+pub link_written : (counted : LinksNote) (v p p' : Peer) (k k' : LinksTold) (n : ℕ) → v ≡ p → k' ≡ on_session v.number (with_written (take n v.unsent)) k → p' ≡ record v { unsent = drop n v.unsent }
     → LinkStep counted p p' k k'
 link_written counted v p p' k k' n view is same = subst (λ (q : Peer). LinkStep counted q p' k k') view (subst (λ (q : Peer). LinkStep counted v q k k') (sym same)
     (record { change = with_written (take n v.unsent); told = is; link = λ s. refl; refuses = λ s. omega arith; number = refl; keeps = λ t s h. keeps_written counted v t s n h }))
 
-pub link_refused : (counted : LinksNote) (noted : Bool) (v p p' : Peer) (k k' : Told) → is_some counted ≡ noted → v ≡ p → k' ≡ on_session v.number with_refusal k
+pub link_refused : (counted : LinksNote) (noted : Bool) (v p p' : Peer) (k k' : LinksTold) → is_some counted ≡ noted → v ≡ p → k' ≡ on_session v.number with_refusal k
     → p' ≡ record v { refused = v.ended; stalled = noted } → LinkStep counted p p' k k'
 link_refused counted noted v p p' k k' marks view is same =
     subst (λ (q : Peer). LinkStep counted q p' k k') view (subst (λ (q : Peer). LinkStep counted v q k k') (sym (same ∙ ap (λ (b : Bool). let q : Peer = record v { refused = v.ended; stalled = b } in q) (sym marks)))
     (record { change = with_refusal; told = is; link = λ s. refl; refuses = λ s. omega arith; number = refl; keeps = λ t s h. keeps_refusal counted v t s h }))
 
-pub link_lost : (counted : LinksNote) (v p : Peer) (k k' : Told) (bytes : List ℕ) → v ≡ p → k' ≡ on_session v.number (with_read bytes) k → LinkLoss counted p k k'
+pub link_lost : (counted : LinksNote) (v p : Peer) (k k' : LinksTold) (bytes : List ℕ) → v ≡ p → k' ≡ on_session v.number (with_read bytes) k → LinkLoss counted p k k'
 link_lost counted v p k k' bytes view is = subst (λ (q : Peer). LinkLoss counted q k k') view (record { change = with_read bytes; told = is; link = λ s. refl; refuses = λ s. omega arith; agrees = λ t s h. agrees_read counted v t s bytes h })
 
 -- Bytes that are kept.
-
-pub some_unsent : (at len : ℕ) (b : List ℕ) → nat_lt at len ≡ true → len ≤ length b → drop at (take len b) ≡ [] → ⊥
-some_unsent at len b t le e =
-    let lt = ltb-true at len t in
-    let n = length-drop at (take len b) in
-    let m = length-take-le len b le in
-    let z = ap length e in
-    absurd (omega arith)
-
-pub none_unsent : (at len : ℕ) (b : List ℕ) → (drop at (take len b) ≡ [] → ⊥) → nat_lt at len ≡ true
-none_unsent at len b some = from (nat_lt at len) refl
-  where
-    from : (t : Bool) → nat_lt at len ≡ t → nat_lt at len ≡ true
-    from true e = e
-    from false e =
-        let le = ltb-false at len e in
-        let n = length-drop at (take len b) in
-        let m = length-take len b in
-        absurd (some (nothing (drop at (take len b)) (omega arith)))
-      where
-        nothing : (xs : List ℕ) → length xs ≤ 0 → xs ≡ []
-        nothing [] h = refl
-        nothing (x ∷ xs) h = absurd (omega arith)
 
 -- Entries.
 
@@ -88,10 +63,6 @@ step_heard v p p' w line c view ready rest same =
 
 -- Tests.
 
-pub stable : {A : Type 0} (xs : List A) → ((xs ≡ [] → ⊥) → ⊥) → xs ≡ []
-stable [] h = refl
-stable (x ∷ xs) h = absurd (h (λ e. cc))
-
 -- What is worked off.
 
 pub off_stopping : (p : Peer) (w : World) → w.stopping ≡ true → length (queue_of p.number w) ≤ 0 → p.unsent ≡ [] → IsWorkedOff p w
@@ -104,14 +75,6 @@ off_stopping p w stopping queue none_kept counted = worked_done counted p w (fro
 pub off_idle : (p : Peer) (w : World) → passes is_ready p.number w ≡ false → length (queue_of p.number w) ≤ 0 → p.unsent ≡ [] → IsWorkedOff p w
 off_idle p w idle queue none_kept counted = worked_done counted p w (ap (λ (b : Bool). b && not w.stopping) idle) queue none_kept
 
--- bytes were taken where some waited and there was room
-pub took_count : (dead : Bool) (n a b : ℕ) → dead ≡ false → n ≡ (if dead then 0 else min a b) → 0 < a → 0 < b → 0 < n
-took_count true n a b alive is some room = absurd cc
-took_count false n a b alive is some room = omega arith
-
-pub took_some : {A : Type 0} (n : ℕ) (old new : A) → 0 < n → (if nat_lt 0 n then new else old) ≡ new
-took_some n old new some = ap (λ (b : Bool). if b then new else old) (lt-ltb 0 n some)
-
 -- where there is a cause to close it
 pub ending_wanted : (there : Bool) (p : Peer) (w : World) → is_lawful w (by_porter (Closed p.number)) ≡ there → HasCause p w → IsWanted (if there then Close else Time) p w
 ending_wanted true p w is cause = (is, cause)
@@ -120,7 +83,3 @@ ending_wanted false p w is cause = tt
 -- what is wanted, by another name
 pub wanted_as : (want other : Want) (p : Peer) (w : World) → want ≡ other → IsWanted want p w → IsWanted other p w
 wanted_as want other p w is i = subst (λ (x : Want). IsWanted x p w) is i
-
--- what was done, as it is answered
-pub did_so : {A : Type 0} (answer : Bool) (old new : A) → answer ≡ true → (if answer then new else old) ≡ new
-did_so answer old new is = ap (λ (b : Bool). if b then new else old) is

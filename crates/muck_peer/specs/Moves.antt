@@ -1,7 +1,7 @@
 -- What a call of the links and an entry of the world do to what is kept of a link.
 use Rattle.std.specs.Prelude.{◌≡◌, ◌≢◌, ℕ, max, ◌≤◌, ◌<◌, true, List, [], ◌∷◌, length, take, Option}
 use Rattle.muck_io.specs.inner.Clock.{Answers}
-use Rattle.muck_links.specs.Sessions.{Session, Told, number_of, on_session}
+use Rattle.muck_links.specs.Sessions.{Session, LinksTold, session_number, on_session}
 use Rattle.muck_model.specs.declared.event.Event.{Event}
 use Rattle.muck_model.specs.declared.event.Event.TheVariants.{Input, Closed as ClosedEvent, Moment, Take, Died}
 use Rattle.spec_events.specs.World.{World, queue_of}
@@ -17,19 +17,19 @@ use Rattle.muck_peer.specs.declared.steps.Chose.{Chose}
 use Rattle.muck_peer.specs.declared.steps.Chose.TheVariants.{Went, Closed, Dead}
 
 -- A call of the links for a link: the session of its number changes, which has refused no less then, and the account of the one is that of the other.
-pub record LinkStep (counted : LinksNote) (p p' : Peer) (k k' : Told) : Type 0 where
+pub record LinkStep (counted : LinksNote) (p p' : Peer) (k k' : LinksTold) : Type 0 where
   pub change : Session → Session
   pub told : k' ≡ on_session p.number change k
-  pub link : (s : Session) → number_of (change s) ≡ number_of s
+  pub link : (s : Session) → session_number (change s) ≡ session_number s
   pub refuses : (s : Session) → s.refused ≤ (change s).refused
   pub number : p'.number ≡ p.number
   pub keeps : (t : Talk) (s : Session) → Keeps counted p t s → Keeps counted p' t (change s)
 
 -- a call after which nothing is kept of the link
-pub record LinkLoss (counted : LinksNote) (p : Peer) (k k' : Told) : Type 0 where
+pub record LinkLoss (counted : LinksNote) (p : Peer) (k k' : LinksTold) : Type 0 where
   pub change : Session → Session
   pub told : k' ≡ on_session p.number change k
-  pub link : (s : Session) → number_of (change s) ≡ number_of s
+  pub link : (s : Session) → session_number (change s) ≡ session_number s
   pub refuses : (s : Session) → s.refused ≤ (change s).refused
   pub agrees : (t : Talk) (s : Session) → Keeps counted p t s → Agrees counted t (change s)
 

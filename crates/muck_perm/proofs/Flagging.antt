@@ -1,6 +1,7 @@
 -- Setting and clearing one flag.
 use Rattle.std.proofs.Common.{◌≡◌, ℕ, ◌<◌, ◌≤◌, ◌^◌, ◌+◌, ◌/◌, ◌%◌, true, false, List, Option, Some, None, Result, Ok, Err, refl, sym, ◌∙◌, ap, arith}
-use Rattle.spec_rights.proofs.Bits.{Each, picked, even, odd}
+use Rattle.muck_laws.proofs.Numbers.{even, odd}
+use Rattle.spec_rights.proofs.Bits.{Each, picked}
 use Rattle.std.specs.List.{slice_get, slice_set}
 use Rattle.std.specs.Option.{option_map, option_map_or, option_and_then}
 use Rattle.muck_model.specs.declared.dbref.Dbref.{Dbref}

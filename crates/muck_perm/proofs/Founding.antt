@@ -1,5 +1,6 @@
 -- What making an object, and then setting a field of it, makes of the world of a guard.
 use Rattle.std.proofs.Common.{◌≡◌, ℕ, Bool, true, false, cond, eqb, not, ◌||◌, ◌&&◌, Option, Some, None, Result, Ok, Err, refl, sym, ◌∙◌, ap, subst, List}
+use Rattle.muck_laws.proofs.Places.{set_back}
 use Rattle.muck_db.proofs.Showing.{alive_number}
 use Rattle.std.proofs.lemmas.Bool.{false≢true, eq-eqb}
 use Rattle.std.specs.Prelude.{nat_lt}
@@ -16,14 +17,13 @@ use Rattle.spec_live.specs.declared.saving.Saving.{Saving}
 use Rattle.spec_live.specs.declared.saving.Saving.TheVariants.{Due}
 use Rattle.spec_live.specs.Saving.{saving_in, links_in, same_links}
 use Rattle.spec_live.specs.Moving.{Does, set_down, moved}
-use Rattle.spec_live.specs.Making.{grown, new_object, created, create_check, Creates}
+use Rattle.spec_live.specs.Making.{objects_grown, new_object, created, create_check, Creates}
 use Rattle.spec_live.specs.Setting.{checked, checked_both, has_link, may_link, may_live, link_check, home_check, level_check, set_at, with_link, with_home, with_level}
 use Rattle.spec_live.proofs.Readers.{kind_is, kind_moved}
 use Rattle.spec_live.proofs.Savings.{saving_relinked}
 use Rattle.spec_live.proofs.Dues.{saving_down}
 use Rattle.spec_live.proofs.Checks.{IsThere, number_there}
 use Rattle.spec_live.proofs.CreationLaws.{may_create, Begins, begins, grown_kind, named_kind, other_kind}
-use Rattle.muck_db.proofs.Writes.{set_back}
 use Rattle.spec_live.specs.Lives.{Change}
 use Rattle.spec_rights.specs.Changing.{created_so}
 use Rattle.muck_perm.specs.declared.guard.Guard.{Guard}
@@ -42,9 +42,9 @@ unfolding created
 made kind name owner place es p h =
     let b : Begins es kind owner p.0 p.1 = begins es kind owner p.0 p.1 (may_create kind owner place es p h) in
     record {
-      here = kind_moved _ p.0 p.1 p.0 ∙ named_kind (grown p.0 es) p.0 kind name owner b.known;
+      here = kind_moved _ p.0 p.1 p.0 ∙ named_kind (objects_grown p.0 es) p.0 kind name owner b.known;
       was = sym (grown_kind p.0 p.0 es) ∙ b.garbage;
-      other = λ k ne. kind_moved _ p.0 p.1 k ∙ (other_kind (grown p.0 es) p.0 k (new_object p.0 kind name owner) ne ∙ grown_kind p.0 k es);
+      other = λ k ne. kind_moved _ p.0 p.1 k ∙ (other_kind (objects_grown p.0 es) p.0 k (new_object p.0 kind name owner) ne ∙ grown_kind p.0 k es);
     }
 
 made_number : (es fs : List Entry) (kind : Kind) (n : ℕ) → Made es fs kind n → is_garbage kind ≡ false → number_in fs (dbref_of n) ≡ Some n
@@ -155,7 +155,7 @@ set_same n es due = by_cases (slice_get es n) refl due
 created_due : (n : ℕ) (kind : Kind) (name : List ℕ) (owner : Dbref) (to : ℕ) (es : List Entry) → saving_in (created n kind name owner to es) n ≡ Due
 unfolding created moved
 created_due n kind name owner to es =
-    let made : List Entry = changed_at n (with_object (new_object n kind name owner)) (grown n es) in
+    let made : List Entry = changed_at n (with_object (new_object n kind name owner)) (objects_grown n es) in
     let down : saving_in (set_down n to made) n ≡ Due = saving_down made n to n ∙ ap (λ b. cond (b || eqb n to) Due (saving_in made n)) (eq-eqb n n refl) in
     saving_relinked made (set_down n to made) n ∙ by_cases (not (same_links (links_in made n) (links_in (set_down n to made) n))) (saving_in (set_down n to made) n) down
   where

@@ -6,13 +6,13 @@ use Rattle.muck_prop.specs.declared.value.PropValue.{PropValue}
 use Rattle.spec_live.specs.declared.fault.DbFault.{DbFault}
 use Rattle.spec_live.specs.declared.fault.DbFault.TheVariants.{NoSuchObject, WouldLoop, WrongKind}
 use Rattle.spec_live.specs.Chain.{has}
-use Rattle.spec_live.specs.Objects.{Entry, nothing, home, same, is_exit, kind_in, fits_in, path_in, number_in}
-use Rattle.spec_live.specs.Moving.{Does, Moves, judged, moved, move_check}
+use Rattle.spec_live.specs.Objects.{Entry, nothing, home, same, is_exit, kind_in, fits_in, places_from, number_in}
+use Rattle.spec_live.specs.Moving.{Does, Moves, move_judged, moved, move_check}
 use Rattle.spec_live.specs.Setting as setting
-use Rattle.spec_live.specs.Setting.{any, checked, checked_both, has_link, may_link, owner_check, link_check, home_check, level_check, lines_check, password_check, set_at, lines_set, with_name, with_owner, with_link, with_home, with_level, with_prop, without_prop, with_password}
+use Rattle.spec_live.specs.Setting.{every_number, checked, checked_both, has_link, may_link, owner_check, link_check, home_check, level_check, lines_check, password_check, set_at, lines_set, with_name, with_owner, with_link, with_home, with_level, with_prop, without_prop, with_password}
 use Rattle.spec_live.specs.Recycling.{recycled, recycle_check}
 use Rattle.spec_live.specs.Lives.{on_objects}
-use Rattle.spec_rights.specs.Changing.{at_number, moved_at, moved_to, named, owned_by, linked, homed, leveled, lines_kept, stored, unstored, recycled_now, password_kept}
+use Rattle.spec_rights.specs.Changing.{at_number, moved_at, moved_to, name_given, object_owned_by, linked, homed, leveled, lines_kept, property_stored, unstored, recycled_now, password_kept}
 use Rattle.muck_perm.specs.declared.guard.Guard.{Guard}
 use Rattle.muck_perm.specs.inner.Guards.{objects_of, world_of, Kept, Makes, Tries}
 
@@ -60,12 +60,12 @@ judged_by x y p false false c h = absurd (cc (h))
 judged_by x y p false true true h = absurd (cc (h))
 judged_by x y p false true false h = cc (h)
 
-judged_is : (x y : ℕ) (es : List Entry) (p : ℕ × ℕ) → judged x y es ≡ Ok p → ◌≡◌ {A = ℕ × ℕ} (x, y) p
-unfolding judged
-judged_is x y es p h = judged_by x y p (x == 0) (fits_in es x y) (has x (path_in es y)) h
+judged_is : (x y : ℕ) (es : List Entry) (p : ℕ × ℕ) → move_judged x y es ≡ Ok p → ◌≡◌ {A = ℕ × ℕ} (x, y) p
+unfolding move_judged
+judged_is x y es p h = judged_by x y p (x == 0) (fits_in es x y) (has x (places_from es y)) h
 
 move_by : (es : List Entry) (a b : Option ℕ) (p : ℕ × ℕ)
-    → ◌≡◌ {A = Result (ℕ × ℕ) DbFault} (option_map_or (λ x. option_map_or (λ y. judged x y es) b (Err NoSuchObject)) a (Err NoSuchObject)) (Ok p) → moved_at a b es ≡ moved p.0 p.1 es
+    → ◌≡◌ {A = Result (ℕ × ℕ) DbFault} (option_map_or (λ x. option_map_or (λ y. move_judged x y es) b (Err NoSuchObject)) a (Err NoSuchObject)) (Ok p) → moved_at a b es ≡ moved p.0 p.1 es
 move_by es None b p h = absurd (cc (h))
 move_by es (Some x) None p h = absurd (cc (h))
 move_by es (Some x) (Some y) p h = ap (λ q. moved q.0 q.1 es) (judged_is x y es p h)
@@ -108,13 +108,13 @@ makes_moved x to g es result d = by_cases (move_check x to (objects_of g)) refl 
     by_cases (Err fault) e d = (d.0, ap (λ z. with_objects z g) d.1)
 
 pub makes_named : (x : Dbref) (name : List ℕ) (g : Guard) (es : List Entry) (result : Result (Unit {0}) DbFault)
-    → Does (set_at (with_name name)) (checked any x (objects_of g)) (objects_of g) es result → Makes (named x name) (checked any x (objects_of g)) g (with_objects es g) result
-unfolding named
+    → Does (set_at (with_name name)) (checked every_number x (objects_of g)) (objects_of g) es result → Makes (name_given x name) (checked every_number x (objects_of g)) g (with_objects es g) result
+unfolding name_given
 makes_named x name g es result d = makes_one (set_at (with_name name)) x _ g es result (λ n e. checked_number _ x (objects_of g) n e) d
 
 pub makes_owned : (x owner : Dbref) (g : Guard) (es : List Entry) (result : Result (Unit {0}) DbFault)
-    → Does (set_at (with_owner owner)) (owner_check x owner (objects_of g)) (objects_of g) es result → Makes (owned_by x owner) (owner_check x owner (objects_of g)) g (with_objects es g) result
-unfolding owned_by owner_check
+    → Does (set_at (with_owner owner)) (owner_check x owner (objects_of g)) (objects_of g) es result → Makes (object_owned_by x owner) (owner_check x owner (objects_of g)) g (with_objects es g) result
+unfolding object_owned_by owner_check
 makes_owned x owner g es result d = makes_one (set_at (with_owner owner)) x _ g es result (λ n e. both_number _ x owner (objects_of g) n e) d
 
 pub makes_linked : (x to : Dbref) (g : Guard) (es : List Entry) (result : Result (Unit {0}) DbFault)
@@ -143,13 +143,13 @@ unfolding recycled_now recycle_check
 makes_recycled x g es result d = makes_one recycled x _ g es result (λ n e. checked_number _ x (objects_of g) n e) d
 
 pub makes_unstored : (x : Dbref) (path : List (List ℕ)) (g : Guard) (es : List Entry) (result : Result (Unit {0}) DbFault)
-    → Does (set_at (without_prop path)) (checked any x (objects_of g)) (objects_of g) es result → Makes (unstored x path) (checked any x (objects_of g)) g (with_objects es g) result
+    → Does (set_at (without_prop path)) (checked every_number x (objects_of g)) (objects_of g) es result → Makes (unstored x path) (checked every_number x (objects_of g)) g (with_objects es g) result
 unfolding unstored
 makes_unstored x path g es result d = makes_one (set_at (without_prop path)) x _ g es result (λ n e. checked_number _ x (objects_of g) n e) d
 
 pub tries_stored : (x : Dbref) (path : List (List ℕ)) (value : PropValue) (g : Guard) (es : List Entry) (result : Result (Unit {0}) DbFault)
-    → setting.Tries (set_at (with_prop path value)) (checked any x (objects_of g)) (objects_of g) es result → Tries (stored x path value) (checked any x (objects_of g)) g (with_objects es g) result
-unfolding stored
+    → setting.Tries (set_at (with_prop path value)) (checked every_number x (objects_of g)) (objects_of g) es result → Tries (property_stored x path value) (checked every_number x (objects_of g)) g (with_objects es g) result
+unfolding property_stored
 tries_stored x path value g es result d = tries_one (set_at (with_prop path value)) x _ g es result (λ n e. checked_number _ x (objects_of g) n e) d
 
 pub tries_password : (x : Dbref) (salt : ℕ) (word : List ℕ) (g : Guard) (es : List Entry) (result : Result (Unit {0}) DbFault)

@@ -1,7 +1,7 @@
 -- Changes of the world of a guard, one after another.
 use Rattle.std.proofs.Common.{◌≡◌, refl, ◌∙◌, ap, Result, Ok, Err}
 use Rattle.muck_model.specs.declared.memory.NoMemory.{NoMemory}
-use Rattle.spec_live.specs.Lives.{Change, followed}
+use Rattle.spec_live.specs.Lives.{Change, change_followed}
 use Rattle.muck_perm.specs.declared.guard.Guard.{Guard}
 use Rattle.muck_perm.specs.inner.Guards.{Same, Kept, Done, Did}
 
@@ -17,10 +17,10 @@ same_after a b c p q = (q.0 ∙ p.0, q.1 ∙ p.1)
 pub kept_after : (a b c : Guard) → Kept a b → Kept b c → Kept a c
 kept_after a b c p q = (q.0 ∙ p.0, same_after a b c p.1 q.1)
 
-pub done_both : (f g : Change) (a b c : Guard) → Done f a b → Done g b c → Done (followed f g) a c
-unfolding followed
+pub done_both : (f g : Change) (a b c : Guard) → Done f a b → Done g b c → Done (change_followed f g) a c
+unfolding change_followed
 done_both f g a b c p q = (q.0 ∙ ap g p.0, kept_after a b c p.1 q.1)
 
-pub did_both : {X : Type 0} (f g : Change) (a b c : Guard) (r : Result X NoMemory) → Done f a b → Did g b c r → Did (followed f g) a c r
+pub did_both : {X : Type 0} (f g : Change) (a b c : Guard) (r : Result X NoMemory) → Done f a b → Did g b c r → Did (change_followed f g) a c r
 did_both f g a b c (Ok x) p q = done_both f g a b c p q
 did_both f g a b c (Err e) p q = same_after a b c p.1.1 q

@@ -10,13 +10,13 @@ ghost use Rattle.spec_live.specs.Lives.{tell, tell_player, tell_but, tell_others
 ghost use Rattle.spec_live.specs.Flags.{with_flag, without_flag};
 ghost use Rattle.spec_live.specs.Moving.{move_check};
 ghost use Rattle.spec_live.specs.Making.{create_check};
-ghost use Rattle.spec_live.specs.Setting.{any, checked, owner_check, link_check, home_check, flags_check, level_check, lines_check, password_check, with_link, with_home, with_level};
+ghost use Rattle.spec_live.specs.Setting.{every_number, checked, owner_check, link_check, home_check, flags_check, level_check, lines_check, password_check, with_link, with_home, with_level};
 ghost use Rattle.spec_live.specs.Recycling.{recycle_check};
 ghost use Rattle.spec_rights.specs.declared.act.Act.{Act};
 ghost use Rattle.spec_rights.specs.Levels.{level_at};
 ghost use Rattle.spec_rights.specs.Verdict.{is_guarded};
 ghost use Rattle.spec_live.specs.Worth.{message_at, lock_text};
-ghost use Rattle.spec_rights.specs.Changing.{named, owned_by, linked, homed, leveled, lines_kept, stored, unstored, moved_to, recycled_now, created_so, is_flag, flag_set, flag_cleared, password_kept, booted, tuned};
+ghost use Rattle.spec_rights.specs.Changing.{name_given, object_owned_by, linked, homed, leveled, lines_kept, property_stored, unstored, moved_to, recycled_now, created_so, is_flag, flag_set, flag_cleared, password_kept, connections_left, tuned};
 ghost use Rattle.spec_rights.specs.Licence.{at_hand};
 ghost use Rattle.muck_perm.specs.inner.Guards.{objects_of, world_of, Did, Done, IsLeave, IsGiven, is_here, Makes, Tries, Founds, flags_at, home_in, may_lead, may_house};
 
@@ -236,7 +236,7 @@ impl<'a> Guard<'a> {
         requires leave { IsLeave pass (Act.Rename object) self.old }
         requires some { 1 ≤ length name }
         requires short { length name ≤ 80 }
-        ensures { Makes (named object name) (checked any object (objects_of self.old)) self.old self.new result }
+        ensures { Makes (name_given object name) (checked every_number object (objects_of self.old)) self.old self.new result }
     {
         let _ = pass;
         self.db.set_name(object, name)
@@ -247,7 +247,7 @@ impl<'a> Guard<'a> {
     #[tactic(auto, using(crate::proofs::Guarding::makes_owned))]
     pub fn set_owner(&mut self, pass: Pass, object: Dbref, owner: Dbref) -> Result<(), DbFault>
         requires leave { IsLeave pass (Act.SetOwner object owner) self.old }
-        ensures { Makes (owned_by object owner) (owner_check object owner (objects_of self.old)) self.old self.new result }
+        ensures { Makes (object_owned_by object owner) (owner_check object owner (objects_of self.old)) self.old self.new result }
     {
         let _ = pass;
         self.db.set_owner(object, owner)
@@ -358,7 +358,7 @@ impl<'a> Guard<'a> {
         value: PropValue,
     ) -> Result<(), DbFault>
         requires leave { IsLeave pass (Act.Write object path) self.old }
-        ensures { Tries (stored object path value) (checked any object (objects_of self.old)) self.old self.new result }
+        ensures { Tries (property_stored object path value) (checked every_number object (objects_of self.old)) self.old self.new result }
     {
         let _ = pass;
         self.db.put_prop(object, path, value)
@@ -368,7 +368,7 @@ impl<'a> Guard<'a> {
     #[tactic(auto, using(crate::proofs::Guarding::makes_unstored))]
     pub fn unstore(&mut self, pass: Pass, object: Dbref, path: &Path) -> Result<(), DbFault>
         requires leave { IsLeave pass (Act.Write object path.now) self.old }
-        ensures { Makes (unstored object path.now) (checked any object (objects_of self.old)) self.old self.new result }
+        ensures { Makes (unstored object path.now) (checked every_number object (objects_of self.old)) self.old self.new result }
     {
         let _ = pass;
         self.db.remove_prop(object, path)
@@ -386,7 +386,7 @@ impl<'a> Guard<'a> {
     ) -> Result<(), DbFault>
         requires leave { IsLeave pass (Act.Change object) self.old }
         requires guarded { is_guarded (class_of path) ≡ true }
-        ensures { Tries (stored object path value) (checked any object (objects_of self.old)) self.old self.new result }
+        ensures { Tries (property_stored object path value) (checked every_number object (objects_of self.old)) self.old self.new result }
     {
         let _ = pass;
         self.db.put_prop(object, path, value)
@@ -397,7 +397,7 @@ impl<'a> Guard<'a> {
     pub fn unstore_message(&mut self, pass: Pass, object: Dbref, path: &Path) -> Result<(), DbFault>
         requires leave { IsLeave pass (Act.Change object) self.old }
         requires guarded { is_guarded (class_of path.now) ≡ true }
-        ensures { Makes (unstored object path.now) (checked any object (objects_of self.old)) self.old self.new result }
+        ensures { Makes (unstored object path.now) (checked every_number object (objects_of self.old)) self.old self.new result }
     {
         let _ = pass;
         self.db.remove_prop(object, path)
@@ -423,10 +423,10 @@ impl<'a> Guard<'a> {
     }
 
     /// The connections of a player are to leave.
-    #[tactic(auto, unfolding(spec_rights::specs::Changing::booted, spec_live::specs::Boards::left_player))]
+    #[tactic(auto, unfolding(spec_rights::specs::Changing::connections_left, spec_live::specs::Boards::left_player))]
     pub fn boot(&mut self, pass: Pass, player: Dbref)
         requires { IsLeave pass Act.Wizard self.old }
-        ensures { Done (booted player) self.old self.new }
+        ensures { Done (connections_left player) self.old self.new }
     {
         let _ = pass;
         self.board.leave_player(player);

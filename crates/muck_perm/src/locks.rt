@@ -23,9 +23,9 @@ fn kept_lock<'a>(paths: &KnownPaths, object: &'a Object) -> Option<&'a PropValue
 fn kept_opens(db: &Db, x: Dbref, kept: &PropValue) -> bool
     ensures { result ≡ kept_opens db.now x kept.now }
 {
-    match kept {
-        PropValue::Text(text) => text_opens(text, db, x),
-        PropValue::Number(_) => false,
+    match kept.text() {
+        Some(text) => text_opens(text, db, x),
+        None => false,
     }
 }
 
@@ -64,8 +64,5 @@ pub fn lock_text(alloc: Global, db: &Db, d: Dbref) -> Result<Line, NoMemory>
 pub fn message_at<'a>(db: &'a Db, d: Dbref, path: &Path) -> Option<&'a Line>
     ensures { option_copied result ≡ message_at path.now d db.now }
 {
-    match db.get(d)?.props().get(path) {
-        Some(PropValue::Text(text)) => Some(text),
-        _ => None,
-    }
+    db.get(d)?.props().get(path)?.text()
 }

@@ -3,7 +3,7 @@ ghost use Rattle.std.specs.Prelude.{◌≡◌, ◌<◌, Some, None};
 ghost use Rattle.std.specs.Option.{option_map};
 ghost use Rattle.muck_prop.specs.Paths.{class_of};
 ghost use Rattle.spec_rights.specs.declared.act.Act.{Act};
-ghost use Rattle.spec_rights.specs.Verdict.{verdict, when, controls, controls_or, is_near, open_place, open_target, may_build, may_take_over, is_program_at, place_of, below, is_hidden, is_kept, is_private, is_guarded, is_plain};
+ghost use Rattle.spec_rights.specs.Verdict.{verdict, when, controls, controls_or, is_near, open_place, open_target, may_build, may_take_over, is_program_at, place_or_nothing, is_below_level, is_hidden, is_kept_class, is_private, is_guarded, is_plain};
 ghost use Rattle.spec_rights.specs.inner.Numbers.{denial};
 ghost use Rattle.muck_perm.specs.inner.Verdicts.{IsVerdict};
 
@@ -261,7 +261,7 @@ fn controls_or(flag: u16, db: &Db, actor: &Actor, d: Dbref) -> bool
 
 // Whether the actor is below the level and doesn't control the object.
 fn below(level: u8, db: &Db, actor: &Actor, d: Dbref) -> bool
-    ensures { result ≡ below level db.now actor.now d }
+    ensures { result ≡ is_below_level level db.now actor.now d }
 {
     actor.level < level && !controls(db, actor, d)
 }
@@ -300,7 +300,7 @@ fn is_program_at(db: &Db, d: Dbref) -> bool
 }
 
 fn place_of(db: &Db, d: Dbref) -> Dbref
-    ensures { result ≡ place_of db.now d }
+    ensures { result ≡ place_or_nothing db.now d }
 {
     match db.get(d) {
         Some(object) => object.place(),

@@ -5,7 +5,7 @@ ghost use Rattle.spec_live.specs.Flags.{has_flag, flag_of};
 ghost use Rattle.spec_live.specs.Objects.{object_at, index_of};
 ghost use Rattle.spec_live.specs.Lives.{Live};
 ghost use Rattle.spec_live.specs.Seen.{kind_letter, flag_letters, level_letters, long_form};
-ghost use Rattle.spec_rights.specs.Levels.{number_of, shown_as, name_shown};
+ghost use Rattle.spec_rights.specs.Levels.{dbref_number, shown_as, name_shown};
 
 use crate::levels::{command_level, controls_as};
 use itoa::Buffer;
@@ -92,7 +92,7 @@ pub fn long_form(alloc: Global, n: u32, object: &Object) -> Result<Vec<u8>, NoMe
 
 // The number that is written behind a name.
 fn number_of(d: Dbref) -> u32
-    ensures { result ≡ number_of d }
+    ensures { result ≡ dbref_number d }
 {
     if d.0 < 0 { 0 } else { d.0 as u32 }
 }

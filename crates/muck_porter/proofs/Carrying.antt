@@ -1,12 +1,13 @@
 -- How a turn carries the books over.
-use Rattle.std.proofs.Common.{◌≡◌, ℕ, zero, suc, ◌≤◌, Bool, false, List, [], ◌∷◌, ◌++◌, set, take, refl, sym, ap, ◌∙◌, subst, inl, inr, arith, Option, Some, None}
+use Rattle.std.proofs.Common.{◌≡◌, ℕ, ◌≤◌, Bool, false, List, [], ◌∷◌, ◌++◌, set, take, refl, sym, ap, ◌∙◌, subst, inl, inr, arith, Option, Some, None}
 use Rattle.std.specs.Prelude.{is_some, if◌then◌else◌}
 use Rattle.std.specs.List.{remove}
 use Rattle.std.proofs.lemmas.List.{append-nil}
 use mathlib.Core.Option.{some}
 use lib.ListN.{get_elem?}
+use Rattle.muck_laws.proofs.Places.{set_same}
 use Rattle.turn_lock.specs.Histories.{StartsWith, own_of}
-use Rattle.muck_links.specs.Sessions.{Told, on_session, shut}
+use Rattle.muck_links.specs.Sessions.{LinksTold, on_session, shut}
 use Rattle.muck_model.specs.declared.event.Entry.{Entry}
 use Rattle.muck_model.specs.declared.event.Event.{Event}
 use Rattle.muck_model.specs.declared.event.Event.TheVariants.{Opened, Input, Closed, Moment, Take, Halt, StopSeen, Died}
@@ -33,22 +34,14 @@ use Rattle.spec_serve.proofs.Pairs.{all2_map}
 use Rattle.spec_serve.proofs.Promising.{books_promised}
 use Rattle.spec_serve.proofs.Connecting.{nobody_there}
 use Rattle.spec_serve.proofs.Turning.{turn_others, turn_quiet, turn_heard, turn_taken, turn_opened, turn_closed, turn_halted}
-use Rattle.muck_machine.specs.inner.Beginnings.{begun}
-use Rattle.muck_machine.specs.inner.Seats.{Sight, Waited}
+use Rattle.muck_work.specs.inner.Beginnings.{begun}
+use Rattle.muck_work.specs.inner.Seats.{Sight, Waited}
 use Rattle.muck_peer.specs.Moves.{PeerStep, HasCause}
 use Rattle.muck_porter.specs.inner.Notes.{first_note, note_in}
 use Rattle.muck_porter.specs.inner.Kept.{tally, BooksAt, PromisedIn, KeptBy}
 use Rattle.muck_porter.specs.inner.Turns.{Marked, PorterTurn}
 use Rattle.muck_porter.specs.inner.Moves.{MayHalt, LastEntry}
 use Rattle.muck_porter.proofs.Items.{same_world, note_append, some_is}
-
-pub set_again : {A : Type 0} (xs : List A) (i : ℕ) (a : A) → get_elem? xs i ≡ some a → set xs i a ≡ xs
-set_again [] i a e = refl
-set_again (x ∷ xs) zero a e = ap (λ y. y ∷ xs) (sym (same x a e))
-  where
-    same : {A : Type 0} (x a : A) → some x ≡ some a → x ≡ a
-    same x a e = cc
-set_again (x ∷ xs) (suc i) a e = ap (λ l. x ∷ l) (set_again xs i a e)
 
 -- an event that no link sees
 pub record IsQuiet (event : Event) : Type 0 where
@@ -76,7 +69,7 @@ pub record Placed (w u : World) (seen h : List Entry) : Type 0 where
   pub world : w ≡ after u h
   pub nobody : u.live.board.connections ≡ []
 
-module _ (noted noted' : Bool) (k : Told) (v v' : Sight) (w : World) (event : Event) (turn : PorterTurn noted noted' k v v' w event) where
+module _ (noted noted' : Bool) (k : LinksTold) (v v' : Sight) (w : World) (event : Event) (turn : PorterTurn noted noted' k v v' w event) where
   -- what the seat's own items say of the note of the links
   note_after : note_in v'.own ≡ first_note (note_in v.own) turn.item.counted
   note_after = ap note_in turn.own ∙ note_append v.own (turn.item ∷ []) ∙ ap (first_note (note_in v.own)) (first_none turn.item.counted)
@@ -187,16 +180,16 @@ module _ (noted noted' : Bool) (k : Told) (v v' : Sight) (w : World) (event : Ev
         (sym (same ∙ ap (λ (x : World). let q : Peer = record p { unsent = take m (queue_of p.number x) } in q) pl.world))
         (turn_taken u seen h pl.lawful pl.more pl.own (note_in v'.own) b (tally k n) peers coming i p m at none_kept x))) bk
     carries_peer b n peers coming i p p' at (PeerStep.timed t is same) bk =
-        subst (λ (ps : List Peer). BooksAt b v' (tally k n) ps coming) (sym (ap (set peers i) same ∙ set_again peers i p at))
+        subst (λ (ps : List Peer). BooksAt b v' (tally k n) ps coming) (sym (ap (set peers i) same ∙ set_same peers i p at))
         (carries_quiet b n peers coming (subst IsQuiet (sym is) (quiet_moment t)) bk)
 
     -- a connection is closed, and then its link
-    pub carries_closed : (b : Tally) (n : ℕ) (k' : Told) (peers : List Peer) (coming : Option ℕ) (i : ℕ) (p : Peer) → get_elem? peers i ≡ some p → event ≡ Closed p.number → HasCause p w
+    pub carries_closed : (b : Tally) (n : ℕ) (k' : LinksTold) (peers : List Peer) (coming : Option ℕ) (i : ℕ) (p : Peer) → get_elem? peers i ≡ some p → event ≡ Closed p.number → HasCause p w
         → k' ≡ on_session p.number shut k → BooksAt b v (tally k n) peers coming → BooksAt b v' (tally k' n) (remove peers i) coming
     carries_closed b n k' peers coming i p at is cause told bk =
         turn_books b n (tally k' n) peers (remove peers i) coming coming (omega arith)
         (λ l u seen h pl x. same_event b (tally k n) (tally k' n) peers (remove peers i) coming coming u h (Closed p.number) is
-        (subst (λ (x : Told). BooksOf (note_in v'.own) b u (h ++ by_porter (Closed p.number) ∷ []) (tally x n) (remove peers i) coming) (sym told)
+        (subst (λ (x : LinksTold). BooksOf (note_in v'.own) b u (h ++ by_porter (Closed p.number) ∷ []) (tally x n) (remove peers i) coming) (sym told)
         (turn_closed u seen h pl.lawful pl.more pl.own (note_in v'.own) b (tally k n) peers coming i p at
         (λ t s y. subst (λ (z : World). Cause (note_in v'.own) z t s) pl.world (cause (note_in v'.own) t s y)) x))) bk
 

@@ -1,12 +1,10 @@
 -- What the porter does, against its books.
-use Rattle.std.proofs.Common.{◌≡◌, ℕ, zero, suc, ◌+◌, ◌<◌, ◌≤◌, Bool, true, false, List, [], ◌∷◌, length, set, refl, sym, ap, ◌∙◌, subst, ⊎_elim, arith, Option, Some, None}
+use Rattle.std.proofs.Common.{◌≡◌, ℕ, Bool, true, false, List, [], set, refl, sym, ap, ◌∙◌, subst, Option, Some, None}
 use Rattle.std.specs.Prelude.{is_some}
-use Rattle.std.proofs.lemmas.Bool.{cases_lt}
-use mathlib.Core.Option.{some, some-ne-none, some-injective}
-use mathlib.Core.Logic.{dite}
-use native.Mathlib.Decide.{ℕ_discrete}
+use mathlib.Core.Option.{some, some-injective}
 use lib.ListN.{get_elem?}
-use Rattle.muck_links.specs.Sessions.{Told, on_session, shut}
+use Rattle.muck_laws.proofs.Places.{set_set, set_there}
+use Rattle.muck_links.specs.Sessions.{LinksTold, on_session, shut}
 use Rattle.muck_model.specs.declared.event.Event.{Event}
 use Rattle.muck_model.specs.declared.event.Event.TheVariants.{Died}
 use Rattle.spec_events.specs.declared.logged.Logged.{Logged}
@@ -20,10 +18,10 @@ use Rattle.spec_serve.specs.Marks.{LinksNote}
 use Rattle.spec_serve.specs.Promises.{Tally, PromisedOf}
 use Rattle.spec_serve.specs.inner.Keeping.{Peer}
 use Rattle.spec_serve.specs.inner.Books.{BooksOf}
-use Rattle.spec_serve.proofs.Booking.{books_linked, set_there}
+use Rattle.spec_serve.proofs.Booking.{books_linked}
 use Rattle.spec_serve.proofs.Promising.{books_lost}
-use Rattle.muck_machine.specs.inner.Seats.{Sight, Chair, Rests, Left, Waited}
-use Rattle.muck_machine.proofs.Seating.{left_rests}
+use Rattle.muck_work.specs.inner.Seats.{Sight, Chair, Rests, Left, Waited}
+use Rattle.muck_work.proofs.Seating.{left_rests}
 use Rattle.muck_peer.specs.Moves.{LinkStep, LinkLoss}
 use Rattle.muck_porter.specs.inner.Notes.{note_in}
 use Rattle.muck_porter.specs.inner.Kept.{tally, BooksAt, PromisedIn, IsAt, IsFree, Resting, Ready, ReadyTimed, Over}
@@ -36,60 +34,50 @@ use Rattle.muck_porter.proofs.Carrying.{IsQuiet, quiet_moment, quiet_died, turn_
 
 -- Places in a list.
 
-pub set_set : {A : Type 0} (xs : List A) (i : ℕ) (v w : A) → set (set xs i v) i w ≡ set xs i w
-set_set [] i v w = refl
-set_set (x ∷ xs) zero v w = refl
-set_set (x ∷ xs) (suc i) v w = ap (λ l. x ∷ l) (set_set xs i v w)
-
-pub at_below : {A : Type 0} (xs : List A) (i : ℕ) (a : A) → get_elem? xs i ≡ some a → i < length xs
-at_below [] i a e = absurd (some-ne-none a (sym e))
-at_below (x ∷ xs) zero a e = omega arith
-at_below (x ∷ xs) (suc i) a e = let h = at_below xs i a e in omega arith
-
 -- Calls of the links.
 
-pub linked_books : (b : Tally) (v : Sight) (k k' : Told) (n : ℕ) (peers : List Peer) (coming : Option ℕ) (i : ℕ) (p p' : Peer) → get_elem? peers i ≡ some p → LinkStep (note_in v.own) p p' k k'
+pub linked_books : (b : Tally) (v : Sight) (k k' : LinksTold) (n : ℕ) (peers : List Peer) (coming : Option ℕ) (i : ℕ) (p p' : Peer) → get_elem? peers i ≡ some p → LinkStep (note_in v.own) p p' k k'
     → BooksAt b v (tally k n) peers coming → BooksAt b v (tally k' n) (set peers i p') coming
 linked_books b v k k' n peers coming i p p' at step bk u m root =
     let bi = bk u m root in
     record {
       nobody = bi.nobody;
       later = bi.later;
-      books = subst (λ (x : Told). BooksOf (note_in v.own) b u (entries_of v.seen) (tally x n) (set peers i p') coming) (sym step.told)
+      books = subst (λ (x : LinksTold). BooksOf (note_in v.own) b u (entries_of v.seen) (tally x n) (set peers i p') coming) (sym step.told)
           (books_linked (note_in v.own) b (talks u (entries_of v.seen)) (worlds_at is_halt u (entries_of v.seen)) (tally k n) peers coming i p p' step.change at step.number step.link step.refuses step.keeps bi.books);
     }
 
-pub lost_books : (b : Tally) (v : Sight) (k k' : Told) (n : ℕ) (peers : List Peer) (coming : Option ℕ) (i : ℕ) (p : Peer) → get_elem? peers i ≡ some p → LinkLoss (note_in v.own) p k k'
+pub lost_books : (b : Tally) (v : Sight) (k k' : LinksTold) (n : ℕ) (peers : List Peer) (coming : Option ℕ) (i : ℕ) (p : Peer) → get_elem? peers i ≡ some p → LinkLoss (note_in v.own) p k k'
     → BooksAt b v (tally k n) peers coming → PromisedIn b v v.seen (tally k' n)
 lost_books b v k k' n peers coming i p at loss bk u m root =
-    subst (λ (x : Told). PromisedOf (note_in v.own) b u (entries_of v.seen) (tally x n)) (sym loss.told)
+    subst (λ (x : LinksTold). PromisedOf (note_in v.own) b u (entries_of v.seen) (tally x n)) (sym loss.told)
     (books_lost (note_in v.own) b (talks u (entries_of v.seen)) (worlds_at is_halt u (entries_of v.seen)) (tally k n) peers coming i p loss.change at loss.link loss.refuses loss.agrees (bk u m root).books)
 
 -- no call for a link asks to listen
 
-pub ports_stepped : (noted : Bool) (k k' : Told) (p p' : Peer) → ((counted : LinksNote) → is_some counted ≡ noted → LinkStep counted p p' k k') → k'.ports ≡ k.ports
-ports_stepped true k k' p p' step = ap (λ (x : Told). x.ports) (step (Some []) refl).told
-ports_stepped false k k' p p' step = ap (λ (x : Told). x.ports) (step None refl).told
+pub ports_stepped : (noted : Bool) (k k' : LinksTold) (p p' : Peer) → ((counted : LinksNote) → is_some counted ≡ noted → LinkStep counted p p' k k') → k'.ports ≡ k.ports
+ports_stepped true k k' p p' step = ap (λ (x : LinksTold). x.ports) (step (Some []) refl).told
+ports_stepped false k k' p p' step = ap (λ (x : LinksTold). x.ports) (step None refl).told
 
 -- what is kept of a link is written, and it is read
-pub tends_both : (noted : Bool) (k k1 k2 : Told) (p p1 p2 : Peer) → ((counted : LinksNote) → is_some counted ≡ noted → LinkStep counted p p1 k k1) → ((counted : LinksNote) → LinkStep counted p1 p2 k1 k2)
+pub tends_both : (noted : Bool) (k k1 k2 : LinksTold) (p p1 p2 : Peer) → ((counted : LinksNote) → is_some counted ≡ noted → LinkStep counted p p1 k k1) → ((counted : LinksNote) → LinkStep counted p1 p2 k1 k2)
     → TendsPeer noted k k2 p p2
 tends_both noted k k1 k2 p p1 p2 first second v b peers coming i n known at bk =
     subst (λ (ps : List Peer). BooksAt b v (tally k2 n) ps coming) (set_set peers i p1 p2)
     (linked_books b v k1 k2 n (set peers i p1) coming i p1 p2 (set_there peers i p p1 at) (second (note_in v.own))
     (linked_books b v k k1 n peers coming i p p1 at (first (note_in v.own) known) bk))
 
-pub loses_both : (noted : Bool) (k k1 k2 : Told) (p p1 : Peer) → ((counted : LinksNote) → is_some counted ≡ noted → LinkStep counted p p1 k k1) → ((counted : LinksNote) → LinkLoss counted p1 k1 k2)
+pub loses_both : (noted : Bool) (k k1 k2 : LinksTold) (p p1 : Peer) → ((counted : LinksNote) → is_some counted ≡ noted → LinkStep counted p p1 k k1) → ((counted : LinksNote) → LinkLoss counted p1 k1 k2)
     → LosesPeer noted k k2 p
 loses_both noted k k1 k2 p p1 first second v b peers coming i n known at bk =
     lost_books b v k1 k2 n (set peers i p1) coming i p1 (set_there peers i p p1 at) (second (note_in v.own))
     (linked_books b v k k1 n peers coming i p p1 at (first (note_in v.own) known) bk)
 
-pub tends_more : (noted : Bool) (k k1 k2 : Told) (ps ps1 ps2 : List Peer) (i : ℕ) (p p' : Peer) → get_elem? ps1 i ≡ some p → ps2 ≡ set ps1 i p' → Tends noted k k1 ps ps1 → TendsPeer noted k1 k2 p p' → Tends noted k k2 ps ps2
+pub tends_more : (noted : Bool) (k k1 k2 : LinksTold) (ps ps1 ps2 : List Peer) (i : ℕ) (p p' : Peer) → get_elem? ps1 i ≡ some p → ps2 ≡ set ps1 i p' → Tends noted k k1 ps ps1 → TendsPeer noted k1 k2 p p' → Tends noted k k2 ps ps2
 tends_more noted k k1 k2 ps ps1 ps2 i p p' at same first second v b coming n known bk =
     subst (λ (l : List Peer). BooksAt b v (tally k2 n) l coming) (sym same) (second v b ps1 coming i n known at (first v b coming n known bk))
 
-pub loses_more : (noted : Bool) (k k1 k2 : Told) (ps ps1 : List Peer) (i : ℕ) (p : Peer) → get_elem? ps1 i ≡ some p → Tends noted k k1 ps ps1 → LosesPeer noted k1 k2 p → Loses noted k k2 ps
+pub loses_more : (noted : Bool) (k k1 k2 : LinksTold) (ps ps1 : List Peer) (i : ℕ) (p : Peer) → get_elem? ps1 i ≡ some p → Tends noted k k1 ps ps1 → LosesPeer noted k1 k2 p → Loses noted k k2 ps
 loses_more noted k k1 k2 ps ps1 i p at first second v b coming n known bk = second v b ps1 coming i n known at (first v b coming n known bk)
 
 -- Where a turn ends.
@@ -101,17 +89,17 @@ pub over_waited : (me me' : Chair) → Left 0 me' → Waited me.0 me'.0 → IsWe
 over_waited me me' left waited formed = record { left = left; formed = subst (λ (ls : List Logged). IsWellFormed 0 (events_of ls)) (sym waited.1) formed }
 
 -- all turns were had
-pub last_waited : (me me' : Chair) (k : Told) (n : ℕ) → Rests 0 me → Waited me.0 me'.0 → LastEntry (tally k n) (tally k n) me.0 me'.0
+pub last_waited : (me me' : Chair) (k : LinksTold) (n : ℕ) → Rests 0 me → Waited me.0 me'.0 → LastEntry (tally k n) (tally k n) me.0 me'.0
 last_waited me me' k n r waited b promise = kept_waited b me.0 me'.0 (tally k n) r.own waited promise
 
 -- what is promised ends so
 pub ends_last : (v v' : Sight) (K K' : Tally) (peers : List Peer) (coming : Option ℕ) → LastEntry K K' v v' → Ends v v' K K' peers coming
 ends_last v v' K K' peers coming last b bk = last b (promised_in b v K peers coming bk)
 
-pub ends_waited : (me me' : Chair) (k : Told) (n : ℕ) (peers : List Peer) (coming : Option ℕ) → Rests 0 me → Waited me.0 me'.0 → Ends me.0 me'.0 (tally k n) (tally k n) peers coming
+pub ends_waited : (me me' : Chair) (k : LinksTold) (n : ℕ) (peers : List Peer) (coming : Option ℕ) → Rests 0 me → Waited me.0 me'.0 → Ends me.0 me'.0 (tally k n) (tally k n) peers coming
 ends_waited me me' k n peers coming r waited = ends_last me.0 me'.0 (tally k n) (tally k n) peers coming (last_waited me me' k n r waited)
 
-module _ (noted noted' : Bool) (k : Told) (me me' : Chair) (w : World) (event : Event) (r : Rests 0 me') (turn : PorterTurn noted noted' k me.0 me'.0 w event) (known : noted ≡ is_some (note_in me.0.own)) where
+module _ (noted noted' : Bool) (k : LinksTold) (me me' : Chair) (w : World) (event : Event) (r : Rests 0 me') (turn : PorterTurn noted noted' k me.0 me'.0 w event) (known : noted ≡ is_some (note_in me.0.own)) where
   -- memory was wanted
   pub died_last : (n : ℕ) → event ≡ Died → LastEntry (tally k n) (tally k n) me.0 me'.0
   died_last n is = last_entry noted noted' k me.0 me'.0 w event turn known n (subst IsQuiet (sym is) quiet_died) r.own
@@ -138,21 +126,12 @@ timed_ready noted me t = record { resting = t.resting; free = IsFree.timed t.tim
 
 -- Lists.
 
-pub one_more : {A : Type 0} (P : A → Type 0) (xs : List A) (n : ℕ) (x : A) → get_elem? xs n ≡ some x → P x
-    → ((i : ℕ) (a : A) → i < n → get_elem? xs i ≡ some a → P a) → (i : ℕ) (a : A) → i < n + 1 → get_elem? xs i ≡ some a → P a
-one_more P xs n x there here below i a lt at = dite (ℕ_discrete i n)
-    (λ e. subst P (some-injective x a (sym there ∙ sym (ap (λ m. get_elem? xs m) e) ∙ at)) here)
-    (λ ne. below i a (less i n ne lt) at)
-  where
-    less : (i n : ℕ) → ¬ (i ≡ n) → i < n + 1 → i < n
-    less i n ne lt = ⊎_elim (λ (h : i < n). h) (λ (h : n ≤ i). absurd (ne (omega arith))) (cases_lt i n)
-
 pub peer_closed : (ps : List Peer) (i : ℕ) (p p' : Peer) → p' ≡ p → set ps i p' ≡ set ps i p
 peer_closed ps i p p' same = ap (set ps i) same
 
-pub wrote_at : (i : ℕ) (noted : Bool) (k k' : Told) (ps : List Peer) (p p' : Peer) → get_elem? ps i ≡ some p → ((counted : LinksNote) → is_some counted ≡ noted → LinkStep counted p p' k k') → WroteAt i noted k k' ps (set ps i p')
+pub wrote_at : (i : ℕ) (noted : Bool) (k k' : LinksTold) (ps : List Peer) (p p' : Peer) → get_elem? ps i ≡ some p → ((counted : LinksNote) → is_some counted ≡ noted → LinkStep counted p p' k k') → WroteAt i noted k k' ps (set ps i p')
 wrote_at i noted k k' ps p p' at step q there =
     (p', refl, (λ counted marks. subst (λ (x : Peer). LinkStep counted x p' k k') (some-injective p q (sym at ∙ there)) (step counted marks)))
 
-pub closed_at : (i : ℕ) (k k' : Told) (ps : List Peer) (p : Peer) → get_elem? ps i ≡ some p → k' ≡ on_session p.number shut k → ClosedAt i k k' ps
+pub closed_at : (i : ℕ) (k k' : LinksTold) (ps : List Peer) (p : Peer) → get_elem? ps i ≡ some p → k' ≡ on_session p.number shut k → ClosedAt i k k' ps
 closed_at i k k' ps p at told q there = told ∙ ap (λ (x : Peer). on_session x.number shut k) (some-injective p q (sym at ∙ there))

@@ -1,17 +1,17 @@
 -- A hold of the porter, at its desk.
 use Rattle.std.proofs.Common.{◌≡◌, ℕ, ℤ, ◌≤◌, Bool, true, false, List, [], ◌∷◌, ◌++◌, ◌^◌, length, refl, sym, ap, ◌∙◌, subst, inl, inr, arith, Option, Some, None}
 use Rattle.atomic_table.specs.Seated.{TableId}
-use Rattle.muck_links.specs.Sessions.{Told}
+use Rattle.muck_links.specs.Sessions.{LinksTold}
 use Rattle.muck_model.specs.declared.event.Event.{Event}
 use Rattle.muck_model.specs.declared.event.Event.TheVariants.{Opened, Exec, Claim, Slice as SliceEvent, Lost, Idle as IdleEvent, Halt, StopSeen, Died}
 use Rattle.spec_events.specs.World.{World}
 use Rattle.spec_events.specs.Histories.{by_porter}
 use Rattle.spec_events.specs.Logged.{events_of}
-use Rattle.spec_events.specs.Own.{Stage, next, IsWellFormed}
+use Rattle.spec_events.specs.Own.{Stage, next_stage, IsWellFormed}
 use Rattle.spec_events.proofs.Owning.{over_with}
 use Rattle.spec_serve.specs.Promises.{Tally}
 use Rattle.spec_serve.specs.inner.Keeping.{Peer}
-use Rattle.muck_machine.specs.inner.Seats.{Chair, Rests, Left as LeftSeat, Waited}
+use Rattle.muck_work.specs.inner.Seats.{Chair, Rests, Left as LeftSeat, Waited}
 use Rattle.muck_peer.specs.Moves.{Clocked}
 use Rattle.muck_work.specs.declared.jobs.Job.TheVariants.{Line, Claim as JobClaim, Idle as JobIdle, Died as JobDied}
 use Rattle.muck_porter.specs.declared.desk.Fault.TheVariants.{NoMemory, Spent}
@@ -92,7 +92,7 @@ spent_deed deed d me' table' id' noted' may own waited left =
 
 pub spent_last : (deed : Deed) (d d' : Stand) → MayDo deed d → Waited d.me.0 d'.me.0 → d'.told ≡ d.told → d'.listening ≡ d.listening → EndsLast deed d d'
 spent_last Die d d' may waited told listening =
-    subst (λ (k : Told). LastEntry (tally d.told d.listening) (tally k d'.listening) d.me.0 d'.me.0) (sym told)
+    subst (λ (k : LinksTold). LastEntry (tally d.told d.listening) (tally k d'.listening) d.me.0 d'.me.0) (sym told)
     (subst (λ (n : ℕ). LastEntry (tally d.told d.listening) (tally d.told n) d.me.0 d'.me.0) (sym listening)
     (last_waited d.me d'.me d.told d.listening may.1.resting.rests waited))
 spent_last (Slice pid) d d' may waited told listening = tt
@@ -106,7 +106,7 @@ module _ (d : Stand) (me' : Chair) (table' : TableId) (id' : ℕ) (noted' : Bool
     (sits : Sits d) (resting : Resting d.noted d.me) (own : (table' ≡ d.seat_table) × (id' ≡ d.seat_id))
     (taken : Rests 0 me' × PorterTurn d.noted noted' d.told d.me.0 me'.0 w event) (clocked : Clocked d.answers answers' w event) where
   -- the desk behind it, with what else became of the links and of what is kept
-  abbrev pub held_with : Bool → Told → ℕ → List Peer → Option Peer → Stand
+  abbrev pub held_with : Bool → LinksTold → ℕ → List Peer → Option Peer → Stand
   held_with tells' told' listening' peers' coming' = record d {
     seat_table = table';
     seat_id = id';
@@ -123,7 +123,7 @@ module _ (d : Stand) (me' : Chair) (table' : TableId) (id' : ℕ) (noted' : Bool
   abbrev pub held : Stand
   held = held_with d.tells d.told d.listening d.peers d.coming
 
-  pub turn_goes : (far : Far) (tells' : Bool) (told' : Told) (listening' : ℕ) (peers' : List Peer) (coming' : Option Peer) → tells' ≡ d.tells → listening' ≡ d.listening → (d.tells ≡ true → told'.ports ≡ d.told.ports)
+  pub turn_goes : (far : Far) (tells' : Bool) (told' : LinksTold) (listening' : ℕ) (peers' : List Peer) (coming' : Option Peer) → tells' ≡ d.tells → listening' ≡ d.listening → (d.tells ≡ true → told'.ports ≡ d.told.ports)
       → Stands far (held_with tells' told' listening' peers' coming') → (d.tells ≡ true → (b : Tally) → Booked b d → Books far b (held_with tells' told' listening' peers' coming'))
       → Goes far d (held_with tells' told' listening' peers' coming')
   turn_goes far tells' told' listening' peers' coming' tells listening ports stands books = record {
@@ -148,10 +148,10 @@ module _ (d : Stand) (me' : Chair) (table' : TableId) (id' : ℕ) (noted' : Bool
   pub resting_held : Resting noted' me'
   resting_held = turn_resting d.noted noted' d.told d.me me' w event taken.0 taken.1 resting.known
 
-  pub at_stage : (e : Event) (stage later : Stage) → event ≡ e → IsAt stage d.me.0.own → next 0 stage e ≡ Some later → IsAt later me'.0.own
+  pub at_stage : (e : Event) (stage later : Stage) → event ≡ e → IsAt stage d.me.0.own → next_stage 0 stage e ≡ Some later → IsAt later me'.0.own
   at_stage e stage later is at may = stage_item d.me.0.own me'.0.own taken.1.item e stage later taken.1.own (taken.1.entry ∙ ap by_porter is) at may
 
-  pub at_free : (e : Event) (later : Stage) → event ≡ e → IsFree d.me.0.own → next 0 Stage.unbound e ≡ Some later → next 0 Stage.timed e ≡ Some later → IsAt later me'.0.own
+  pub at_free : (e : Event) (later : Stage) → event ≡ e → IsFree d.me.0.own → next_stage 0 Stage.unbound e ≡ Some later → next_stage 0 Stage.timed e ≡ Some later → IsAt later me'.0.own
   at_free e later is free u t = stage_free d.me.0.own me'.0.own taken.1.item taken.1.own e later (taken.1.entry ∙ ap by_porter is) free u t
 
   pub ready_at : IsAt Stage.unbound me'.0.own → Ready noted' me'
@@ -208,7 +208,7 @@ module _ (d : Stand) (me' : Chair) (table' : TableId) (id' : ℕ) (noted' : Bool
       cause (inl e) = inl (bk.broke e)
       cause (inr x) = inr x
 
-  slice_at : (pid : ℤ) (e : Event) → event ≡ e → IsAt (Stage.claimed pid) d.me.0.own → next 0 (Stage.claimed pid) e ≡ Some Stage.unbound → IsQuiet e → Goes Far.free d held
+  slice_at : (pid : ℤ) (e : Event) → event ≡ e → IsAt (Stage.claimed pid) d.me.0.own → next_stage 0 (Stage.claimed pid) e ≡ Some Stage.unbound → IsQuiet e → Goes Far.free d held
   slice_at pid e is at may q = goes_held Far.free (sits_held, ready_at (at_stage e (Stage.claimed pid) Stage.unbound is at may)) (λ t. unseen e is q)
 
   left_goes : Ready d.noted d.me → DidAs Leave Done noted' d.peers w event → Goes Far.left d held

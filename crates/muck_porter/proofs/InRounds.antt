@@ -1,8 +1,8 @@
 -- The parts of a round.
-use Rattle.std.proofs.Common.{true≢false, ◌≡◌, ◌⊎◌, ℕ, ℤ, ◌≤◌, Bool, true, false, List, [], ◌∷◌, ◌++◌, length, refl, sym, ap, ◌∙◌, subst, inl, inr, arith, eqb-true, Option, Some, None}
-use Rattle.std.specs.Prelude.{is_some, ◌==◌}
+use Rattle.std.proofs.Common.{true≢false, ◌≡◌, ◌⊎◌, ℕ, ℤ, ◌≤◌, Bool, true, false, List, [], ◌∷◌, ◌++◌, refl, sym, ap, ◌∙◌, subst, inl, inr, arith, Option, Some, None}
+use Rattle.std.specs.Prelude.{is_some}
 use Rattle.muck_io.specs.Faults.{Rose}
-use Rattle.muck_links.specs.Sessions.{Told, accepted, is_used}
+use Rattle.muck_links.specs.Sessions.{LinksTold, accepted, is_used}
 use Rattle.muck_model.specs.declared.event.Event.{Event}
 use Rattle.muck_model.specs.declared.event.Event.TheVariants.{Slice as SliceEvent, Lost, StopSeen, Died}
 use Rattle.muck_model.specs.declared.note.Note.{Note}
@@ -10,7 +10,7 @@ use Rattle.spec_events.specs.World.{World}
 use Rattle.spec_events.specs.Histories.{after, by_porter}
 use Rattle.spec_events.specs.Logged.{logged_by, entries_of, events_of}
 use Rattle.spec_events.specs.declared.logged.Logged.{Logged}
-use Rattle.spec_events.specs.Own.{stage_of, IsWellFormed, IsOver}
+use Rattle.spec_events.specs.Own.{stage_of, IsWellFormed, IsPartyOver}
 use Rattle.spec_events.proofs.Logging.{events_append}
 use Rattle.spec_events.proofs.Owning.{over_stop}
 use Rattle.turn_lock.specs.Histories.{own_of}
@@ -21,12 +21,12 @@ use Rattle.spec_serve.specs.inner.Keeping.{Peer, new_peer}
 use Rattle.spec_serve.specs.inner.Books.{BooksOf}
 use Rattle.spec_serve.proofs.Booking.{books_begin, books_still, books_came}
 use Rattle.spec_serve.proofs.Promising.{books_worked_off}
-use Rattle.muck_machine.specs.declared.world.Sliced.{Sliced}
-use Rattle.muck_machine.specs.declared.world.Sliced.TheVariants.{Ran, Lost as WasLost}
-use Rattle.muck_machine.specs.inner.Claims.{slice_event}
-use Rattle.muck_machine.specs.inner.Beginnings.{begun}
+use Rattle.muck_work.specs.declared.Sliced.{Sliced}
+use Rattle.muck_work.specs.declared.Sliced.TheVariants.{Ran, Lost as WasLost}
+use Rattle.muck_work.specs.inner.Claims.{slice_event}
+use Rattle.muck_work.specs.inner.Beginnings.{begun}
 use Rattle.muck_peer.specs.Moves.{IsUntimed}
-use Rattle.muck_machine.specs.inner.Seats.{Sight, Chair, Rests}
+use Rattle.muck_work.specs.inner.Seats.{Sight, Chair, Rests}
 use Rattle.muck_porter.specs.declared.deeds.Deed.{Deed}
 use Rattle.muck_porter.specs.declared.deeds.Deed.TheVariants.{Open, Slice, Time, Stop, Leave, Die}
 use Rattle.muck_porter.specs.declared.deeds.Did.{Did}
@@ -59,15 +59,15 @@ told_still b v K K' peers coming same more over bk u m root =
       books = books_still (note_in v.own) b (talks u (entries_of v.seen)) (worlds_at is_halt u (entries_of v.seen)) K K' peers coming same more over bi.books;
     }
 
-pub told_same_on : (v : Sight) (k k' : Told) (n n' : ℕ) (peers : List Peer) (coming : Option ℕ) → k' ≡ k → n ≤ n' → Carries v v (tally k n) (tally k' n') peers peers coming coming
+pub told_same_on : (v : Sight) (k k' : LinksTold) (n n' : ℕ) (peers : List Peer) (coming : Option ℕ) → k' ≡ k → n ≤ n' → Carries v v (tally k n) (tally k' n') peers peers coming coming
 told_same_on v k k' n n' peers coming same more b bk =
-    told_still b v (tally k n) (tally k' n') peers coming (ap (λ (x : Told). x.sessions) same) more (λ o. ap (λ (x : Told). x.over) same ∙ o) bk
+    told_still b v (tally k n) (tally k' n') peers coming (ap (λ (x : LinksTold). x.sessions) same) more (λ o. ap (λ (x : LinksTold). x.over) same ∙ o) bk
 
-pub told_over : (v : Sight) (k k' : Told) (n n' : ℕ) (peers : List Peer) (coming : Option ℕ) → k' ≡ record k { over = true } → n ≤ n' → Carries v v (tally k n) (tally k' n') peers peers coming coming
+pub told_over : (v : Sight) (k k' : LinksTold) (n n' : ℕ) (peers : List Peer) (coming : Option ℕ) → k' ≡ record k { over = true } → n ≤ n' → Carries v v (tally k n) (tally k' n') peers peers coming coming
 told_over v k k' n n' peers coming is more b bk =
-    told_still b v (tally k n) (tally k' n') peers coming (ap (λ (x : Told). x.sessions) is) more (λ o. ap (λ (x : Told). x.over) is) bk
+    told_still b v (tally k n) (tally k' n') peers coming (ap (λ (x : LinksTold). x.sessions) is) more (λ o. ap (λ (x : LinksTold). x.over) is) bk
 
-pub told_came : (v : Sight) (k k' : Told) (n n' : ℕ) (peers : List Peer) (d : ℕ) → (k' ≡ record k { sessions = accepted d ∷ k.sessions }) × (is_used d k.sessions ≡ false) → n ≤ n' → Carries v v (tally k n) (tally k' n') peers peers None (Some d)
+pub told_came : (v : Sight) (k k' : LinksTold) (n n' : ℕ) (peers : List Peer) (d : ℕ) → (k' ≡ record k { sessions = accepted d ∷ k.sessions }) × (is_used d k.sessions ≡ false) → n ≤ n' → Carries v v (tally k n) (tally k' n') peers peers None (Some d)
 told_came v k k' n n' peers d came more b bk u m root =
     let bi = bk u m root in
     let l = bi.later in
@@ -88,7 +88,7 @@ books_fresh b v unseen none nobody u m root = record {
       (subst (λ ls. BooksOf None b u (entries_of ls) b [] None) (sym unseen) (books_begin b));
 }
 
-module _ (noted noted' : Bool) (k : Told) (me me' : Chair) (w : World) (event : Event) (r : Rests 0 me') (turn : PorterTurn noted noted' k me.0 me'.0 w event) where
+module _ (noted noted' : Bool) (k : LinksTold) (me me' : Chair) (w : World) (event : Event) (r : Rests 0 me') (turn : PorterTurn noted noted' k me.0 me'.0 w event) where
   -- The porter leaves, where nothing bound it before.
   module _ (ready : Ready noted me) (ps : List Peer) (did : Did) where
     left_as : did ≡ Done → DidAs Leave did noted' ps w event → (event ≡ StopSeen) × (w.stopping ≡ true) × AllOff w ps
@@ -117,21 +117,13 @@ module _ (noted noted' : Bool) (k : Told) (me me' : Chair) (w : World) (event : 
 
 -- A link that came.
 
-pub came_carries : (v : Sight) (k k' : Told) (n n' : ℕ) (peers : List Peer) (d : ℕ) (p : Peer) → p ≡ new_peer d → (k' ≡ record k { sessions = accepted d ∷ k.sessions }) × (is_used d k.sessions ≡ false) → n ≤ n'
+pub came_carries : (v : Sight) (k k' : LinksTold) (n n' : ℕ) (peers : List Peer) (d : ℕ) (p : Peer) → p ≡ new_peer d → (k' ≡ record k { sessions = accepted d ∷ k.sessions }) × (is_used d k.sessions ≡ false) → n ≤ n'
     → Carries v v (tally k n) (tally k' n') peers peers None (Some p.number)
 came_carries v k k' n n' peers d p is came more =
     subst (λ (x : ℕ). Carries v v (tally k n) (tally k' n') peers peers None (Some x)) (sym (ap (λ (x : Peer). x.number) is)) (told_came v k k' n n' peers d came more)
 
-pub rose_since : (a n m : ℕ) → a ≤ n → Rose n m → Rose a m
-rose_since a n m le rose = omega arith
-
--- an empty list, as it is tested
-pub empty_of : {A : Type 0} (xs : List A) (b : Bool) → b ≡ true → b ≡ (length xs == 0) → xs ≡ []
-empty_of [] b is e = refl
-empty_of (x ∷ xs) b is e = let none = eqb-true (length (x ∷ xs)) 0 (sym e ∙ is) in absurd (omega arith)
-
 -- links that are tended
-pub tended : (noted : Bool) (v : Sight) (k k' : Told) (n n' : ℕ) (ps ps' : List Peer) → noted ≡ is_some (note_in v.own) → n' ≡ n → Tends noted k k' ps ps' → CarriesOn v v (tally k n) (tally k' n') ps ps'
+pub tended : (noted : Bool) (v : Sight) (k k' : LinksTold) (n n' : ℕ) (ps ps' : List Peer) → noted ≡ is_some (note_in v.own) → n' ≡ n → Tends noted k k' ps ps' → CarriesOn v v (tally k n) (tally k' n') ps ps'
 tended noted v k k' n n' ps ps' known same t coming b bk = subst (λ (m : ℕ). BooksAt b v (tally k' m) ps' coming) (sym same) (t v b coming n (sym known) bk)
 
 -- The porter begins.
@@ -206,8 +198,8 @@ died_did Die noted ps w = refl
 -- The link that comes, by another name.
 
 -- The porter has seen the stop: its own entries are over.
-pub stop_over : (own : List Logged) → EndsWithStop own → IsWellFormed 0 (events_of own) → IsOver 0 (events_of own)
+pub stop_over : (own : List Logged) → EndsWithStop own → IsWellFormed 0 (events_of own) → IsPartyOver 0 (events_of own)
 stop_over own ends formed =
     let events : events_of own ≡ events_of ends.0 ++ StopSeen ∷ [] =
     ap events_of ends.2 ∙ events_append ends.0 (ends.1 ∷ []) ∙ ap (λ e. events_of ends.0 ++ e.event ∷ []) ends.3 in
-    subst (IsOver 0) (sym events) (over_stop 0 (events_of ends.0) (subst (IsWellFormed 0) events formed))
+    subst (IsPartyOver 0) (sym events) (over_stop 0 (events_of ends.0) (subst (IsWellFormed 0) events formed))

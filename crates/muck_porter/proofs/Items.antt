@@ -1,16 +1,14 @@
 -- Items of a history.
-use Rattle.std.proofs.Common.{◌≡◌, ℕ, zero, suc, false, List, [], ◌∷◌, ◌++◌, refl, ap, Some, None}
-use Rattle.std.specs.Prelude.{is_some, slice_set}
-use mathlib.Core.Option.{some}
-use lib.ListN.{get_elem?}
+use Rattle.std.proofs.Common.{◌≡◌, ℕ, suc, false, List, [], ◌∷◌, ◌++◌, refl, ap, Some, None}
+use Rattle.std.specs.Prelude.{is_some}
 use Rattle.muck_model.specs.declared.note.Note.{Note}
 use Rattle.muck_model.specs.declared.note.Count.{Count}
 use Rattle.spec_events.specs.declared.logged.Logged.{Logged}
 use Rattle.spec_events.specs.World.{World}
 use Rattle.spec_events.specs.Logged.{NoCounts, placed_count, count_from}
 use Rattle.spec_serve.specs.Marks.{LinksNote, counts_in}
-use Rattle.muck_machine.specs.declared.beginning.Beginning.{Beginning}
-use Rattle.muck_machine.specs.inner.Beginnings.{begun}
+use Rattle.muck_work.specs.declared.Beginning.{Beginning}
+use Rattle.muck_work.specs.inner.Beginnings.{begun}
 use Rattle.muck_porter.specs.inner.Notes.{first_note, note_in}
 
 -- the world of the beginning
@@ -57,9 +55,3 @@ note_count n (l ∷ ls) = from l.counted (note_count (suc n) ls)
     from (Some cs) e = refl
 
 -- Items of a list.
-
--- a place that gets what it has
-pub put_same : {A : Type 0} (l : List A) (i : ℕ) (a b : A) → get_elem? l i ≡ some a → b ≡ a → slice_set l i b ≡ l
-put_same [] i a b h e = refl
-put_same (x ∷ xs) zero a b h e = cc (h, e)
-put_same (x ∷ xs) (suc i) a b h e = ap (λ l. x ∷ l) (put_same xs i a b h e)

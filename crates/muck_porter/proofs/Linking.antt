@@ -1,7 +1,7 @@
 -- Calls of the links, at the desk.
 use Rattle.std.proofs.Common.{◌≡◌, ◌⊎◌, ℕ, ◌≤◌, Bool, true, false, List, ◌∷◌, refl, sym, ap, ◌∙◌, subst, inl, inr, arith, Option, Some, None}
 use Rattle.muck_io.specs.Faults.{Rose}
-use Rattle.muck_links.specs.Sessions.{Told, accepted, is_used}
+use Rattle.muck_links.specs.Sessions.{LinksTold, accepted, is_used}
 use Rattle.spec_serve.specs.Promises.{Tally}
 use Rattle.spec_serve.specs.inner.Keeping.{Peer, new_peer}
 use Rattle.muck_porter.specs.declared.desk.Fault.{Fault}
@@ -11,10 +11,11 @@ use Rattle.muck_porter.specs.inner.Moves.{Carries, Tends, Loses, number_in, IsNe
 use Rattle.muck_porter.specs.inner.Desks.{Stand, Far, Stands, Booked, Goes}
 use Rattle.muck_porter.specs.inner.Reaches.{EndsLast}
 use Rattle.muck_porter.proofs.Carrying.{promised_in}
-use Rattle.muck_porter.proofs.InRounds.{told_came, told_same_on, told_over, came_carries, tended, rose_since}
-use Rattle.muck_porter.proofs.Going.{rose_on, broken}
+use Rattle.muck_porter.proofs.InRounds.{told_came, told_same_on, told_over, came_carries, tended}
+use Rattle.muck_porter.proofs.Going.{broken}
+use Rattle.muck_porter.proofs.Rising.{rose_since, rose_on}
 
-module _ (d : Stand) (tells' : Bool) (told' : Told) (listening' : ℕ) (tells : tells' ≡ d.tells) (later : d.listening ≤ listening') (ports : d.tells ≡ true → told'.ports ≡ d.told.ports) where
+module _ (d : Stand) (tells' : Bool) (told' : LinksTold) (listening' : ℕ) (tells : tells' ≡ d.tells) (later : d.listening ≤ listening') (ports : d.tells ≡ true → told'.ports ≡ d.told.ports) where
   -- the desk behind the call, and what else became of what is kept
   abbrev pub linked : Bool → List Peer → Option Peer → Stand
   linked broke' peers' coming' = record d { tells = tells'; told = told'; listening = listening'; broke = broke'; peers = peers'; coming = coming' }

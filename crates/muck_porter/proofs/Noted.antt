@@ -1,11 +1,13 @@
 -- Where the note of the links stands.
-use Rattle.std.proofs.Common.{true≢false, ◌≡◌, ℕ, zero, suc, ◌+◌, ◌<◌, ◌==◌, arith, Bool, true, false, not, ◌&&◌, ◌||◌, List, [], ◌∷◌, ◌++◌, refl, sym, ap, ◌∙◌, subst, ne_eqb, eqb-true, Option, Some, None}
+use Rattle.std.proofs.Common.{◌≡◌, ℕ, zero, suc, ◌+◌, ◌<◌, ◌==◌, arith, Bool, true, false, not, ◌&&◌, ◌||◌, List, [], ◌∷◌, ◌++◌, refl, sym, ap, ◌∙◌, subst, ne_eqb, eqb-true, Option, Some, None}
 use Rattle.std.specs.Prelude.{is_some, slice_get}
 use Rattle.std.proofs.lemmas.Option.{none-some}
 use Rattle.std.proofs.lemmas.Bool.Decides.{nat_tests}
+use Rattle.muck_laws.proofs.Numbers.{is_zero}
+use Rattle.muck_laws.proofs.Truths.{all_true, is_due, none_due, not_all, or_false}
 use Rattle.atomic_table.proofs.Lists.{at_longer}
-use Rattle.turn_lock.specs.Histories.{StartsWith, own_of, kept}
-use Rattle.muck_links.specs.Sessions.{Told}
+use Rattle.turn_lock.specs.Histories.{StartsWith, own_of, entry_kept}
+use Rattle.muck_links.specs.Sessions.{LinksTold}
 use Rattle.muck_model.specs.declared.event.Entry.{Entry}
 use Rattle.muck_model.specs.declared.note.Counted.{Counted}
 use Rattle.spec_events.specs.declared.logged.Logged.{Logged}
@@ -14,8 +16,8 @@ use Rattle.spec_events.specs.Steps.{effect}
 use Rattle.spec_events.specs.Histories.{after}
 use Rattle.spec_events.specs.Logged.{logged_by, entries_of, placed_count, count_from}
 use Rattle.spec_serve.specs.Marks.{LinksNote, ActsStopping, IsLinksNote}
-use Rattle.muck_machine.specs.inner.Seats.{AllOrderly}
-use Rattle.muck_machine.proofs.Seating.{none_or_more, others_none, orderly_back}
+use Rattle.muck_work.specs.inner.Seats.{AllOrderly}
+use Rattle.muck_work.proofs.Seating.{none_or_more, others_none, orderly_back}
 use Rattle.muck_porter.specs.inner.Notes.{first_note, note_in}
 use Rattle.muck_porter.specs.inner.Turns.{Marked}
 use Rattle.muck_porter.specs.Noted.{AllNoted}
@@ -28,16 +30,12 @@ note_own (l ∷ ls) all = from (l.entry.party == 0) refl (note_own ls (λ i x at
     other : (n : ℕ) → (n == 0) ≡ false → ¬ (n ≡ 0)
     other n is same = grind (arith, nat_tests)
 
-    from : (t : Bool) → (l.entry.party == 0) ≡ t → note_in ls ≡ note_in (own_of logged_by 0 ls) → first_note l.counted (note_in ls) ≡ note_in (kept t l (own_of logged_by 0 ls))
+    from : (t : Bool) → (l.entry.party == 0) ≡ t → note_in ls ≡ note_in (own_of logged_by 0 ls) → first_note l.counted (note_in ls) ≡ note_in (entry_kept t l (own_of logged_by 0 ls))
     from true is ih = ap (first_note l.counted) ih
     from false is ih = ap (λ (o : LinksNote). first_note o (note_in ls)) ((all 0 l refl).counted (other l.entry.party is)) ∙ ih
 
 pub orderly_front : (a b : List Logged) → AllOrderly (a ++ b) → AllOrderly a
 orderly_front a b all i l at = all i l (at_longer a b i l at)
-
-or_false : (b : Bool) → (b || false) ≡ b
-or_false true = refl
-or_false false = refl
 
 noted_on : (b : Bool) (o later : LinksNote) → (b || is_some (first_note o later)) ≡ ((b || is_some o) || is_some later)
 noted_on true o later = refl
@@ -56,7 +54,7 @@ not_first l ls none = from (l.entry.party == 0) refl none
     other : (n : ℕ) → (n == 0) ≡ false → ¬ (n ≡ 0)
     other n is same = grind (arith, nat_tests)
 
-    from : (t : Bool) → (l.entry.party == 0) ≡ t → kept t l (own_of logged_by 0 ls) ≡ [] → (¬ (l.entry.party ≡ 0)) × (own_of logged_by 0 ls ≡ [])
+    from : (t : Bool) → (l.entry.party == 0) ≡ t → entry_kept t l (own_of logged_by 0 ls) ≡ [] → (¬ (l.entry.party ≡ 0)) × (own_of logged_by 0 ls ≡ [])
     from true is e = absurd (none_or_more l (own_of logged_by 0 ls) e)
     from false is e = (other l.entry.party is, e)
 
@@ -80,23 +78,11 @@ noted_same w front ls all (rest, is) own n =
 
 -- An item that the porter makes.
 
-none_due : (n s d : Bool) → (n ≡ false → d ≡ false → s ≡ false) → (not n && (s && not d)) ≡ false
-none_due true s d f = refl
-none_due false true true f = refl
-none_due false true false f = f refl refl
-none_due false false d f = refl
-
-is_due : (n s d : Bool) → n ≡ false → s ≡ true → d ≡ false → (not n && (s && not d)) ≡ true
-is_due true s d a b c = absurd (true≢false a)
-is_due false true true a b c = absurd (true≢false c)
-is_due false true false a b c = refl
-is_due false false d a b c = absurd (true≢false (sym b))
-
-marked_so : (noted noted' : Bool) (k : Told) (w : World) (counted : LinksNote) → Marked noted noted' k w counted → is_some counted ≡ (not noted && (w.stopping && not w.dead))
+marked_so : (noted noted' : Bool) (k : LinksTold) (w : World) (counted : LinksNote) → Marked noted noted' k w counted → is_some counted ≡ (not noted && (w.stopping && not w.dead))
 marked_so noted noted' k w counted (Marked.kept same none free) = ap is_some none ∙ sym (none_due noted w.stopping w.dead free)
 marked_so noted noted' k w counted (Marked.made was now_is stopping alive is) = ap is_some is ∙ sym (is_due noted w.stopping w.dead was stopping alive)
 
-pub noted_turned : (noted noted' : Bool) (k : Told) (w : World) (ls : List Logged) (l : Logged) → AllNoted false w ls → noted ≡ is_some (note_in ls) → (l.entry.party == 0) ≡ true
+pub noted_turned : (noted noted' : Bool) (k : LinksTold) (w : World) (ls : List Logged) (l : Logged) → AllNoted false w ls → noted ≡ is_some (note_in ls) → (l.entry.party == 0) ≡ true
     → Marked noted noted' k (after w (entries_of ls)) l.counted → AllNoted false w (ls ++ l ∷ [])
 noted_turned noted noted' k w ls l n known mine marked =
     let v = after w (entries_of ls) in
@@ -129,27 +115,11 @@ note_behind n (Some c) w e es free ih = (suc ih.0, (let is = ih.1 in omega arith
     before zero less a = free a
     before (suc place) less a = ih.3 place (omega arith) (acts_back w e es place a)
 
-all_true : (p s d : Bool) → true ≡ (p && (true && (s && not d))) → (p ≡ true) × (s ≡ true) × (d ≡ false)
-all_true true true false e = (refl, refl, refl)
-all_true true true true e = absurd (true≢false e)
-all_true true false d e = absurd (true≢false e)
-all_true false s d e = absurd (true≢false e)
-
-not_all : (p s d : Bool) → false ≡ (p && (true && (s && not d))) → p ≡ true → s ≡ true → d ≡ false → ⊥
-not_all true true false e a b c = true≢false (sym e)
-not_all true true true e a b c = true≢false c
-not_all true false d e a b c = true≢false (sym b)
-not_all false s d e a b c = true≢false (sym a)
-
 first_of : (w : World) (e : Entry) (es : List Entry) (a : ActsStopping w (e ∷ es) 0) → e.party ≡ 0
 first_of w e es a = ap (λ (x : Entry). x.party) (same e a.entry a.here) ∙ a.porter
   where
     same : (x y : Entry) → slice_get (x ∷ es) 0 ≡ Some y → x ≡ y
     same x y h = cc
-
-is_zero : (n : ℕ) → n ≡ 0 → (n == 0) ≡ true
-is_zero zero h = refl
-is_zero (suc n) h = absurd (omega arith)
 
 note_from : (n : ℕ) (w : World) (ls : List Logged) → AllNoted false w ls → LinksNoteFrom n (count_from n ls) w (entries_of ls)
 note_from n w [] all = λ place a. none-some a.entry a.here

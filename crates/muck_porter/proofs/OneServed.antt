@@ -5,7 +5,8 @@ use Rattle.std.proofs.lemmas.List.{length-set}
 use Rattle.std.proofs.lemmas.List.Edits.{length-remove}
 use mathlib.Core.Option.{some}
 use lib.ListN.{get_elem?}
-use Rattle.muck_links.specs.Sessions.{Told}
+use Rattle.muck_laws.proofs.Places.{at_below, set_same, set_there}
+use Rattle.muck_links.specs.Sessions.{LinksTold}
 use Rattle.muck_model.specs.declared.event.Event.{Event}
 use Rattle.muck_model.specs.declared.event.Event.TheVariants.{Input, Closed, Take, Moment}
 use Rattle.spec_events.specs.declared.logged.Logged.{Logged}
@@ -13,8 +14,7 @@ use Rattle.spec_events.specs.World.{World}
 use Rattle.spec_events.specs.Histories.{by_porter}
 use Rattle.spec_events.specs.Own.{Stage}
 use Rattle.spec_serve.specs.inner.Keeping.{Peer}
-use Rattle.spec_serve.proofs.Booking.{set_there}
-use Rattle.muck_machine.specs.inner.Seats.{Chair, Rests}
+use Rattle.muck_work.specs.inner.Seats.{Chair, Rests}
 use Rattle.muck_peer.specs.Moves.{PeerStep}
 use Rattle.muck_porter.specs.declared.deeds.Served.{Served}
 use Rattle.muck_porter.specs.declared.deeds.Served.TheVariants.{Went as ServedOne, Closed as ClosedOne, Nobody, Dead as ServedDead}
@@ -25,8 +25,8 @@ use Rattle.muck_porter.specs.inner.Turns.{PorterTurn}
 use Rattle.muck_porter.specs.inner.Moves.{CarriesOn}
 use Rattle.muck_porter.specs.inner.Rounds.{WroteAt, ClosedAt, Nearer}
 use Rattle.muck_porter.proofs.Stages.{stage_free}
-use Rattle.muck_porter.proofs.Carrying.{turn_noted, carries_peer, carries_closed, set_again}
-use Rattle.muck_porter.proofs.Doing.{at_below, linked_books, turn_resting, moment_ready, moment_carries}
+use Rattle.muck_porter.proofs.Carrying.{turn_noted, carries_peer, carries_closed}
+use Rattle.muck_porter.proofs.Doing.{linked_books, turn_resting, moment_ready, moment_carries}
 
 peer_free : (own own' : List Logged) (item : Logged) (p p' : Peer) (w : World) (event : Event) → own' ≡ own ++ item ∷ [] → item.entry ≡ by_porter event → IsFree own → PeerStep p p' w event → IsFree own'
 peer_free own own' item p p' w event is entry free (PeerStep.heard line more e ready same) = IsFree.unbound (stage_free own own' item is (Input p.number line) Stage.unbound (entry ∙ ap by_porter e) free refl refl)
@@ -72,14 +72,14 @@ closed_nearer served i from ps ps1 ps2 w event is s place gone =
     let f : from ≤ i = subst (ServedFrom from) is place in
     omega arith
 
-module _ (noted noted' : Bool) (k : Told) (me me' : Chair) (w : World) (event : Event) (r : Rests 0 me') (turn : PorterTurn noted noted' k me.0 me'.0 w event) (ready : Ready noted me)
+module _ (noted noted' : Bool) (k : LinksTold) (me me' : Chair) (w : World) (event : Event) (r : Rests 0 me') (turn : PorterTurn noted noted' k me.0 me'.0 w event) (ready : Ready noted me)
     (served : Served) (ps ps1 : List Peer) (did : ServedAs served ps ps1 w event) where
   pub went_ready : (i : ℕ) → served ≡ ServedOne i → Ready noted' me'
   went_ready i is =
       let x : ServedAs (ServedOne i) ps ps1 w event = subst (λ (y : Served). ServedAs y ps ps1 w event) is did in
       record { resting = turn_resting noted noted' k me me' w event r turn ready.resting.known; free = peer_free me.0.own me'.0.own turn.item x.0 x.1 w event turn.own turn.entry ready.free x.4 }
 
-  pub went_carries : (i : ℕ) (k' : Told) (n : ℕ) (ps2 : List Peer) → served ≡ ServedOne i → WroteAt i noted' k k' ps1 ps2 → CarriesOn me.0 me'.0 (tally k n) (tally k' n) ps ps2
+  pub went_carries : (i : ℕ) (k' : LinksTold) (n : ℕ) (ps2 : List Peer) → served ≡ ServedOne i → WroteAt i noted' k k' ps1 ps2 → CarriesOn me.0 me'.0 (tally k n) (tally k' n) ps ps2
   went_carries i k' n ps2 is wrote coming b bk =
       let x : ServedAs (ServedOne i) ps ps1 w event = subst (λ (y : Served). ServedAs y ps ps1 w event) is did in
       let there : get_elem? ps1 i ≡ some x.1 = ap (λ (l : List Peer). get_elem? l i) x.3 ∙ set_there ps i x.0 x.1 x.2 in
@@ -97,10 +97,10 @@ module _ (noted noted' : Bool) (k : Told) (me me' : Chair) (w : World) (event : 
         free = IsFree.unbound (stage_free me.0.own me'.0.own turn.item turn.own (Closed x.0.number) Stage.unbound (turn.entry ∙ ap by_porter x.3) ready.free refl refl);
       }
 
-  pub closed_carries : (i : ℕ) (k' : Told) (n : ℕ) (ps2 : List Peer) → served ≡ ClosedOne i → ClosedAt i k k' ps1 → ps2 ≡ remove ps1 i → CarriesOn me.0 me'.0 (tally k n) (tally k' n) ps ps2
+  pub closed_carries : (i : ℕ) (k' : LinksTold) (n : ℕ) (ps2 : List Peer) → served ≡ ClosedOne i → ClosedAt i k k' ps1 → ps2 ≡ remove ps1 i → CarriesOn me.0 me'.0 (tally k n) (tally k' n) ps ps2
   closed_carries i k' n ps2 is told gone coming b bk =
       let x : ServedAs (ClosedOne i) ps ps1 w event = subst (λ (y : Served). ServedAs y ps ps1 w event) is did in
-      let same : ps1 ≡ ps = x.2 ∙ set_again ps i x.0 x.1 in
+      let same : ps1 ≡ ps = x.2 ∙ set_same ps i x.0 x.1 in
       subst (λ (l : List Peer). BooksAt b me'.0 (tally k' n) l coming) (sym (gone ∙ ap (λ (l : List Peer). remove l i) same))
       (carries_closed noted noted' k me.0 me'.0 w event turn ready.resting.known b n k' ps coming i x.0 x.1 x.3 x.4
       (told x.0 (ap (λ (l : List Peer). get_elem? l i) same ∙ x.1)) bk)

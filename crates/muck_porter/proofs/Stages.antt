@@ -8,13 +8,13 @@ use Rattle.muck_model.specs.declared.event.Event.TheVariants.{Moment}
 use Rattle.spec_events.specs.declared.logged.Logged.{Logged}
 use Rattle.spec_events.specs.Histories.{by_porter}
 use Rattle.spec_events.specs.Logged.{events_of}
-use Rattle.spec_events.specs.Own.{Stage, next, stage_of, IsWellFormed}
+use Rattle.spec_events.specs.Own.{Stage, next_stage, stage_of, IsWellFormed}
 use Rattle.spec_events.proofs.Logging.{events_append}
 use Rattle.spec_events.proofs.Owning.{stage_more, well_formed}
 use Rattle.muck_porter.specs.inner.Kept.{IsAt, IsFree}
 
 -- one item more
-pub stage_item : (own own' : List Logged) (item : Logged) (event : Event) (stage later : Stage) → own' ≡ own ++ item ∷ [] → item.entry ≡ by_porter event → IsAt stage own → next 0 stage event ≡ Some later → IsAt later own'
+pub stage_item : (own own' : List Logged) (item : Logged) (event : Event) (stage later : Stage) → own' ≡ own ++ item ∷ [] → item.entry ≡ by_porter event → IsAt stage own → next_stage 0 stage event ≡ Some later → IsAt later own'
 stage_item own own' item event stage later is entry at may =
     ap (λ (ls : List Logged). stage_of 0 (events_of ls)) is
     ∙ ap (stage_of 0) (events_append own (item ∷ []))
@@ -23,7 +23,7 @@ stage_item own own' item event stage later is entry at may =
 
 module _ (own own' : List Logged) (item : Logged) (is : own' ≡ own ++ item ∷ []) where
   -- what may come where nothing binds it
-  pub stage_free : (event : Event) (later : Stage) → item.entry ≡ by_porter event → IsFree own → next 0 Stage.unbound event ≡ Some later → next 0 Stage.timed event ≡ Some later → IsAt later own'
+  pub stage_free : (event : Event) (later : Stage) → item.entry ≡ by_porter event → IsFree own → next_stage 0 Stage.unbound event ≡ Some later → next_stage 0 Stage.timed event ≡ Some later → IsAt later own'
   stage_free event later entry (IsFree.unbound at) u t = stage_item own own' item event Stage.unbound later is entry at u
   stage_free event later entry (IsFree.timed at) u t = stage_item own own' item event Stage.timed later is entry at t
 

@@ -3,8 +3,9 @@ use Rattle.std.proofs.Common.{◌≡◌, ℕ, Bool, true, false, List, [], ◌�
 use Rattle.std.specs.Prelude.{◌==◌, is_some}
 use Rattle.std.proofs.lemmas.Bool.{and_parts}
 use Rattle.std.proofs.lemmas.List.{append-nil}
+use Rattle.muck_laws.proofs.Truths.{allowed_one, opposed}
 use Rattle.turn_lock.specs.Histories.{own_of, StartsWith}
-use Rattle.muck_links.specs.Sessions.{Told}
+use Rattle.muck_links.specs.Sessions.{LinksTold}
 use Rattle.muck_model.specs.declared.event.Entry.{Entry}
 use Rattle.muck_model.specs.declared.event.Event.{Event}
 use Rattle.muck_model.specs.declared.event.Event.TheVariants.{Moment}
@@ -15,10 +16,10 @@ use Rattle.spec_events.specs.Histories.{after, AllLawful, by_porter}
 use Rattle.spec_events.specs.Logged.{entries_of}
 use Rattle.spec_events.proofs.Logging.{entries_append}
 use Rattle.spec_talks.specs.Parties.{party_of}
-use Rattle.spec_talks.proofs.Histories.{lawful_back, both_ways, allowed_one, not_first, others_own}
+use Rattle.spec_talks.proofs.Histories.{lawful_back, not_first, others_own}
 use Rattle.spec_talks.proofs.Items.{own_entries_of}
-use Rattle.muck_machine.specs.inner.Beginnings.{begun}
-use Rattle.muck_machine.specs.inner.Seats.{Sight, Chair, AllOrderly, Rests, Waited}
+use Rattle.muck_work.specs.inner.Beginnings.{begun}
+use Rattle.muck_work.specs.inner.Seats.{Sight, Chair, AllOrderly, Rests, Waited}
 use Rattle.muck_peer.specs.Moves.{Clocked}
 use Rattle.muck_porter.specs.inner.Notes.{note_in}
 use Rattle.muck_porter.specs.inner.Kept.{Resting}
@@ -35,7 +36,7 @@ timely_append a a1 a2 w (e ∷ es) ys t u = (t.0, t.1, timely_append t.0 a1 a2 (
 -- where another party does something, time doesn't go on
 clocked_other : (a : Option (List ℕ)) (w : World) (p : ℕ) (event : Event) → is_lawful w (record { party = p; event = event }) ≡ true → (p == 0) ≡ false → Clocked a a w event
 unfolding is_lawful
-clocked_other a w p (Moment t) l other = absurd (both_ways (p == 0) (and_parts (p == 0) _ (allowed_one w.dead false _ l refl)).0 other)
+clocked_other a w p (Moment t) l other = absurd (opposed (p == 0) (and_parts (p == 0) _ (allowed_one w.dead false _ l refl)).0 other)
 clocked_other a w p event l other = refl
 
 timely_others : (a : Option (List ℕ)) (w : World) (es : List Entry) → AllLawful w es → own_of party_of 0 es ≡ [] → Timely a a w es
@@ -69,7 +70,7 @@ timed_waited a v v' waited before t =
     record { front = t.front; seen = (more.0, waited.0.1 ∙ more.1); own = waited.1 ∙ t.own; timely = λ w m root. t.timely w m (sym waited.5 ∙ root); noted = λ w m root. t.noted w m (sym waited.5 ∙ root) }
 
 -- and at one that had its turn
-pub timed_turned : (noted noted' : Bool) (k : Told) (a a' : Option (List ℕ)) (me me' : Chair) (w : World) (event : Event) → Resting noted me → Rests 0 me' → PorterTurn noted noted' k me.0 me'.0 w event → Clocked a a' w event
+pub timed_turned : (noted noted' : Bool) (k : LinksTold) (a a' : Option (List ℕ)) (me me' : Chair) (w : World) (event : Event) → Resting noted me → Rests 0 me' → PorterTurn noted noted' k me.0 me'.0 w event → Clocked a a' w event
     → ByClock me.0 me'.0 a a'
 timed_turned noted noted' k a a' me me' w event r r' turn clocked before t = record {
   front = me'.0.seen;

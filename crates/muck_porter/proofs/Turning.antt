@@ -1,7 +1,7 @@
 -- One turn of the porter, as its seat sees it.
 use Rattle.std.proofs.Common.{true≢false, ◌≡◌, ℕ, Bool, true, false, List, ◌++◌, refl, sym, ap, ◌∙◌, subst, None}
 use Rattle.turn_lock.specs.Histories.{own_of}
-use Rattle.muck_links.specs.Sessions.{Told}
+use Rattle.muck_links.specs.Sessions.{LinksTold}
 use Rattle.muck_model.specs.declared.event.Entry.{Entry}
 use Rattle.muck_model.specs.declared.event.Event.{Event}
 use Rattle.muck_model.specs.declared.note.Note.{Note}
@@ -12,8 +12,8 @@ use Rattle.spec_events.specs.Logged.{NoCounts, is_dump, logged, logged_by, entri
 use Rattle.spec_events.proofs.Logging.{orderly_bare, orderly_counted}
 use Rattle.spec_events.specs.Steps.{has_claim}
 use Rattle.spec_talks.specs.Counts.{counts}
-use Rattle.muck_machine.specs.inner.Seats.{Chair, OneMore, AllOrderly, Rests}
-use Rattle.muck_machine.proofs.Seating.{one_bare, one_counted, held_settled, held_start, not_counted}
+use Rattle.muck_work.specs.inner.Seats.{Chair, OneMore, AllOrderly, Rests}
+use Rattle.muck_work.proofs.Seating.{one_bare, one_counted, held_settled, held_start, not_counted}
 use Rattle.muck_work.specs.inner.Holds.{HasTurn, HasEntered, HasGiven}
 use Rattle.muck_work.proofs.Holding.{others_since, entries_since, claim_held}
 use Rattle.muck_porter.specs.declared.deeds.Deed.{Deed}
@@ -35,7 +35,7 @@ none_yet noted me me' h r t is =
     own = r.rests.own ∙ sym (others_since 0 me me' h t) ∙ ap (own_of logged_by 0) (sym (t.seen ∙ t.waited.0.1))
 
 -- The item that a turn adds.
-pub record ItemOf (noted noted' : Bool) (k : Told) (h h' h2 : History) (event : Event) : Type 0 where
+pub record ItemOf (noted noted' : Bool) (k : LinksTold) (h h' h2 : History) (event : Event) : Type 0 where
   pub item : Logged
   pub one : OneMore h h2 item
   pub entry : item.entry ≡ by_porter event
@@ -43,7 +43,7 @@ pub record ItemOf (noted noted' : Bool) (k : Told) (h h' h2 : History) (event : 
   pub marked : Marked noted noted' k (now h') item.counted
   pub same : now h' ≡ now h
 
-item_of : (m : Note) (noted noted' : Bool) (k : Told) (h h' h2 : History) (event : Event) → IsSettled m h → is_dump event ≡ false → h2 ≡ entered h' (by_porter event) → MarkedIn noted noted' k h h' → ItemOf noted noted' k h h' h2 event
+item_of : (m : Note) (noted noted' : Bool) (k : LinksTold) (h h' h2 : History) (event : Event) → IsSettled m h → is_dump event ≡ false → h2 ≡ entered h' (by_porter event) → MarkedIn noted noted' k h h' → ItemOf noted noted' k h h' h2 event
 unfolding now
 item_of m noted noted' k h h' h2 event settled quiet is (MarkedIn.kept same stays free) = record {
   item = bare_item (by_porter event);
@@ -62,7 +62,7 @@ item_of m noted noted' k h h' h2 event settled quiet is (MarkedIn.made was now_i
   same = ap now made;
 }
 
-module _ (noted noted' : Bool) (k : Told) (me me1 : Chair) (h' h2 : History) (event : Event) (g : Given noted noted' k me me1 h') (quiet : is_dump event ≡ false) (is : h2 ≡ entered h' (by_porter event)) where
+module _ (noted noted' : Bool) (k : LinksTold) (me me1 : Chair) (h' h2 : History) (event : Event) (g : Given noted noted' k me me1 h') (quiet : is_dump event ≡ false) (is : h2 ≡ entered h' (by_porter event)) where
   turn_item : ItemOf noted noted' k g.given h' h2 event
   turn_item = let t = g.turn in item_of t.rests.begun.mounting noted noted' k g.given h' h2 event (held_settled 0 me me1.0 g.given t.rests t.waited t.root) quiet is g.marked
 
@@ -102,7 +102,7 @@ module _ (noted noted' : Bool) (k : Told) (me me1 : Chair) (h' h2 : History) (ev
 
 -- What the porter claimed last is its own still.
 
-pub deed_held : (noted noted' : Bool) (k : Told) (me me1 : Chair) (h' : History) (deed : Deed) → Given noted noted' k me me1 h' → ClaimAt deed me.0 → ClaimOf deed (now h')
+pub deed_held : (noted noted' : Bool) (k : LinksTold) (me me1 : Chair) (h' : History) (deed : Deed) → Given noted noted' k me me1 h' → ClaimAt deed me.0 → ClaimOf deed (now h')
 unfolding now
 deed_held noted noted' k me me1 h' (Slice pid) g claimed = ap (has_claim 0 pid) (same g.marked) ∙ claim_held 0 pid me me1 g.given g.turn claimed
   where

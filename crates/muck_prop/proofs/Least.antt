@@ -3,34 +3,26 @@ use Rattle.std.proofs.Common.{◌≡◌, ℕ, Bool, true, false, ◌&&◌, ◌||
 use Rattle.std.proofs.lemmas.Bool.{and_parts}
 use mathlib.Core.Logic.{inl, inr}
 use mathlib.Core.Bool.{true≢false}
-use Rattle.std.specs.Option.{unwrap_or}
 use Rattle.std.specs.Prelude.{Option, None, Some, if◌then◌else◌, is_some, T}
 use Rattle.std.specs.Ordering.{is_eq, is_lt, is_gt, eq_by_cmp, ordering_then}
 use Rattle.std.specs.Cmp.{tied_itself}
-use Rattle.std.specs.Cmp.Lexicographic.{bytes_decides}
-use Rattle.std.specs.declared.cmp.Ordering.{Ordering}
 use Rattle.std.specs.declared.cmp.Ordering.TheVariants.{Less, Equal, Greater}
 use Rattle.std.specs.List.{AllByRecursion, list_any}
 use Rattle.std.specs.List.Sorted.{IsStrictlySortedBy}
 use Rattle.std.specs.Map.{keys_of}
 use Rattle.std.specs.FinMap.{get, keys, entries, entries_sorted, is_sorted, contains_key-keys}
 use Rattle.std.specs.FinMap.Entries.{below_all}
+use Rattle.muck_laws.proofs.Options.{some_is}
+use Rattle.muck_laws.proofs.Orders.{less_of, then_less}
+use Rattle.muck_laws.proofs.Tests.{at_any, later_any}
+use Rattle.muck_laws.proofs.Texts.{bytes_equal_itself, same_bytes}
+use Rattle.muck_laws.proofs.Truths.{both_of}
 use Rattle.muck_prop.specs.declared.value.PropValue.{PropValue}
 use Rattle.muck_prop.specs.Order.{segment_cmp, path_cmp, path_cmp_total, is_below, child}
 use Rattle.muck_prop.specs.Store.{PropMap, is_dir, is_after, next_among, next_child, IsChild, IsLeastChild}
 use Rattle.muck_prop.proofs.Maps.{path_cmp_same}
-use Rattle.muck_prop.proofs.Sequence.{then_less}
 
 -- ---- the paths of a map rise
-
-less_of : (r : Ordering) → T (is_lt r) → r ≡ Less
-less_of Less h = refl
-less_of Equal h = absurd h
-less_of Greater h = absurd h
-
-both_of : (a b : Bool) → T (a && b) → T a × T b
-both_of true b h = (tt, h)
-both_of false b h = absurd h
 
 all_above : (k : List (List ℕ)) (es : List (List (List ℕ) × PropValue)) → T (below_all path_cmp k es) → AllByRecursion (λ q. path_cmp k q ≡ Less) (keys_of es)
 all_above k [] h = tt
@@ -46,12 +38,6 @@ keys_rise m = rising (entries m) (entries_sorted m)
 
 -- ---- children, by the paths that lead to them
 
-equal_bytes : (s t : List ℕ) → bytes_eq s t ≡ true → s ≡ t
-equal_bytes s t h = (bytes_decides s t).0 h
-
-itself : (s : List ℕ) → bytes_eq s s ≡ true
-itself s = (bytes_decides s s).1 refl
-
 -- a path leads to its child of `dir`
 abbrev pub Leads : List (List ℕ) → List (List ℕ) → List (List ℕ) → Type 0
 Leads dir c q = (is_below dir q ≡ true) × (c ≡ child dir q)
@@ -65,16 +51,16 @@ child_leads : (dir : List (List ℕ)) (name : List ℕ) → Leads dir (dir ++ na
 child_leads [] name = (refl, refl)
 child_leads (s ∷ dir) name =
     let rest = child_leads dir name in
-    (ap (λ b. b && is_below dir (dir ++ name ∷ [])) (itself s) ∙ rest.0, ap (λ q. s ∷ q) rest.1)
+    (ap (λ b. b && is_below dir (dir ++ name ∷ [])) (bytes_equal_itself s) ∙ rest.0, ap (λ q. s ∷ q) rest.1)
 
 below_leads : (dir : List (List ℕ)) (name : List ℕ) (q : List (List ℕ)) → is_below (dir ++ name ∷ []) q ≡ true → Leads dir (dir ++ name ∷ []) q
 below_leads [] name [] h = cc
-below_leads [] name (t ∷ q) h = (refl, ap (λ s. s ∷ []) (equal_bytes name t (and_parts (bytes_eq name t) (is_below [] q) h).0))
+below_leads [] name (t ∷ q) h = (refl, ap (λ s. s ∷ []) (same_bytes name t (and_parts (bytes_eq name t) (is_below [] q) h).0))
 below_leads (s ∷ dir) name [] h = cc
 below_leads (s ∷ dir) name (t ∷ q) h =
     let parts = and_parts (bytes_eq s t) (is_below (dir ++ name ∷ []) q) h in
     let rest = below_leads dir name q parts.1 in
-    (ap (λ b. b && is_below dir q) parts.0 ∙ rest.0, (λ i. equal_bytes s t parts.0 i ∷ rest.1 i))
+    (ap (λ b. b && is_below dir q) parts.0 ∙ rest.0, (λ i. same_bytes s t parts.0 i ∷ rest.1 i))
 
 any_at : (dir : List (List ℕ)) (name : List ℕ) (ks : List (List (List ℕ))) → list_any (eq_by_cmp path_cmp (dir ++ name ∷ [])) ks ≡ true → AnyLeads dir (dir ++ name ∷ []) ks
 any_at dir name [] h = cc
@@ -110,29 +96,19 @@ child_ends (s ∷ dir) [] h = cc
 child_ends (s ∷ dir) (t ∷ q) h =
     let parts = and_parts (bytes_eq s t) (is_below dir q) h in
     let rest = child_ends dir q parts.1 in
-    (rest.0, (λ i. sym (equal_bytes s t parts.0) i ∷ rest.1 i))
+    (rest.0, (λ i. sym (same_bytes s t parts.0) i ∷ rest.1 i))
 
 -- a path below is its own child or below that
 child_or_below : (dir q : List (List ℕ)) → is_below dir q ≡ true → (child dir q ≡ q) ⊎ (is_below (child dir q) q ≡ true)
 child_or_below [] [] h = cc
 child_or_below [] (t ∷ []) h = inl refl
-child_or_below [] (t ∷ u ∷ q) h = inr (ap (λ b. b && true) (itself t))
+child_or_below [] (t ∷ u ∷ q) h = inr (ap (λ b. b && true) (bytes_equal_itself t))
 child_or_below (s ∷ dir) [] h = cc
 child_or_below (s ∷ dir) (t ∷ q) h =
     elim (child_or_below dir q (and_parts (bytes_eq s t) (is_below dir q) h).1) as (λ _. (child (s ∷ dir) (t ∷ q) ≡ t ∷ q) ⊎ (is_below (child (s ∷ dir) (t ∷ q)) (t ∷ q) ≡ true)) [
       | inl same ↦ inl (ap (λ p. t ∷ p) same)
-      | inr more ↦ inr (ap (λ b. b && is_below (child dir q) q) (itself t) ∙ more)
+      | inr more ↦ inr (ap (λ b. b && is_below (child dir q) q) (bytes_equal_itself t) ∙ more)
     ]
-
-at_any : (p : List (List ℕ) → Bool) (q : List (List ℕ)) (ks : List (List (List ℕ))) → p q ≡ true → list_any p (q ∷ ks) ≡ true
-at_any p q ks h = ap (λ b. b || list_any p ks) h
-
-later_any : (p : List (List ℕ) → Bool) (q : List (List ℕ)) (ks : List (List (List ℕ))) → list_any p ks ≡ true → list_any p (q ∷ ks) ≡ true
-later_any p q ks h = either (p q) (list_any p ks) h
-  where
-    either : (a b : Bool) → b ≡ true → (a || b) ≡ true
-    either true b e = refl
-    either false b e = e
 
 stands_of : (dir c : List (List ℕ)) (ks : List (List (List ℕ))) → AnyLeads dir c ks → (list_any (eq_by_cmp path_cmp c) ks ≡ true) ⊎ (list_any (is_below c) ks ≡ true)
 stands_of dir c [] h = absurd h
@@ -189,9 +165,6 @@ later_child dir q d [] is all h = absurd h
 later_child dir q d (k ∷ ks) is all (inl here) = ap (λ p. is_gt (path_cmp (child dir q) p)) here.1 ∙ children_rise dir q k is here.0 all.0
 later_child dir q d (k ∷ ks) is all (inr there) = later_child dir q d ks is all.1 there
 
-inside : (x y : List (List ℕ)) → Some x ≡ Some y → x ≡ y
-inside x y e = ap (λ o. unwrap_or o x) e
-
 module _ (dir : List (List ℕ)) (after : Option (List (List ℕ))) where
   -- no child is missed where the search ends with none
   none_missed : (c : List (List ℕ)) (ks : List (List (List ℕ))) → next_among dir after ks ≡ None → AnyLeads dir c ks → is_after after c ≡ false
@@ -211,7 +184,7 @@ module _ (dir : List (List ℕ)) (after : Option (List (List ℕ))) where
       by : (b : Bool) → (is_below dir q && is_after after (child dir q)) ≡ b → (if b then Some (child dir q) else next_among dir after ks) ≡ Some c → (next_among dir after ks ≡ Some c → AnyLeads dir c ks × (is_after after c ≡ true)) → (Leads dir c q ⊎ AnyLeads dir c ks) × (is_after after c ≡ true)
       by true test found later =
           let parts = and_parts (is_below dir q) (is_after after (child dir q)) test in
-          let same = inside (child dir q) c found in
+          let same = some_is (child dir q) c found in
           (inl (parts.0, sym same), ap (is_after after) (sym same) ∙ parts.1)
       by false test found later = let rest = later found in (inr rest.0, rest.1)
 
@@ -223,7 +196,7 @@ module _ (dir : List (List ℕ)) (after : Option (List (List ℕ))) where
       let both = elim (is_below dir q && is_after after (child dir q)) as (λ b. (is_below dir q && is_after after (child dir q)) ≡ b → (if b then Some (child dir q) else next_among dir after ks) ≡ Some c → Leads dir d q ⊎ AnyLeads dir d ks → is_gt (path_cmp c d) ≡ false) [
         | true ↦ λ test found leads.
             let parts = and_parts (is_below dir q) (is_after after (child dir q)) test in
-            ap (λ p. is_gt (path_cmp p d)) (sym (inside (child dir q) c found))
+            ap (λ p. is_gt (path_cmp p d)) (sym (some_is (child dir q) c found))
             ∙ elim leads as (λ _. is_gt (path_cmp (child dir q) d) ≡ false) [
               | inl here ↦ ap (λ p. is_gt (path_cmp (child dir q) p)) here.1 ∙ ap is_gt (tied_itself path_cmp_total (child dir q))
               | inr there ↦ later_child dir q d ks parts.0 sorted.0 there

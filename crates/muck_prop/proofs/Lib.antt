@@ -1,5 +1,4 @@
 pub mod Below
-pub mod Texts
 pub mod Reading
 pub mod Writing
 pub mod Maps

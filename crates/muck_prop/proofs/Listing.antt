@@ -8,13 +8,14 @@ use Rattle.std.specs.declared.ops.Bound.TheVariants.{Excluded, Unbounded}
 use Rattle.std.specs.FinMap.{from_entries, entries}
 use Rattle.std.specs.Ordering.{is_lt}
 use Rattle.std.proofs.lemmas.List.{length-drop}
+use Rattle.muck_laws.proofs.Orders.{is_less}
 use Rattle.muck_prop.specs.declared.props.Listed.{Listed}
 use Rattle.muck_prop.specs.declared.value.PropValue.{PropValue}
 use Rattle.muck_prop.specs.Order.{path_cmp, is_below}
 use Rattle.muck_prop.specs.Paths.{IsPath, IsSegment, path_text}
-use Rattle.muck_prop.specs.Store.{IsKept, behind, listed_below}
+use Rattle.muck_prop.specs.Store.{IsKept, path_behind, listed_below}
 use Rattle.muck_prop.proofs.Maps.{entries_are}
-use Rattle.muck_prop.proofs.Sequence.{none_below, is_less, after_start_reaches}
+use Rattle.muck_prop.proofs.Sequence.{none_below, after_start_reaches}
 
 -- ---- the rest of a path
 
@@ -98,29 +99,29 @@ all_below_top ((s ∷ p, v) ∷ es) kept = ap (λ fs. (s ∷ p, v) ∷ fs) (all_
 
 -- the list, and what still comes of the entries that are left, is the whole of it
 pub record IsListed (dir : List (List ℕ)) (es left : List (List (List ℕ) × PropValue)) (list : List Listed) : Type 0 where
-  pub whole : list ++ map (behind (length dir)) (first_below dir left) ≡ map (behind (length dir)) (filter (goes_on dir) es)
+  pub whole : list ++ map (path_behind (length dir)) (first_below dir left) ≡ map (path_behind (length dir)) (filter (goes_on dir) es)
   pub kept : AllByRecursion IsKept left
 
 pub listing_begins : (dir : List (List ℕ)) (es : List (List (List ℕ) × PropValue)) → IsStrictlySortedBy path_cmp (keys_of es) → AllByRecursion IsKept es → IsListed dir es (entries_between path_cmp (Excluded dir) Unbounded es) []
 listing_begins dir es sorted kept = record {
-  whole = ap (map (behind (length dir))) (stand_together dir es sorted);
+  whole = ap (map (path_behind (length dir))) (stand_together dir es sorted);
   kept = kept_between dir es kept;
 }
 
-pub listing_goes : (dir : List (List ℕ)) (es : List (List (List ℕ) × PropValue)) (e : List (List ℕ) × PropValue) (left : List (List (List ℕ) × PropValue)) (list : List Listed) → is_below dir e.0 ≡ true → IsListed dir es (e ∷ left) list → IsListed dir es left (list ++ behind (length dir) e ∷ [])
+pub listing_goes : (dir : List (List ℕ)) (es : List (List (List ℕ) × PropValue)) (e : List (List ℕ) × PropValue) (left : List (List (List ℕ) × PropValue)) (list : List Listed) → is_below dir e.0 ≡ true → IsListed dir es (e ∷ left) list → IsListed dir es left (list ++ path_behind (length dir) e ∷ [])
 listing_goes dir es e left list is h = record {
   whole =
-      append_assoc list (behind (length dir) e ∷ []) (map (behind (length dir)) (first_below dir left))
-      ∙ ap (λ b. list ++ map (behind (length dir)) (cond b (e ∷ first_below dir left) [])) (sym is)
+      append_assoc list (path_behind (length dir) e ∷ []) (map (path_behind (length dir)) (first_below dir left))
+      ∙ ap (λ b. list ++ map (path_behind (length dir)) (cond b (e ∷ first_below dir left) [])) (sym is)
       ∙ h.whole;
   kept = h.kept.1;
 }
 
 -- ---- the map
 
-pub listed_is : (dir : List (List ℕ)) (es : List (List (List ℕ) × PropValue)) → IsStrictlySortedBy path_cmp (keys_of es) → map (behind (length dir)) (filter (goes_on dir) es) ≡ listed_below dir (from_entries es)
+pub listed_is : (dir : List (List ℕ)) (es : List (List (List ℕ) × PropValue)) → IsStrictlySortedBy path_cmp (keys_of es) → map (path_behind (length dir)) (filter (goes_on dir) es) ≡ listed_below dir (from_entries es)
 unfolding listed_below
-listed_is dir es sorted = ap (λ fs. map (behind (length dir)) (filter (goes_on dir) fs)) (sym (entries_are es sorted))
+listed_is dir es sorted = ap (λ fs. map (path_behind (length dir)) (filter (goes_on dir) fs)) (sym (entries_are es sorted))
 
-pub all_is : (es : List (List (List ℕ) × PropValue)) → IsStrictlySortedBy path_cmp (keys_of es) → AllByRecursion IsKept es → map (behind 0) (filter (goes_on []) es) ≡ map (behind 0) (entries (from_entries {R = path_cmp} es))
-all_is es sorted kept = ap (map (behind 0)) (all_below_top es kept ∙ sym (entries_are es sorted))
+pub all_is : (es : List (List (List ℕ) × PropValue)) → IsStrictlySortedBy path_cmp (keys_of es) → AllByRecursion IsKept es → map (path_behind 0) (filter (goes_on []) es) ≡ map (path_behind 0) (entries (from_entries {R = path_cmp} es))
+all_is es sorted kept = ap (map (path_behind 0)) (all_below_top es kept ∙ sym (entries_are es sorted))

@@ -1,6 +1,6 @@
 -- The entries of an ordered map, in the words of a finite map.
-use Rattle.std.proofs.Common.{◌≡◌, ℕ, Bool, true, false, cond, List, [], ◌∷◌, length, arith, refl, ap, sym, subst, ◌∙◌}
-use Rattle.std.specs.Prelude.{Option, None, Some, Result, Ok, Err, OnErr, IfSome, slice_get, ◌&&◌}
+use Rattle.std.proofs.Common.{◌≡◌, ℕ, Bool, true, false, cond, List, [], ◌∷◌, length, arith, refl, ap, sym, ◌∙◌}
+use Rattle.std.specs.Prelude.{None, Some, IfSome, slice_get, ◌&&◌}
 use Rattle.std.specs.Cmp.{eq_by_cmp_equiv}
 use Rattle.std.specs.Ordering.{is_eq, eq_by_cmp, match_ordering}
 use Rattle.std.specs.List.{AllByRecursion}
@@ -9,7 +9,6 @@ use Rattle.std.specs.BTreeMap.Range.{entries_between, is_from_start}
 use Rattle.std.specs.declared.ops.Bound.{Bound}
 use Rattle.std.specs.declared.ops.Bound.TheVariants.{Unbounded}
 use Rattle.std.specs.List.Sorted.{IsStrictlySortedBy}
-use Rattle.std.specs.Option.{option_map}
 use Rattle.std.specs.Map.{keys_of, lookup, remove_entry, set_value}
 use Rattle.std.specs.BTreeMap.{is_at, insert_entry}
 use Rattle.std.specs.FinMap.{get, insert, remove, entries, keys, from_entries, find, put, get-from_entries, get-insert, get-remove, entries-insert, len-entries, len-empty, same_map, IsAntisymmetric, slice_cmp-IsAntisymmetric, nat_cmp-IsAntisymmetric}
@@ -91,10 +90,6 @@ kept_set test v (e ∷ es) new old =
       | false ↦ (old.0, kept_set test v es new old.1)
     ]
 
-pub on_err : {X E : Type 0} (r : Result X E) (P : Type 0) → P → OnErr r P
-on_err (Ok x) P h = tt
-on_err (Err e) P h = h
-
 -- the first path within a start
 pub first_start : (lo : Bound (List (List ℕ))) (es : List (List (List ℕ) × PropValue)) → slice_get (keys_of (entries_between path_cmp lo Unbounded es)) 0 ≡ find_path (is_from_start path_cmp lo) (keys_of es)
 first_start lo [] = refl
@@ -107,7 +102,3 @@ first_start lo (e ∷ es) =
 pub found_is_kept : (test : List (List ℕ) → Bool) (es : List (List (List ℕ) × PropValue)) → AllByRecursion IsKept es → IfSome (lookup test es) (λ v. is_nothing v ≡ false)
 found_is_kept test [] kept = tt
 found_is_kept test (e ∷ es) kept = elim (test e.0) as (λ b. IfSome (cond b (Some e.1) (lookup test es)) (λ v. is_nothing v ≡ false)) [ true ↦ kept.0.value | false ↦ found_is_kept test es kept.1 ]
-
-pub on_some : {X Y : Type 0} (r : Option X) (f : X → Y) (P : Y → Type 0) (o : Option Y) → option_map f r ≡ o → IfSome o P → IfSome r (λ x. P (f x))
-on_some None f P o e h = tt
-on_some (Some x) f P o e h = subst (λ o. IfSome o P) (sym e) h

@@ -8,13 +8,14 @@ use Rattle.std.specs.Option.{option_map_or}
 use Rattle.std.specs.Map.{lookup}
 use Rattle.std.specs.BTreeMap.{is_at}
 use Rattle.std.specs.FinMap.{get, from_entries}
+use Rattle.muck_laws.proofs.Found.{lookup_same}
+use Rattle.muck_laws.proofs.Orders.{equal_then}
 use Rattle.muck_prop.specs.declared.value.PropValue.{PropValue}
 use Rattle.muck_prop.specs.declared.path.PropFault.{PropFault}
 use Rattle.muck_prop.specs.Order.{path_cmp, path_eq, path_ties}
 use Rattle.muck_prop.specs.Store.{IsKept}
 use Rattle.muck_prop.proofs.Maps.{path_cmp_same, turned, get_is}
-use Rattle.muck_prop.proofs.Sequence.{equal_then}
-use Rattle.muck_prop.specs.Paths.{is_slash, is_filled, is_barred, segments_of, path_text, path_fault, fault_of, with_part, IsPath}
+use Rattle.muck_prop.specs.Paths.{is_slash, is_filled, is_barred, segments_of, path_text, path_fault, fault_of_path, with_part, IsPath}
 
 behind : List ℕ → List (List ℕ)
 behind [] = []
@@ -74,10 +75,6 @@ found_path q (e ∷ es) v kept h = by_cases (found_path q es v kept.1) (path_eq 
     by_cases rest true same found = subst (λ p. IsPath p) (path_same e.0 q same) kept.0.path
     by_cases rest false other found = rest found
 
-lookup_same : {X : Type 0} (f g : List (List ℕ) → Bool) (es : List (List (List ℕ) × X)) → ((path : List (List ℕ)) → f path ≡ g path) → lookup f es ≡ lookup g es
-lookup_same {X} f g [] h = refl
-lookup_same {X} f g (e ∷ es) h = ap (λ b. cond b (Some e.1) (lookup f es)) (h e.0) ∙ ap (λ (r : Option X). cond (g e.0) (Some e.1) r) (lookup_same f g es h)
-
 lookup_at : (q : List (List ℕ)) (es : List (List (List ℕ) × PropValue)) → lookup (is_at (path_cmp q)) es ≡ lookup (λ path. path_eq path q) es
 lookup_at q es = sym (lookup_same (λ path. path_eq path q) (is_at (path_cmp q)) es (λ path. path_ties path q ∙ sym (turned q path)))
 
@@ -88,7 +85,7 @@ found_by p q es found e same = e ∙ lookup_at p es ∙ ap (λ r. lookup (λ pat
 lookup_get : (q : List (List ℕ)) (es : List (List (List ℕ) × PropValue)) → lookup (λ path. path_eq path q) es ≡ get (from_entries {R = path_cmp} es) q
 lookup_get q es = sym (lookup_at q es) ∙ sym (get_is q es)
 
-no_fault_of : (text : List ℕ) (q : List (List ℕ)) → list_any is_barred text ≡ false → IsPath q → fault_of text q ≡ None
+no_fault_of : (text : List ℕ) (q : List (List ℕ)) → list_any is_barred text ≡ false → IsPath q → fault_of_path text q ≡ None
 no_fault_of text q free path =
     let some : eqb (length q) 0 ≡ false = ne_eqb (length q) 0 (λ e. omega (arith, e, path.some)) in
     let short : nat_lt 128 (length (path_text q)) ≡ false = le-ltb 128 (length (path_text q)) path.short in

@@ -1,12 +1,15 @@
 -- What is read from a text that has no fault is a path.
-use Rattle.std.proofs.Common.{◌≡◌, ℕ, suc, ◌+◌, ◌≤◌, Bool, true, false, cond, not, ◌||◌, List, [], ◌∷◌, map, length, nat_lt, refl, sym, subst, arith}
+use Rattle.std.proofs.Common.{◌≡◌, ℕ, Bool, true, false, cond, List, [], ◌∷◌, map, length, nat_lt, refl, sym, subst, arith}
 use Rattle.std.proofs.lemmas.Bool.{ltb-false, eqb-false}
 use Rattle.std.specs.Prelude.{Option, None, Some, if◌then◌else◌, ◌==◌}
 use Rattle.std.specs.Char.{to_ascii_lowercase}
-use Rattle.std.specs.List.{AllByRecursion, filter, list_any, slice_split, onto_first, position, position_or_len}
+use Rattle.std.specs.List.{AllByRecursion, filter, list_any, slice_split, onto_first}
+use Rattle.muck_laws.proofs.Tests.{both_hold, no_place, none_passes}
+use Rattle.muck_laws.proofs.Texts.{onto_first_part}
+use Rattle.muck_laws.proofs.Truths.{none_of_three}
 use Rattle.muck_model.specs.Bytes.{is_outside, text_fault, text_most}
 use Rattle.muck_model.specs.Bytes as model
-use Rattle.muck_prop.specs.Paths.{is_slash, is_filled, is_barred, segments_of, path_text, is_bad_path, fault_of, IsSegmentByte, IsSegment, IsPath}
+use Rattle.muck_prop.specs.Paths.{is_slash, is_filled, is_barred, segments_of, path_text, is_bad_path, fault_of_path, IsSegmentByte, IsSegment, IsPath}
 use Rattle.muck_prop.specs.declared.path.PropFault.TheVariants.{BadPath, TooDeep}
 
 pub lowered_byte : (b : ℕ) → is_outside b ≡ false → is_barred b ≡ false → is_slash b ≡ false → IsSegmentByte (to_ascii_lowercase b)
@@ -23,38 +26,7 @@ lowered_byte b inside free apart = record {
 abbrev pub IsRead : ℕ → Type 0
 IsRead b = (is_outside b ≡ false) × (is_barred b ≡ false)
 
-none_passes : (p : ℕ → Bool) (bs : List ℕ) → list_any p bs ≡ false → AllByRecursion (λ b. p b ≡ false) bs
-none_passes p [] h = tt
-none_passes p (b ∷ bs) h =
-    elim (p b) as (λ r. p b ≡ r → (r || list_any p bs) ≡ false → AllByRecursion (λ b. p b ≡ false) (b ∷ bs)) [
-      | true ↦ λ e no. cc
-      | false ↦ λ e no. (e, none_passes p bs no)
-    ] refl h
-
-no_place_before : (p : ℕ → Bool) (bs : List ℕ) → length bs ≤ position_or_len p bs → AllByRecursion (λ b. p b ≡ false) bs
-no_place_before p [] h = tt
-no_place_before p (b ∷ bs) h =
-    elim (p b) as (λ r. p b ≡ r → suc (length bs) ≤ cond (not r) (1 + position_or_len p bs) 0 → AllByRecursion (λ b. p b ≡ false) (b ∷ bs)) [
-      | true ↦ λ e no. absurd (omega arith)
-      | false ↦ λ e no. (e, no_place_before p bs (omega arith))
-    ] refl h
-
-no_place : (p : ℕ → Bool) (bs : List ℕ) → position p bs ≡ None → AllByRecursion (λ b. p b ≡ false) bs
-no_place p bs h =
-    elim (nat_lt (position_or_len p bs) (length bs)) as (λ r. nat_lt (position_or_len p bs) (length bs) ≡ r → cond r (Some (position_or_len p bs)) None ≡ None → AllByRecursion (λ b. p b ≡ false) bs) [
-      | true ↦ λ e no. cc
-      | false ↦ λ e no. no_place_before p bs (ltb-false _ _ e)
-    ] refl h
-
-both_hold : {X : Type 0} (P Q : X → Type 0) (xs : List X) → AllByRecursion P xs → AllByRecursion Q xs → AllByRecursion (λ x. P x × Q x) xs
-both_hold P Q [] a b = tt
-both_hold P Q (x ∷ xs) a b = ((a.0, b.0), both_hold P Q xs a.1 b.1)
-
 -- ---- parts of a text
-
-onto_first_part : (P : ℕ → Type 0) (b : ℕ) (parts : List (List ℕ)) → P b → AllByRecursion (AllByRecursion P) parts → AllByRecursion (AllByRecursion P) (onto_first b parts)
-onto_first_part P b [] h all = ((h, tt), tt)
-onto_first_part P b (part ∷ parts) h all = ((h, all.0), all.1)
 
 parts_of : (P : ℕ → Type 0) (bs : List ℕ) → AllByRecursion P bs → AllByRecursion (AllByRecursion (λ b. P b × (is_slash b ≡ false))) (slice_split is_slash bs)
 parts_of P [] h = (tt, tt)
@@ -82,7 +54,7 @@ segments (s ∷ parts) h =
 
 -- ---- a text without a fault
 
-no_fault_place : (place : Option ℕ) (n : ℕ) → model.fault_of place n ≡ None → place ≡ None
+no_fault_place : (place : Option ℕ) (n : ℕ) → model.fault_of_bytes place n ≡ None → place ≡ None
 no_fault_place None n h = refl
 no_fault_place (Some at) n h = cc
 
@@ -94,13 +66,7 @@ no_fault true deep h = cc
 no_fault false true h = cc
 no_fault false false h = (refl, refl)
 
-none_of_three : (a b c : Bool) → (a || b || c) ≡ false → (a ≡ false) × (b ≡ false) × (c ≡ false)
-none_of_three true b c h = cc
-none_of_three false true c h = cc
-none_of_three false false true h = cc
-none_of_three false false false h = (refl, refl, refl)
-
-pub read_is_path : (bs : List ℕ) (path : List (List ℕ)) → path ≡ segments_of bs → text_fault bs ≡ None → fault_of bs path ≡ None → IsPath path
+pub read_is_path : (bs : List ℕ) (path : List (List ℕ)) → path ≡ segments_of bs → text_fault bs ≡ None → fault_of_path bs path ≡ None → IsPath path
 read_is_path bs path is fine sound =
     let parts = no_fault (is_bad_path bs path) (nat_lt 16 (length path)) sound in
     let none = none_of_three (list_any is_barred bs) (length path == 0) (nat_lt 128 (length (path_text path))) parts.0 in

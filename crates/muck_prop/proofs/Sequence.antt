@@ -1,5 +1,5 @@
 -- What continues a path stands together in the order of paths, right after it.
-use Rattle.std.proofs.Common.{◌≡◌, ℕ, Bool, true, false, cond, ◌&&◌, ◌||◌, ◌⊎◌, List, [], ◌∷◌, ◌++◌, bytes_eq, refl, ap, sym, ◌∙◌, arith}
+use Rattle.std.proofs.Common.{◌≡◌, ℕ, Bool, true, false, cond, ◌&&◌, ◌||◌, List, [], ◌∷◌, ◌++◌, bytes_eq, refl, ap, sym, ◌∙◌}
 use Rattle.std.proofs.lemmas.Bool.{and_parts}
 use mathlib.Core.Logic.{inl, inr}
 use Rattle.std.specs.Prelude.{Option, None, Some, if◌then◌else◌}
@@ -11,20 +11,11 @@ use Rattle.std.specs.declared.cmp.Ordering.{Ordering}
 use Rattle.std.specs.declared.cmp.Ordering.TheVariants.{Less, Equal, Greater}
 use Rattle.std.specs.List.{AllByRecursion, list_any, find}
 use Rattle.std.specs.List.Sorted.{IsStrictlySortedBy}
+use Rattle.muck_laws.proofs.Orders.{equal_then, is_less, then_less, zero_least}
 use Rattle.muck_prop.specs.Order.{segment_cmp, path_cmp, path_cmp_total, is_below, child, past}
 use Rattle.muck_prop.specs.Store.{is_after, next_among, found_child}
 
 -- ---- answers of comparisons
-
-pub then_less : (r x : Ordering) → ordering_then r x ≡ Less → (r ≡ Less) ⊎ ((r ≡ Equal) × (x ≡ Less))
-then_less Less x h = inl refl
-then_less Equal x h = inr (refl, h)
-then_less Greater x h = cc
-
-pub equal_then : (r : Ordering) → is_eq r ≡ true → r ≡ Equal
-equal_then Less h = cc
-equal_then Equal h = refl
-equal_then Greater h = cc
 
 pub same_segment : (s t : List ℕ) → bytes_eq s t ≡ true → segment_cmp s t ≡ Equal
 same_segment s t h = equal_then (segment_cmp s t) (sym (texts_ties s t) ∙ h)
@@ -119,11 +110,6 @@ module _ (p : List (List ℕ)) (start : List (List ℕ) → Bool) (later : (q : 
 
 -- ---- starts of a search
 
-pub is_less : (r : Ordering) → is_lt r ≡ true → r ≡ Less
-is_less Less h = refl
-is_less Equal h = cc
-is_less Greater h = cc
-
 -- right after p
 pub after_start_later : (p q : List (List ℕ)) → is_lt (path_cmp p q) ≡ true → path_cmp p q ≡ Less
 after_start_later p q h = is_less (path_cmp p q) h
@@ -153,10 +139,6 @@ pub after_start_passes : (p after q : List (List ℕ)) → is_lt (path_cmp p aft
 after_start_passes p after q h is =
     ap is_lt (up_to_less p after (child p q) h (below_is_after p (child p q) (child_is_below p q is)))
     ∙ sym (ap is_lt (below_is_after p q is))
-
--- past all that continues a child of p
-zero_least : (y : ℕ) → is_le (nat_cmp 0 y) ≡ true
-zero_least y = grind arith
 
 le_first : (r : Ordering) (q : List (List ℕ)) → is_le (ordering_then r (path_cmp [] q)) ≡ is_le r
 le_first Less q = refl

@@ -5,7 +5,7 @@ use Rattle.std.specs.Prelude.{None, Some, if◌then◌else◌, ◌==◌}
 use Rattle.std.specs.Char.{to_ascii_lowercase}
 use Rattle.std.specs.List.{AllByRecursion, filter, list_any, slice_split, onto_first, position_or_len}
 use Rattle.muck_model.specs.Bytes.{is_outside, text_fault}
-use Rattle.muck_prop.specs.Paths.{is_slash, is_filled, is_barred, segments_of, path_text, fault_of, IsReadAs, IsSegmentByte, IsSegment, IsPath}
+use Rattle.muck_prop.specs.Paths.{is_slash, is_filled, is_barred, segments_of, path_text, fault_of_path, IsReadAs, IsSegmentByte, IsSegment, IsPath}
 use Rattle.muck_prop.specs.declared.path.PropFault.TheVariants.{BadPath, TooDeep}
 use Rattle.muck_prop.proofs.Reading.{IsRead}
 
@@ -83,11 +83,11 @@ none_outside (b ∷ bs) h = ap (λ r. cond (not r) (1 + position_or_len is_outsi
 pub text_is_text : (p : List (List ℕ)) → IsPath p → text_fault (path_text p) ≡ None
 text_is_text p h = text_if (path_text p) (omega (arith, none_outside (path_text p) (text_read p h.each))) (omega (arith, h.short))
 
-fine_fault : (text : List ℕ) (p : List (List ℕ)) → list_any is_barred text ≡ false → (length p == 0) ≡ false → nat_lt 128 (length (path_text p)) ≡ false → nat_lt 16 (length p) ≡ false → fault_of text p ≡ None
+fine_fault : (text : List ℕ) (p : List (List ℕ)) → list_any is_barred text ≡ false → (length p == 0) ≡ false → nat_lt 128 (length (path_text p)) ≡ false → nat_lt 16 (length p) ≡ false → fault_of_path text p ≡ None
 fine_fault text p a b c d = λ i. if a i || b i || c i then Some BadPath else (if d i then Some TooDeep else None)
 
 pub text_reads : (p : List (List ℕ)) → IsPath p → IsReadAs (path_text p) p
 text_reads p h = record {
-  fine = ap (fault_of (path_text p)) (text_holds p h) ∙ fine_fault (path_text p) p (none_barred _ (text_read p h.each)) (let some = h.some in grind arith) (let short = h.short in grind arith) (let few = h.few in grind arith);
+  fine = ap (fault_of_path (path_text p)) (text_holds p h) ∙ fine_fault (path_text p) p (none_barred _ (text_read p h.each)) (let some = h.some in grind arith) (let short = h.short in grind arith) (let few = h.few in grind arith);
   holds = text_holds p h;
 }

@@ -34,11 +34,11 @@ abbrev pub is_bad_path : List ℕ → List (List ℕ) → Bool
 is_bad_path text path = list_any is_barred text || length path == 0 || nat_lt 128 (length (path_text path))
 
 -- why a text is no path, where `path` is what it holds
-abbrev pub fault_of : List ℕ → List (List ℕ) → Option PropFault
-fault_of text path = if is_bad_path text path then Some BadPath else (if nat_lt 16 (length path) then Some TooDeep else None)
+abbrev pub fault_of_path : List ℕ → List (List ℕ) → Option PropFault
+fault_of_path text path = if is_bad_path text path then Some BadPath else (if nat_lt 16 (length path) then Some TooDeep else None)
 
 abbrev pub path_fault : List ℕ → Option PropFault
-path_fault text = fault_of text (segments_of text)
+path_fault text = fault_of_path text (segments_of text)
 
 -- the text is read as the path, or it is none and this is why; want of memory says nothing
 abbrev pub IsPathOf : List ℕ → Result (List (List ℕ)) PropFault → Type 0
@@ -70,15 +70,15 @@ pub record IsPath (path : List (List ℕ)) : Type 0 where
   pub short : length (path_text path) ≤ 128
   pub each : AllByRecursion IsSegment path
 
-abbrev pub begins_with : ℕ → List ℕ → Bool
-begins_with b [] = false
-begins_with b (c ∷ s) = c == b
+abbrev pub begins_with_byte : ℕ → List ℕ → Bool
+begins_with_byte b [] = false
+begins_with_byte b (c ∷ s) = c == b
 
 -- the first of `@`, `~`, `.` and `_` with which any segment begins
 abbrev pub class_of : List (List ℕ) → Class
 class_of path =
-    if list_any (begins_with 64) path then At
-    else (if list_any (begins_with 126) path then Tilde
-    else (if list_any (begins_with 46) path then Dot
-    else (if list_any (begins_with 95) path then Underscore
+    if list_any (begins_with_byte 64) path then At
+    else (if list_any (begins_with_byte 126) path then Tilde
+    else (if list_any (begins_with_byte 46) path then Dot
+    else (if list_any (begins_with_byte 95) path then Underscore
     else Plain)))

@@ -1,5 +1,5 @@
 -- The properties of one object, as a map from paths to values.
-use Rattle.std.specs.Prelude.{◌≡◌, ℕ, Bool, true, false, ◌&&◌, ◌==◌, ◌⊎◌, pos, if◌then◌else◌, List, [], ◌∷◌, ◌++◌, map, Option, None, Some, is_some, length, drop}
+use Rattle.std.specs.Prelude.{◌≡◌, ℕ, ℤ, Bool, true, false, ◌&&◌, ◌==◌, ◌⊎◌, pos, if◌then◌else◌, List, [], ◌∷◌, ◌++◌, map, Option, None, Some, is_some, length, drop}
 use Rattle.std.specs.List.{list_any, filter}
 use Rattle.std.specs.Ordering.{is_lt, is_gt, int_eq}
 use Rattle.std.specs.FinMap.{FinMap, get, insert, remove, keys, entries}
@@ -17,9 +17,19 @@ abbrev pub is_nothing : PropValue → Bool
 is_nothing (Text text) = length text == 0
 is_nothing (Number n) = int_eq n (pos 0)
 
+-- the text that is kept, where it is one
+abbrev pub kept_text : PropValue → Option (List ℕ)
+kept_text (Text text) = Some text
+kept_text (Number n) = None
+
+-- the number that is kept, where it is one
+abbrev pub kept_number : PropValue → Option ℤ
+kept_number (Text text) = None
+kept_number (Number n) = Some n
+
 -- the map after a value is stored at a path: what stands for no property removes it
-abbrev pub stored : List (List ℕ) → PropValue → PropMap → PropMap
-stored path value m = if is_nothing value then remove m path else insert m path value
+abbrev pub value_stored : List (List ℕ) → PropValue → PropMap → PropMap
+value_stored path value m = if is_nothing value then remove m path else insert m path value
 
 -- some stored path continues this one
 abbrev pub is_dir : List (List ℕ) → PropMap → Bool
@@ -50,12 +60,12 @@ found_child dir None = None
 found_child dir (Some q) = if is_below dir q then Some (child dir q) else None
 
 -- a property, by its path behind so many segments
-abbrev pub behind : ℕ → List (List ℕ) × PropValue → Listed
-behind depth e = record { rest = drop depth e.0; value = e.1 }
+abbrev pub path_behind : ℕ → List (List ℕ) × PropValue → Listed
+path_behind depth e = record { rest = drop depth e.0; value = e.1 }
 
 -- the properties below `dir`, in the order of their paths, each by the rest of its path
 unfoldable pub listed_below : List (List ℕ) → PropMap → List Listed
-listed_below dir m = map (behind (length dir)) (filter (λ e. is_below dir e.0) (entries m))
+listed_below dir m = map (path_behind (length dir)) (filter (λ e. is_below dir e.0) (entries m))
 
 -- a path one segment longer than `dir` that has a value or is a directory
 pub record IsChild (m : PropMap) (dir c : List (List ℕ)) : Type 0 where

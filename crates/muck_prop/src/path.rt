@@ -3,7 +3,7 @@ ghost use Rattle.std.specs.Prelude.{◌≡◌, ◌++◌, ◌∷◌, [], Some, No
 ghost use Rattle.std.specs.List.{list_any};
 ghost use Rattle.muck_model.specs.Bytes.{text_fault};
 ghost use Rattle.muck_prop.specs.Order.{path_cmp};
-ghost use Rattle.muck_prop.specs.Paths.{segments_of, path_text, fault_of, path_fault, IsPathOf, IsPath, class_of, is_barred, IsReadAs};
+ghost use Rattle.muck_prop.specs.Paths.{segments_of, path_text, fault_of_path, path_fault, IsPathOf, IsPath, class_of, is_barred, IsReadAs};
 
 use crate::segments::Segments;
 use muck_model::{Line, NoMemory};
@@ -76,7 +76,7 @@ pub(crate) fn has_barred(text: &[u8]) -> bool
 
 // Why a text with these segments is no path.
 fn fault_in(alloc: Global, text: &[u8], segments: &Segments) -> Result<Option<PropFault>, NoMemory>
-    ensures { IfOk result (λ fault. fault ≡ fault_of text.now segments.now) }
+    ensures { IfOk result (λ fault. fault ≡ fault_of_path text.now segments.now) }
 {
     if has_barred(text) || segments.len() == 0 || segments.text(alloc)?.len() > BYTES_MOST {
         return Ok(Some(PropFault::BadPath));

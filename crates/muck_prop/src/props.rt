@@ -9,7 +9,7 @@ ghost use Rattle.std.specs.Map.{keys_of, lookup};
 ghost use Rattle.std.specs.BTreeMap.{IsOrdered, is_at};
 ghost use Rattle.std.specs.BTreeMap.Range.{is_from_start};
 ghost use Rattle.muck_prop.specs.Order.{path_cmp, path_eq, is_below};
-ghost use Rattle.muck_prop.specs.Store.{stored, is_dir, next_child, found_child, path_or_top, is_nothing, IsKept, IsLeastChild, behind, listed_below};
+ghost use Rattle.muck_prop.specs.Store.{value_stored, is_dir, next_child, found_child, path_or_top, is_nothing, IsKept, IsLeastChild, path_behind, listed_below};
 
 use crate::path::{Path, has_barred};
 use crate::segments::Segments;
@@ -182,7 +182,7 @@ fn behind(
 ) -> Result<Listed, NoMemory>
     requires kept { IsPath path.now }
     requires deeper { depth < length path.now }
-    ensures { IfOk result (λ listed. listed ≡ behind depth (path.now, value.now)) }
+    ensures { IfOk result (λ listed. listed ≡ path_behind depth (path.now, value.now)) }
 {
     let segments = path.rest(alloc, depth)?;
     let value = value.copy(alloc)?;
@@ -197,7 +197,7 @@ fn all_below(
     dir: &Segments,
 ) -> Result<Row<Listed>, NoMemory>
     requires kept { AllByRecursion IsKept values.now.entries }
-    ensures list { IfOk result (λ list. list ≡ mapped (behind (length dir.now)) (filter (λ e. is_below dir.now e.0) values.now.entries)) }
+    ensures list { IfOk result (λ list. list ≡ mapped (path_behind (length dir.now)) (filter (λ e. is_below dir.now e.0) values.now.entries)) }
     ensures ordered { IsOrdered path_cmp values.now }
 {
     let depth = dir.len();
@@ -270,7 +270,7 @@ impl Props {
 
     /// All properties, each copied, in the order of their paths. Each path is one, and no value is an empty text or 0.
     pub fn all(&self, alloc: Global) -> Result<Row<Listed>, NoMemory>
-        ensures list { IfOk result (λ list. list ≡ mapped (behind 0) (map.entries self.now)) }
+        ensures list { IfOk result (λ list. list ≡ mapped (path_behind 0) (map.entries self.now)) }
         ensures kept { OnOk result (AllByRecursion IsKept (map.entries self.now)) }
     {
         let top = Segments::new(alloc)?;
@@ -296,7 +296,7 @@ impl Props {
     /// Stores a value at a path; an empty text or 0 removes the property. After `NoMemory`, which comes only for a path
     /// without a value, nothing has changed.
     pub fn put(&mut self, path: Path, value: PropValue) -> Result<(), NoMemory>
-        ensures ok { OnOk result (self.new ≡ stored path value self.old) }
+        ensures ok { OnOk result (self.new ≡ value_stored path value self.old) }
         ensures err { OnErr result (self.new ≡ self.old) }
         ensures only_new { OnErr result (map.get self.old path ≡ None) }
         ensures removes { is_nothing value ≡ true → is_ok result ≡ true }

@@ -1,6 +1,6 @@
 // One segment of a path.
 ghost use Rattle.std.specs.Prelude.{◌≡◌, ◌++◌, [], ◌∷◌, Some, map, IfOk, bytes_eq, length, refl, IsTrue, ◌↔◌};
-ghost use Rattle.muck_prop.specs.Paths.{begins_with};
+ghost use Rattle.muck_prop.specs.Paths.{begins_with_byte};
 ghost use Rattle.std.specs.Char.{to_ascii_lowercase};
 ghost use Rattle.std.specs.Ordering.{nat_cmp};
 ghost use Rattle.std.specs.Cmp.{on_equiv, on_total, on_po, on_per, partial_equiv_from_equiv};
@@ -59,7 +59,7 @@ impl Segment {
 
     // Whether it begins with a byte.
     pub(crate) fn begins_with(&self, first: u8) -> bool
-        ensures { result ≡ begins_with first self.now }
+        ensures { result ≡ begins_with_byte first self.now }
     {
         match self.bytes.first() {
             Some(byte) => *byte == first,

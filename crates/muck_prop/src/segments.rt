@@ -3,7 +3,7 @@ ghost use Rattle.std.specs.Prelude.{◌≡◌, ◌≤◌, ◌++◌, ◌∷◌, [
 ghost use Rattle.std.specs.List.{list_any};
 ghost use Rattle.std.specs.Cmp.{on_equiv, on_total, on_po, on_per, partial_equiv_from_equiv};
 ghost use Rattle.muck_prop.specs.Order.{path_cmp, path_eq, path_cmp_total, path_eq_equiv, path_ties, path_po, is_below, past};
-ghost use Rattle.muck_prop.specs.Paths.{segments_of, path_text, begins_with, with_part};
+ghost use Rattle.muck_prop.specs.Paths.{segments_of, path_text, begins_with_byte, with_part};
 
 use crate::segment::Segment;
 use muck_model::{Boxed, NoMemory, count_before};
@@ -178,7 +178,7 @@ impl Segments {
 
     // Whether any of them begins with a byte.
     pub(crate) fn any_begins_with(&self, first: u8) -> bool
-        ensures { result ≡ list_any (begins_with first) self.now }
+        ensures { result ≡ list_any (begins_with_byte first) self.now }
     {
         self.as_slice()
             .iter()

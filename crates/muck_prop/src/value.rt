@@ -1,6 +1,7 @@
 // What a property holds.
 ghost use Rattle.std.specs.Prelude.{◌≡◌, ◌↔◌, IfOk, true};
-ghost use Rattle.muck_prop.specs.Store.{is_nothing};
+ghost use Rattle.std.specs.Option.{option_copied};
+ghost use Rattle.muck_prop.specs.Store.{is_nothing, kept_text, kept_number};
 
 use muck_model::{Line, NoMemory};
 use std::alloc::Global;
@@ -24,8 +25,28 @@ impl PropValue {
         }
     }
 
-    // Whether both are equal.
-    pub(crate) fn is_same(&self, other: &PropValue) -> bool
+    /// Its text, where it is one.
+    pub fn text(&self) -> Option<&Line>
+        ensures { option_copied result ≡ kept_text self.now }
+    {
+        match self {
+            PropValue::Text(text) => Some(text),
+            PropValue::Number(_) => None,
+        }
+    }
+
+    /// Its number, where it is one.
+    pub fn number(&self) -> Option<i32>
+        ensures { result ≡ kept_number self.now }
+    {
+        match self {
+            PropValue::Text(_) => None,
+            PropValue::Number(number) => Some(*number),
+        }
+    }
+
+    /// Whether both are equal.
+    pub fn is_same(&self, other: &PropValue) -> bool
         ensures { result ≡ true ↔ self.now ≡ other.now }
     {
         match self {

@@ -1,12 +1,12 @@
 -- A process that a change leaves its number.
-use Rattle.std.proofs.Common.{◌≡◌, ℤ, Bool, true, false, cond, List, [], ◌∷◌, refl, sym, ◌∙◌, ap, arith, Some, None}
+use Rattle.std.proofs.Common.{◌≡◌, ℤ, Bool, true, false, cond, List, [], ◌∷◌, refl, sym, ◌∙◌, ap, Some, None}
 use Rattle.std.specs.Prelude.{find}
 use Rattle.std.specs.Option.{option_map}
 use Rattle.std.specs.Ordering.{int_eq}
 use Rattle.std.proofs.lemmas.Bool.{cond-true, cond-false}
-use Rattle.std.proofs.lemmas.Int.{ints}
+use Rattle.muck_laws.proofs.Numbers.{other_number}
 use Rattle.muck_queue.specs.declared.process.Process.{Process}
-use Rattle.muck_queue.specs.Queues.{Queue, has_pid, changed_first, without_first, with_processes, process, on_process, without}
+use Rattle.muck_queue.specs.Queues.{Queue, has_pid, changed_first, without_first, with_processes, process, on_process, without_process}
 
 -- a change leaves each process its number
 abbrev pub KeepsNumber : (Process → Process) → Type 0
@@ -44,9 +44,6 @@ found_first pid f k (p ∷ ps) =
       | true ↦ λ e. cond-true _ _ _ (has_same pid f k p true e)
       | false ↦ λ e. cond-false _ _ _ e ∙ found_first pid f k ps
     ]) refl
-
-other_number : (other pid n : ℤ) → int_eq other pid ≡ false → int_eq n pid ≡ true → int_eq n other ≡ false
-other_number other pid n d e = grind (arith, ints)
 
 other_first : (other pid : ℤ) (f : Process → Process) → KeepsNumber f → int_eq other pid ≡ false → (ps : List Process) →
     find (has_pid other) (changed_first (has_pid pid) f ps) ≡ find (has_pid other) ps
@@ -99,8 +96,8 @@ unfolding on_process
 changed_twice pid f g k q = ap (λ ps. with_processes ps q) (twice_first pid f g k q.processes)
 
 -- a process that ends may have been changed
-pub without_changed : (pid : ℤ) (f : Process → Process) → KeepsNumber f → (q : Queue) → without pid (on_process pid f q) ≡ without pid q
-unfolding on_process without
+pub without_changed : (pid : ℤ) (f : Process → Process) → KeepsNumber f → (q : Queue) → without_process pid (on_process pid f q) ≡ without_process pid q
+unfolding on_process without_process
 without_changed pid f k q = ap (λ ps. with_processes ps q) (taken_first pid f k q.processes)
 
 -- a change that gives the process back changes nothing

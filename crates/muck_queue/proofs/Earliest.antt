@@ -1,16 +1,12 @@
 -- The earliest of a list, one element after another.
-use Rattle.std.proofs.Common.{◌≡◌, ℕ, ◌+◌, ◌<◌, Bool, true, false, List, [], ◌∷◌, ◌++◌, length, take, get_or, refl, sym, ◌∙◌, ap, cond, Some}
+use Rattle.std.proofs.Common.{◌≡◌, ℕ, ◌+◌, ◌<◌, Bool, true, false, List, [], ◌∷◌, ◌++◌, length, take, get_or, sym, ◌∙◌, ap, cond, Some}
 use Rattle.std.specs.List.{filter, reduce}
 use Rattle.std.specs.Option.{option_map_or}
 use Rattle.std.proofs.lemmas.List.Elements.{filter_more}
 use Rattle.std.proofs.lemmas.List.{append-nil}
-use Rattle.std.proofs.lemmas.List.Sums.{fold_push}
+use Rattle.muck_laws.proofs.Mapped.{reduce_push}
 use Rattle.muck_queue.specs.declared.process.Process.{Process}
 use Rattle.muck_queue.specs.Queues.{earlier, earliest}
-
-reduce_push : {X : Type 0} (f : X → X → X) (xs : List X) (x : X) → reduce f (xs ++ x ∷ []) ≡ Some (option_map_or (λ y. f y x) (reduce f xs) x)
-reduce_push f [] x = refl
-reduce_push f (y ∷ ys) x = ap Some (fold_push f y ys x)
 
 -- the filter of one element more, where the element passes and where it doesn't
 filtered : (test : Process → Bool) (ps : List Process) (i : ℕ) (p : Process) (b : Bool) → i < length ps → p ≡ get_or ps i p → test p ≡ b →

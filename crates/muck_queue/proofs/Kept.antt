@@ -8,7 +8,7 @@ use Rattle.std.proofs.lemmas.List.{length_push}
 use Rattle.muck_model.specs.declared.dbref.Dbref.{Dbref}
 use Rattle.muck_queue.specs.declared.claim.Claim.{Claim}
 use Rattle.muck_queue.specs.declared.process.Process.{Process}
-use Rattle.muck_queue.specs.Queues.{changed_first, has_pid, has_trigger, is_awaiting, is_claimed, is_due, is_on, is_reading, numbered, without_all, without_first, without_trigger}
+use Rattle.muck_queue.specs.Queues.{changed_first, has_pid, has_trigger, is_awaiting, is_claimed, is_process_due, is_on, is_reading, process_numbered, without_all, without_first, without_trigger}
 use Rattle.muck_queue.specs.inner.Leading.{Leads}
 use Rattle.muck_queue.specs.inner.Numbered.{Rises}
 use Rattle.muck_queue.specs.inner.Room.{Stands, unclaimed}
@@ -24,9 +24,9 @@ pub stands_wider : (room more : ℕ) (last : ℤ) (cs new : List Claim) (ps : Li
 stands_wider room more last cs new ps h e l = rw e (record { numbered = h.numbered; room = (let most = h.room in omega arith) })
 
 pub stands_added : (p : Process) (room more : ℕ) (last next : ℤ) (cs same : List Claim) (ps new : List Process) → Stands room last cs ps → same ≡ cs → length cs + suc (length ps) ≤ more →
-    next ≡ last +ℤ pos 1 → new ≡ ps ++ numbered next p ∷ [] → Stands more next same new
+    next ≡ last +ℤ pos 1 → new ≡ ps ++ process_numbered next p ∷ [] → Stands more next same new
 stands_added p room more last next cs same ps new h s l n e =
-    let most = unclaimed_added cs (numbered (last +ℤ pos 1) p) ps in
+    let most = unclaimed_added cs (process_numbered (last +ℤ pos 1) p) ps in
     rw (s, e, n) (record { numbered = rises_added (pos 0) last ps p h.numbered; room = omega arith })
 
 -- with as many processes to be claimed, or fewer
@@ -54,7 +54,7 @@ stands_cleared trigger room last cs ps new h e =
 -- Claims.
 
 -- a process that is due is claimed by nobody
-unclaimed_due : (moment : ℕ) (cs : List Claim) (p : Process) → is_due moment cs p ≡ true → is_claimed p.number cs ≡ false
+unclaimed_due : (moment : ℕ) (cs : List Claim) (p : Process) → is_process_due moment cs p ≡ true → is_claimed p.number cs ≡ false
 unclaimed_due moment cs p e =
     not-true _ (and_parts (not (is_awaiting p)) _ (and_parts (not (is_reading p)) _ (and_parts (nat_le p.due moment) _ e).1).1).1
 

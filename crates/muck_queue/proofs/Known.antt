@@ -1,12 +1,14 @@
 -- Each change of a queue keeps what the queue knows of its processes.
-use Rattle.std.proofs.Common.{◌≡◌, ℕ, ℤ, ◌<◌, ◌≤◌, ◌+◌, Bool, true, false, not, List, [], ◌∷◌, ◌++◌, length, take, get_or, refl, sym, ◌∙◌, ap, subst, arith, Option, Some, None, if◌then◌else◌}
+use Rattle.std.proofs.Common.{◌≡◌, ℕ, ℤ, ◌<◌, ◌≤◌, ◌+◌, Bool, true, false, not, List, [], ◌∷◌, ◌++◌, length, take, get_or, refl, sym, ◌∙◌, ap, subst, arith, Option, None, if◌then◌else◌}
 use Rattle.std.specs.Prelude.{◌&&◌, ◌||◌, ◌==◌, nat_le, is_some, drop, map, find}
 use Rattle.std.specs.List.{list_all, list_any, reduce}
-use Rattle.std.specs.Option.{option_map, option_map_or}
-use Rattle.std.proofs.lemmas.Bool.{cond_both, and_right, le-leb}
-use Rattle.std.proofs.lemmas.Bool.Decides.{nat_tests}
+use Rattle.std.specs.Option.{option_map}
+use Rattle.std.proofs.lemmas.Bool.{cond_both, le-leb}
 use Rattle.std.proofs.lemmas.List.{take_more}
 use Rattle.std.proofs.Math.Bool.{or-true}
+use Rattle.muck_laws.proofs.Numbers.{event_of, lower_of, not_due}
+use Rattle.muck_laws.proofs.Options.{untied_of}
+use Rattle.muck_laws.proofs.Truths.{or_last, taken_of, waiting_of}
 use Rattle.muck_model.specs.declared.dbref.Dbref.{Dbref}
 use Rattle.muf_model.specs.Datum.{Datum}
 use Rattle.muck_queue.specs.declared.claim.Claim.{Claim}
@@ -14,55 +16,29 @@ use Rattle.muck_queue.specs.declared.mode.Mode.{Mode}
 use Rattle.muck_queue.specs.declared.mode.Wait.{Wait}
 use Rattle.muck_queue.specs.declared.mode.Wait.TheVariants.{Nothing, ForLine, ForEvent}
 use Rattle.muck_queue.specs.declared.process.Process.{Process}
-use Rattle.muck_queue.specs.Queues.{Queue, changed_first, earlier, earliest, has_pid, has_trigger, in_mode, is_awaiting, is_claimed, is_due, is_for_event, is_reading, is_tied_to, keeps_busy, next_due, numbered, reads_from, told_event, woken, without_all, without_event, without_first, without_trigger}
+use Rattle.muck_queue.specs.Queues.{Queue, changed_first, earlier, earliest, has_pid, has_trigger, process_in_mode, is_awaiting, is_claimed, is_process_due, is_for_event, is_reading, is_tied_to, keeps_busy, next_due, process_numbered, reads_from, told_event, woken, without_all, without_event, without_first, without_trigger}
 use Rattle.muck_queue.specs.inner.Known.{Knows, fits_second, fits_ties, has_connection, is_timed}
 use Rattle.muck_queue.proofs.Woken.{woken_due, woken_descr}
 use Rattle.muck_queue.proofs.Tested.{Gives, Bars, all_changed, all_without, all_kept, all_mapped, all_added, none_any, none_found, none_filtered, none_taken}
 
 -- Seconds.
 
-lower : (less s d : ℕ) → less ≤ s → nat_le s d ≡ true → nat_le less d ≡ true
-lower less s d l h = grind (arith, nat_tests)
-
-late : (s m d : ℕ) → m < s → nat_le s d ≡ true → nat_le d m ≡ false
-late s m d l h = grind (arith, nat_tests)
-
-or_last : (a b c : Bool) → c ≡ true → (a || (b || c)) ≡ true
-or_last true b c e = refl
-or_last false true c e = refl
-or_last false false c e = e
-
 -- a process that is due in this second or later
 pub second_due : (s : ℕ) (p : Process) → s ≤ p.due → fits_second s p ≡ true
 second_due s p h = or_last (is_reading p) (is_awaiting p) (nat_le s p.due) (le-leb s p.due h)
-
-lower_of : (a b : Bool) (less s d : ℕ) → less ≤ s → (a || (b || nat_le s d)) ≡ true → (a || (b || nat_le less d)) ≡ true
-lower_of true b less s d l h = refl
-lower_of false true less s d l h = refl
-lower_of false false less s d l h = lower less s d l h
 
 -- a lower second fits as well
 second_lower : (less s : ℕ) → less ≤ s → Gives (fits_second s) (fits_second less)
 second_lower less s l p h = lower_of (is_reading p) (is_awaiting p) less s p.due l h
 
-waiting_of : (a b c : Bool) → (not a && not b) ≡ false → (a || (b || c)) ≡ true
-waiting_of true b c h = refl
-waiting_of false true c h = refl
-waiting_of false false c h = cc
-
 -- a process that waits for more than its second
 pub second_waiting : (s : ℕ) (p : Process) → is_timed p ≡ false → fits_second s p ≡ true
 second_waiting s p h = waiting_of (is_reading p) (is_awaiting p) (nat_le s p.due) h
 
-not_due : (a b c : Bool) (s m d : ℕ) → m < s → (a || (b || nat_le s d)) ≡ true → (nat_le d m && (not a && (not b && c))) ≡ false
-not_due true b c s m d l h = and_right (nat_le d m) false refl
-not_due false true c s m d l h = and_right (nat_le d m) false refl
-not_due false false c s m d l h = ap (λ x. x && c) (late s m d l h)
-
 -- before that second none goes on
-none_soon : (cs : List Claim) (tied : Bool) (s m : ℕ) (ps : List Process) → Knows tied s ps → m < s → earliest (is_due m cs) ps ≡ None
+none_soon : (cs : List Claim) (tied : Bool) (s m : ℕ) (ps : List Process) → Knows tied s ps → m < s → earliest (is_process_due m cs) ps ≡ None
 none_soon cs tied s m ps k l =
-    ap (reduce earlier) (none_filtered (fits_second s) (is_due m cs) (λ p h. not_due (is_reading p) (is_awaiting p) (not (is_claimed p.number cs)) s m p.due l h) ps k.seconds)
+    ap (reduce earlier) (none_filtered (fits_second s) (is_process_due m cs) (λ p h. not_due (is_reading p) (is_awaiting p) (not (is_claimed p.number cs)) s m p.due l h) ps k.seconds)
 
 pub none_next : (q : Queue) (tied : Bool) (s m : ℕ) → Knows tied s q.processes → m < s → None ≡ next_due m q
 unfolding next_due
@@ -75,10 +51,6 @@ seconds_more s less ps i p h is l e k =
     rw (take_more ps i p h) (rw (← is) (all_added (fits_second s) (fits_second less) (second_lower less s l) p e (take i ps) k))
 
 -- Connections.
-
-untied_of : (test : ℕ → Bool) (o : Option ℕ) → (false || not (is_some o)) ≡ true → option_map_or test o false ≡ false
-untied_of test None h = refl
-untied_of test (Some c) h = cc
 
 untied : (d : ℕ) → Bars (fits_ties false) (is_tied_to d)
 untied d p h = untied_of (λ c. c == d) p.descr h
@@ -132,11 +104,11 @@ module _ (tied : Bool) (s : ℕ) where
       })
 
   pub knows_added : (p : Process) (now : Bool) (less : ℕ) (next : ℤ) (ps new : List Process) → Knows tied s ps → now ≡ (tied || has_connection p) → less ≤ s → less ≤ p.due →
-      new ≡ ps ++ numbered next p ∷ [] → Knows now less new
+      new ≡ ps ++ process_numbered next p ∷ [] → Knows now less new
   knows_added p now less next ps new k t l d e =
       rw e (record {
-        ties = all_added (fits_ties tied) (fits_ties now) (λ q h. more_ties tied (has_connection p) now (not (has_connection q)) t h) (numbered next p) (own_ties tied (has_connection p) now t) ps k.ties;
-        seconds = all_added (fits_second s) (fits_second less) (second_lower less s l) (numbered next p) (second_due less (numbered next p) d) ps k.seconds;
+        ties = all_added (fits_ties tied) (fits_ties now) (λ q h. more_ties tied (has_connection p) now (not (has_connection q)) t h) (process_numbered next p) (own_ties tied (has_connection p) now t) ps k.ties;
+        seconds = all_added (fits_second s) (fits_second less) (second_lower less s l) (process_numbered next p) (second_due less (process_numbered next p) d) ps k.seconds;
       }) where
         more_ties : (a b c r : Bool) → c ≡ (a || b) → (a || r) ≡ true → (c || r) ≡ true
         more_ties true b c r e h = ap (λ x. x || r) e
@@ -158,16 +130,11 @@ module _ (tied : Bool) (s : ℕ) where
     knows_kept test ps new k e f =
         record { ties = ties_found new now (λ h. f ∙ h); seconds = subst (λ (qs : List Process). list_all (fits_second s) qs ≡ true) (sym e) (all_kept (fits_second s) (λ p. not (test p)) ps k.seconds) }
 
-    pub knows_mode : (pid : ℤ) (mode : Mode) (ps new : List Process) → Knows tied s ps → new ≡ changed_first (has_pid pid) (in_mode mode) ps → now ≡ list_any has_connection new → Knows now s new
+    pub knows_mode : (pid : ℤ) (mode : Mode) (ps new : List Process) → Knows tied s ps → new ≡ changed_first (has_pid pid) (process_in_mode mode) ps → now ≡ list_any has_connection new → Knows now s new
     knows_mode pid mode ps new k e f =
-        record { ties = ties_found new now (λ h. f ∙ h); seconds = subst (λ (qs : List Process). list_all (fits_second s) qs ≡ true) (sym e) (all_changed (fits_second s) (fits_second s) (has_pid pid) (in_mode mode) (λ p h. h) (λ p h. h) ps k.seconds) }
+        record { ties = ties_found new now (λ h. f ∙ h); seconds = subst (λ (qs : List Process). list_all (fits_second s) qs ≡ true) (sym e) (all_changed (fits_second s) (fits_second s) (has_pid pid) (process_in_mode mode) (λ p h. h) (λ p h. h) ps k.seconds) }
 
 -- Changes of one process.
-
-event_of : (a b : Bool) (s due moment : ℕ) (r : Bool) → (a || (b || nat_le s due)) ≡ true → s ≤ moment → (a || (r || nat_le s (if b then moment else due))) ≡ true
-event_of true b s due moment r h l = refl
-event_of false true s due moment r h l = or_last false r (nat_le s moment) (le-leb s moment l)
-event_of false false s due moment r h l = or_last false r (nat_le s due) h
 
 pub second_event : (s moment : ℕ) (event : List ℕ × Datum) → s ≤ moment → (p : Process) → fits_second s p ≡ true → fits_second s (told_event moment event p) ≡ true
 second_event s moment event l p h = event_of (is_reading p) (is_awaiting p) s p.due moment (is_for_event p.wait (p.events ++ event ∷ [])) h l
@@ -177,11 +144,6 @@ still Nothing events h = cc
 still ForLine events h = cc
 still ForEvent [] h = refl
 still ForEvent (e ∷ events) h = cc
-
-taken_of : (a b r c : Bool) → (b ≡ true → r ≡ true) → (a || (b || c)) ≡ true → (a || (r || c)) ≡ true
-taken_of true b r c f h = refl
-taken_of false true r c f h = ap (λ x. x || c) (f refl)
-taken_of false false r c f h = or_last false r c h
 
 pub second_taken : (s : ℕ) (p : Process) → fits_second s p ≡ true → fits_second s (without_event p) ≡ true
 second_taken s p h = taken_of (is_reading p) (is_awaiting p) (is_for_event p.wait (drop 1 p.events)) (nat_le s p.due) (still p.wait p.events) h

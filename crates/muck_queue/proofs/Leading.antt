@@ -8,7 +8,7 @@ use Rattle.std.proofs.lemmas.Bool.Decides.{nat_tests}
 use Rattle.std.proofs.lemmas.Int.{ints}
 use Rattle.muck_queue.specs.declared.claim.Claim.{Claim}
 use Rattle.muck_queue.specs.declared.process.Process.{Process}
-use Rattle.muck_queue.specs.Queues.{Queue, is_due, is_before, earlier, earliest, next_due}
+use Rattle.muck_queue.specs.Queues.{Queue, is_process_due, is_before, earlier, earliest, next_due}
 use Rattle.muck_queue.specs.inner.Leading.{IsAmong, NoneBefore, NoneDueBefore, NoneDue, IsNext}
 
 before : ℕ → ℤ → ℕ → ℤ → Bool
@@ -62,27 +62,27 @@ among_all test r (p ∷ ps) i = decide (test p) refl (among_all test r ps) where
   decide true e rest = here e rest (subst (IsAmong r) (cond-true _ _ _ e) i)
   decide false e rest = let a = rest (subst (IsAmong r) (cond-false _ _ _ e) i) in (inr a.0, a.1)
 
-none_due_before : (moment : ℕ) (cs : List Claim) (r : Process) (ps : List Process) → NoneBefore r (filter (is_due moment cs) ps) → NoneDueBefore moment cs r ps
+none_due_before : (moment : ℕ) (cs : List Claim) (r : Process) (ps : List Process) → NoneBefore r (filter (is_process_due moment cs) ps) → NoneDueBefore moment cs r ps
 none_due_before moment cs r [] n = tt
-none_due_before moment cs r (p ∷ ps) n = decide (is_due moment cs p) refl (none_due_before moment cs r ps) where
-  decide : (b : Bool) → is_due moment cs p ≡ b → (NoneBefore r (filter (is_due moment cs) ps) → NoneDueBefore moment cs r ps) → NoneDueBefore moment cs r (p ∷ ps)
-  decide true e rest = let m : NoneBefore r (p ∷ filter (is_due moment cs) ps) = subst (NoneBefore r) (cond-true _ _ _ e) n in (λ _. m.0, rest m.1)
+none_due_before moment cs r (p ∷ ps) n = decide (is_process_due moment cs p) refl (none_due_before moment cs r ps) where
+  decide : (b : Bool) → is_process_due moment cs p ≡ b → (NoneBefore r (filter (is_process_due moment cs) ps) → NoneDueBefore moment cs r ps) → NoneDueBefore moment cs r (p ∷ ps)
+  decide true e rest = let m : NoneBefore r (p ∷ filter (is_process_due moment cs) ps) = subst (NoneBefore r) (cond-true _ _ _ e) n in (λ _. m.0, rest m.1)
   decide false e rest = (λ d. absurd (both_ways _ e d), rest (subst (NoneBefore r) (cond-false _ _ _ e) n))
 
-none_due : (moment : ℕ) (cs : List Claim) (ps : List Process) → earliest (is_due moment cs) ps ≡ None → NoneDue moment cs ps
+none_due : (moment : ℕ) (cs : List Claim) (ps : List Process) → earliest (is_process_due moment cs) ps ≡ None → NoneDue moment cs ps
 none_due moment cs [] e = tt
-none_due moment cs (p ∷ ps) e = decide (is_due moment cs p) refl (none_due moment cs ps) where
-  decide : (b : Bool) → is_due moment cs p ≡ b → (earliest (is_due moment cs) ps ≡ None → NoneDue moment cs ps) → NoneDue moment cs (p ∷ ps)
-  decide true d rest = let some : reduce earlier (p ∷ filter (is_due moment cs) ps) ≡ None = subst (λ xs. reduce earlier xs ≡ None) (cond-true _ _ _ d) e in absurd cc
+none_due moment cs (p ∷ ps) e = decide (is_process_due moment cs p) refl (none_due moment cs ps) where
+  decide : (b : Bool) → is_process_due moment cs p ≡ b → (earliest (is_process_due moment cs) ps ≡ None → NoneDue moment cs ps) → NoneDue moment cs (p ∷ ps)
+  decide true d rest = let some : reduce earlier (p ∷ filter (is_process_due moment cs) ps) ≡ None = subst (λ xs. reduce earlier xs ≡ None) (cond-true _ _ _ d) e in absurd cc
   decide false d rest = (d, rest (subst (λ xs. reduce earlier xs ≡ None) (cond-false _ _ _ d) e))
 
 -- the next is the earliest of those that are due
 pub next_is_next : (moment : ℕ) (q : Queue) (r : Option ℤ) → r ≡ next_due moment q → IsNext moment q.claims q.processes r
 unfolding next_due
-next_is_next moment q r e = subst (IsNext moment q.claims q.processes) (sym e) (decide (earliest (is_due moment q.claims) q.processes) refl) where
-  decide : (o : Option Process) → earliest (is_due moment q.claims) q.processes ≡ o → IsNext moment q.claims q.processes (option_map (λ p. p.number) o)
+next_is_next moment q r e = subst (IsNext moment q.claims q.processes) (sym e) (decide (earliest (is_process_due moment q.claims) q.processes) refl) where
+  decide : (o : Option Process) → earliest (is_process_due moment q.claims) q.processes ≡ o → IsNext moment q.claims q.processes (option_map (λ p. p.number) o)
   decide None is = none_due moment q.claims q.processes is
   decide (Some p) is =
-      let l = earliest_leads (is_due moment q.claims) q.processes p is in
-      let a = among_all (is_due moment q.claims) p q.processes l.1 in
+      let l = earliest_leads (is_process_due moment q.claims) q.processes p is in
+      let a = among_all (is_process_due moment q.claims) p q.processes l.1 in
       record { process = p; number = refl; among = a.0; due = a.1; first = none_due_before moment q.claims p q.processes l.0 }

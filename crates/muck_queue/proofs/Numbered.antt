@@ -6,7 +6,7 @@ use Rattle.std.proofs.lemmas.Bool.{cond_both}
 use Rattle.std.proofs.lemmas.Int.{ints}
 use Rattle.muck_model.specs.declared.dbref.Dbref.{Dbref}
 use Rattle.muck_queue.specs.declared.process.Process.{Process}
-use Rattle.muck_queue.specs.Queues.{numbered, has_trigger, without_trigger, changed_first, without_first}
+use Rattle.muck_queue.specs.Queues.{process_numbered, has_trigger, without_trigger, changed_first, without_first}
 use Rattle.muck_queue.specs.inner.Numbered.{Rises}
 use Rattle.muck_queue.proofs.Changed.{KeepsNumber}
 
@@ -15,7 +15,7 @@ rises_lower : (a b last : ℤ) (ps : List Process) → a ≤ℤ b → Rises b la
 rises_lower a b last [] h r = omega (arith, ints)
 rises_lower a b last (p ∷ ps) h r = (omega (arith, ints), r.1)
 
-pub rises_added : (low last : ℤ) (ps : List Process) (p : Process) → Rises low last ps → Rises low (last +ℤ pos 1) (ps ++ numbered (last +ℤ pos 1) p ∷ [])
+pub rises_added : (low last : ℤ) (ps : List Process) (p : Process) → Rises low last ps → Rises low (last +ℤ pos 1) (ps ++ process_numbered (last +ℤ pos 1) p ∷ [])
 rises_added low last [] p r = (omega (arith, ints), omega (arith, ints))
 rises_added low last (x ∷ ps) p r = (r.0, rises_added x.number last ps p r.1)
 

@@ -7,6 +7,8 @@ use Rattle.std.proofs.lemmas.Bool.{cond_both}
 use Rattle.std.proofs.lemmas.Int.{ints}
 use Rattle.std.proofs.Math.Bool.{or-false}
 use Rattle.std.proofs.lemmas.Cmp.{int_eq_equiv}
+use Rattle.muck_laws.proofs.Numbers.{at_most_more, both_more, fewer_one, taken_here, taken_later}
+use Rattle.muck_laws.proofs.Truths.{or_assoc}
 use Rattle.muck_model.specs.declared.dbref.Dbref.{Dbref}
 use Rattle.muck_queue.specs.declared.claim.Claim.{Claim}
 use Rattle.muck_queue.specs.declared.process.Process.{Process}
@@ -15,14 +17,6 @@ use Rattle.muck_queue.specs.inner.Leading.{IsAmong}
 use Rattle.muck_queue.specs.inner.Numbered.{Rises}
 use Rattle.muck_queue.specs.inner.Room.{unclaimed}
 use Rattle.muck_queue.proofs.Changed.{KeepsNumber}
-
-both_more : (c : Bool) (a b : ℕ) → a ≤ b → cond c a (suc a) ≤ cond c b (suc b)
-both_more true a b h = h
-both_more false a b h = omega arith
-
-at_most : (c : Bool) (a b : ℕ) → a ≤ b → a ≤ cond c b (suc b)
-at_most true a b h = h
-at_most false a b h = omega arith
 
 -- Processes.
 
@@ -39,13 +33,13 @@ unclaimed_kept cs test [] = omega arith
 unclaimed_kept cs test (p ∷ ps) =
     cond_both (test p) (p ∷ filter test ps) (filter test ps) (λ qs. unclaimed cs qs ≤ unclaimed cs (p ∷ ps))
     (λ e. both_more (is_claimed p.number cs) _ _ (unclaimed_kept cs test ps))
-    (λ e. at_most (is_claimed p.number cs) _ _ (unclaimed_kept cs test ps))
+    (λ e. at_most_more (is_claimed p.number cs) _ _ (unclaimed_kept cs test ps))
 
 pub unclaimed_without : (cs : List Claim) (test : Process → Bool) (ps : List Process) → unclaimed cs (without_first test ps) ≤ unclaimed cs ps
 unclaimed_without cs test [] = omega arith
 unclaimed_without cs test (p ∷ ps) =
     cond_both (test p) ps (p ∷ without_first test ps) (λ qs. unclaimed cs qs ≤ unclaimed cs (p ∷ ps))
-    (λ e. at_most (is_claimed p.number cs) _ _ (omega arith))
+    (λ e. at_most_more (is_claimed p.number cs) _ _ (omega arith))
     (λ e. both_more (is_claimed p.number cs) _ _ (unclaimed_without cs test ps))
 
 -- the same numbers
@@ -64,34 +58,15 @@ unclaimed_cleared cs trigger (p ∷ ps) =
 
 -- A claim more.
 
-or_assoc : (a b c : Bool) → (a || (b || c)) ≡ ((a || b) || c)
-or_assoc true b c = refl
-or_assoc false b c = refl
-
 claimed_more : (n : ℤ) (c : Claim) (cs : List Claim) → is_claimed n (cs ++ c ∷ []) ≡ (is_claimed n cs || is_on n c)
 claimed_more n c [] = or-false (is_on n c)
 claimed_more n c (x ∷ cs) = ap (λ b. is_on n x || b) (claimed_more n c cs) ∙ or_assoc (is_on n x) (is_claimed n cs) (is_on n c)
-
-fewer_one : (a b : Bool) (m k : ℕ) → m ≤ k → cond (a || b) m (suc m) ≤ cond a k (suc k)
-fewer_one true b m k h = h
-fewer_one false true m k h = omega arith
-fewer_one false false m k h = omega arith
 
 fewer : (c : Claim) (cs : List Claim) (ps : List Process) → unclaimed (cs ++ c ∷ []) ps ≤ unclaimed cs ps
 fewer c cs [] = omega arith
 fewer c cs (p ∷ ps) =
     let m = unclaimed (cs ++ c ∷ []) ps in
     subst (λ b. cond b m (suc m) ≤ unclaimed cs (p ∷ ps)) (sym (claimed_more p.number c cs)) (fewer_one (is_claimed p.number cs) (is_on p.number c) m (unclaimed cs ps) (fewer c cs ps))
-
-taken_here : (a b : Bool) (m k : ℕ) → a ≡ false → b ≡ true → m ≤ k → suc (cond (a || b) m (suc m)) ≤ cond a k (suc k)
-taken_here true b m k e f h = absurd cc
-taken_here false true m k e f h = omega arith
-taken_here false false m k e f h = absurd cc
-
-taken_later : (a b : Bool) (m k : ℕ) → suc m ≤ k → suc (cond (a || b) m (suc m)) ≤ cond a k (suc k)
-taken_later true b m k h = h
-taken_later false true m k h = omega arith
-taken_later false false m k h = omega arith
 
 -- on a process that nobody has claimed: one fewer is left
 pub unclaimed_claimed : (c : Claim) (cs : List Claim) (r : Process) (ps : List Process) → c.number ≡ r.number → is_claimed r.number cs ≡ false → IsAmong r ps → suc (unclaimed (cs ++ c ∷ []) ps) ≤ unclaimed cs ps

@@ -4,7 +4,7 @@ use Rattle.std.specs.Prelude.{find}
 use Rattle.std.specs.Option.{option_and_then}
 use Rattle.muf_model.specs.Source.{Source}
 use Rattle.muck_queue.specs.declared.process.Process.{Process}
-use Rattle.muck_queue.specs.Queues.{Queue, has_pid, at_state, changed_first, with_processes, on_process, process, standing, state_of, without}
+use Rattle.muck_queue.specs.Queues.{Queue, has_pid, at_state, changed_first, with_processes, on_process, process, standing, state_of, without_process}
 use Rattle.muck_queue.proofs.Changed.{changed_twice, without_changed, changed_same}
 
 module _ (pid : ℤ) (r : Option Source) where
@@ -12,7 +12,7 @@ module _ (pid : ℤ) (r : Option Source) where
   pub standing_twice : (s : Option Source) (q : Queue) → standing pid s (standing pid r q) ≡ standing pid s q
   standing_twice s q = changed_twice pid (at_state s) (at_state r) (λ p. refl) q
 
-  pub without_standing : (q : Queue) → without pid (standing pid r q) ≡ without pid q
+  pub without_standing : (q : Queue) → without_process pid (standing pid r q) ≡ without_process pid q
   without_standing q = without_changed pid (at_state r) (λ p. refl) q
 
   -- it stands there already

@@ -34,8 +34,8 @@ number_most = pos 2147483647
 abbrev pub has_pid : ℤ → Process → Bool
 has_pid pid p = int_eq p.number pid
 
-abbrev pub is_of : Dbref → Process → Bool
-is_of player p = same p.player player
+abbrev pub is_process_of : Dbref → Process → Bool
+is_process_of player p = same p.player player
 
 -- a claim is on the process of this number
 abbrev pub is_on : ℤ → Claim → Bool
@@ -72,8 +72,8 @@ abbrev pub is_claimed : ℤ → List Claim → Bool
 is_claimed pid cs = list_any (is_on pid) cs
 
 -- its second has come, it waits for nothing, and nobody has claimed it
-abbrev pub is_due : ℕ → List Claim → Process → Bool
-is_due moment cs p = nat_le p.due moment && (not (is_reading p) && (not (is_awaiting p) && not (is_claimed p.number cs)))
+abbrev pub is_process_due : ℕ → List Claim → Process → Bool
+is_process_due moment cs p = nat_le p.due moment && (not (is_reading p) && (not (is_awaiting p) && not (is_claimed p.number cs)))
 
 -- p is due before q, or they are due in the same second and p has the lower number
 abbrev pub is_before : Process → Process → Bool
@@ -95,14 +95,14 @@ abbrev pub is_in : Dbref → Source → Bool
 is_in program s = list_any (λ n. int_eq n program.0) (map (λ q. q.number) (programs_of s))
 
 -- a process whose state is out is in no program
-abbrev pub runs : Dbref → Process → Bool
-runs program p = option_map_or (is_in program) p.running false
+abbrev pub runs_in : Dbref → Process → Bool
+runs_in program p = option_map_or (is_in program) p.running false
 
 abbrev pub has_trigger : Dbref → Process → Bool
 has_trigger trigger p = same p.trigger trigger
 
-abbrev pub numbered : ℤ → Process → Process
-numbered pid p = record p { number = pid }
+abbrev pub process_numbered : ℤ → Process → Process
+process_numbered pid p = record p { number = pid }
 
 abbrev pub without_trigger : Process → Process
 without_trigger p = record p { trigger = nothing }
@@ -116,8 +116,8 @@ abbrev pub more : ℕ → ℕ → ℕ
 more n count = min (n + count) 18446744073709551615
 
 -- with so many units more, which in preempt are units of its section too
-abbrev pub counted : ℕ → Process → Process
-counted n p = record p { units = more n p.units; section = if is_preempt p.mode then more n p.section else p.section }
+abbrev pub units_counted : ℕ → Process → Process
+units_counted n p = record p { units = more n p.units; section = if is_preempt p.mode then more n p.section else p.section }
 
 -- it waits so, and counts its units anew when it goes on
 abbrev pub resting : Wait → Process → Process
@@ -128,23 +128,23 @@ abbrev pub sleeping : ℕ → Process → Process
 sleeping due p = record (resting Nothing p) { due = due }
 
 -- In another mode. A section that begins has no units yet; in the background a process has no connection, for good.
-abbrev pub in_mode : Mode → Process → Process
-in_mode mode p = record p {
+abbrev pub process_in_mode : Mode → Process → Process
+process_in_mode mode p = record p {
   mode = mode;
   descr = if is_background mode then None else p.descr;
   section = if is_preempt p.mode then p.section else 0;
 }
 
 -- it goes on from this second, with an item more
-abbrev pub with_item : Datum → Process → Process
-with_item x p = record p { running = option_map (handed x) p.running }
+abbrev pub process_with_item : Datum → Process → Process
+process_with_item x p = record p { running = option_map (handed x) p.running }
 
 abbrev pub going_on : ℕ → Process → Process
 going_on moment p = record p { wait = Nothing; due = moment }
 
 -- the line for which it waited comes, and is an item for it
 abbrev pub told_line : ℕ → List ℕ → Process → Process
-told_line moment line p = with_item (text line) (going_on moment p)
+told_line moment line p = process_with_item (text line) (going_on moment p)
 
 -- the most events that a process has
 abbrev pub events_most : ℕ
@@ -160,7 +160,7 @@ without_event p = record p { events = drop 1 p.events }
 
 -- where it waited for an event, and one came, it has that: what came with it, and upon that the name
 abbrev pub given_event : Wait → List (List ℕ × Datum) → Process → Process
-given_event ForEvent (e ∷ events) p = with_item (text e.0) (with_item e.1 (record p { wait = Nothing; events = events }))
+given_event ForEvent (e ∷ events) p = process_with_item (text e.0) (process_with_item e.1 (record p { wait = Nothing; events = events }))
 given_event wait events p = p
 
 -- a slice of it begins at this second, and with it a section of its own
@@ -201,7 +201,7 @@ process pid q = find (has_pid pid) q.processes
 
 -- the number of the process that is to go on next
 unfoldable pub next_due : ℕ → Queue → Option ℤ
-next_due moment q = option_map (λ p. p.number) (earliest (is_due moment q.claims) q.processes)
+next_due moment q = option_map (λ p. p.number) (earliest (is_process_due moment q.claims) q.processes)
 
 -- a party claims the process of this number
 unfoldable pub claimed : ℤ → ℕ → Queue → Queue
@@ -224,23 +224,23 @@ abbrev pub state_of : ℤ → Queue → Option Source
 state_of pid q = option_and_then (λ p. p.running) (process pid q)
 
 -- without the process of this number
-unfoldable pub without : ℤ → Queue → Queue
-without pid q = with_processes (without_first (has_pid pid) q.processes) q
+unfoldable pub without_process : ℤ → Queue → Queue
+without_process pid q = with_processes (without_first (has_pid pid) q.processes) q
 
 -- no process of this player can be added: there are as many as may be, or as many of this player, or no number is left
-unfoldable pub is_full : Dbref → Tune → Queue → Bool
-is_full player tune q =
+unfoldable pub is_queue_full : Dbref → Tune → Queue → Bool
+is_queue_full player tune q =
     nat_le tune.process_limit (length q.processes)
-    || nat_le tune.player_processes (count_by (is_of player) q.processes)
+    || nat_le tune.player_processes (count_by (is_process_of player) q.processes)
     || int_eq q.last number_most
 
 -- with a process more, behind all others, with the number after the last one that was given
-unfoldable pub added : Process → Queue → Queue
-added p q = record q { processes = q.processes ++ numbered (q.last +ℤ pos 1) p ∷ []; last = q.last +ℤ pos 1 }
+unfoldable pub process_added : Process → Queue → Queue
+process_added p q = record q { processes = q.processes ++ process_numbered (q.last +ℤ pos 1) p ∷ []; last = q.last +ℤ pos 1 }
 
 -- some process is tied to the connection d
-unfoldable pub is_tied : ℕ → Queue → Bool
-is_tied d q = list_any (is_tied_to d) q.processes
+unfoldable pub has_process_tied : ℕ → Queue → Bool
+has_process_tied d q = list_any (is_tied_to d) q.processes
 
 -- some process that is tied to the connection d doesn't wait for its line
 unfoldable pub is_busy : ℕ → Queue → Bool
@@ -264,7 +264,7 @@ ended_tied d q = with_processes (without_all (is_tied_to d) q.processes) q
 
 -- without the processes that run the program
 unfoldable pub ended_running : Dbref → Queue → Queue
-ended_running program q = with_processes (without_all (runs program) q.processes) q
+ended_running program q = with_processes (without_all (runs_in program) q.processes) q
 
 -- no process was started by this trigger any more
 unfoldable pub trigger_cleared : Dbref → Queue → Queue

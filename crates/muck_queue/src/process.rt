@@ -3,7 +3,7 @@ ghost use Rattle.std.specs.Prelude.{◌≡◌, ◌&&◌, ◌||◌, OnOk, OnErr, 
 ghost use Rattle.std.specs.Option.{option_map};
 ghost use Rattle.muf_model.specs.Datum.{text as text_item};
 ghost use Rattle.muf_model.specs.inner.View.{view};
-ghost use Rattle.muck_queue.specs.Queues.{has_pid, is_of, is_due, is_before, is_tied_to, is_reading, is_awaiting, reads_from, keeps_busy, runs, has_trigger, without_trigger, more, counted, resting, sleeping, in_mode, with_item, going_on, told_line, told_event, without_event, given_event, woken};
+ghost use Rattle.muck_queue.specs.Queues.{has_pid, is_process_of, is_process_due, is_before, is_tied_to, is_reading, is_awaiting, reads_from, keeps_busy, runs_in, has_trigger, without_trigger, more, units_counted, resting, sleeping, process_in_mode, process_with_item, going_on, told_line, told_event, without_event, given_event, woken};
 ghost use Rattle.muck_queue.specs.inner.Events.{shown};
 ghost use Rattle.muck_queue.specs.inner.Known.{has_connection, is_timed};
 
@@ -55,7 +55,7 @@ impl Process {
 
     /// Whether it runs for that player.
     pub fn is_of(&self, player: Dbref) -> bool
-        ensures { result ≡ is_of player self.now }
+        ensures { result ≡ is_process_of player self.now }
     {
         self.player == player
     }
@@ -83,7 +83,7 @@ impl Process {
 
     /// Whether its second has come, it waits for nothing, and nobody has claimed it.
     pub fn is_due(&self, moment: u64, claims: &[Claim]) -> bool
-        ensures { result ≡ is_due moment claims.now self.now }
+        ensures { result ≡ is_process_due moment claims.now self.now }
     {
         self.due <= moment
             && !self.is_reading()
@@ -138,7 +138,7 @@ impl Process {
 
     /// Whether the program stands on its call stack: it runs, or is a caller of what runs.
     pub fn runs(&self, program: Dbref) -> bool
-        ensures { result ≡ runs program self.now }
+        ensures { result ≡ runs_in program self.now }
     {
         match &self.running {
             Some(running) => running.runs(program),
@@ -164,7 +164,7 @@ impl Process {
 
     /// It took so many units.
     pub fn count(&mut self, units: u32)
-        ensures { self.new ≡ counted units self.old }
+        ensures { self.new ≡ units_counted units self.old }
     {
         self.units = more(self.units, units);
         if self.mode.is_preempt() {
@@ -192,7 +192,7 @@ impl Process {
     /// It is in another mode: in the background without a connection, and in preempt with a section that begins, where it
     /// wasn't in preempt.
     pub fn set_mode(&mut self, mode: Mode)
-        ensures { self.new ≡ in_mode mode self.old }
+        ensures { self.new ≡ process_in_mode mode self.old }
     {
         if !self.mode.is_preempt() {
             self.section = 0;
@@ -205,7 +205,7 @@ impl Process {
 
     // An item more for its program, where there is room.
     fn give_item(&mut self, item: Value)
-        ensures { self.new ≡ with_item (view item) self.old }
+        ensures { self.new ≡ process_with_item (view item) self.old }
     {
         if let Some(running) = &mut self.running {
             running.hand(item);

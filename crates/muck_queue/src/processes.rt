@@ -2,7 +2,7 @@
 ghost use Rattle.std.specs.Prelude.{◌≡◌, ◌≤◌, true, OnOk, OnErr, length, find, not, map, if◌then◌else◌, slice_get, Some, None};
 ghost use Rattle.std.specs.List.{count_by, list_all, list_any, position, position_or_len};
 ghost use Rattle.std.specs.Option.{option_and_then, option_map, option_map_or, option_copied};
-ghost use Rattle.muck_queue.specs.Queues.{at_state, has_pid, is_of, is_due, is_before, is_tied_to, reads_from, keeps_busy, runs, has_trigger, earliest, earlier, changed_first, without_first, without_all, without_trigger, counted, resting, sleeping, in_mode, told_line, told_event, without_event, woken};
+ghost use Rattle.muck_queue.specs.Queues.{at_state, has_pid, is_process_of, is_process_due, is_before, is_tied_to, reads_from, keeps_busy, runs_in, has_trigger, earliest, earlier, changed_first, without_first, without_all, without_trigger, units_counted, resting, sleeping, process_in_mode, told_line, told_event, without_event, woken};
 ghost use Rattle.muck_queue.specs.inner.Events.{shown};
 ghost use Rattle.muck_queue.specs.inner.Known.{fits_second, has_connection};
 
@@ -38,7 +38,7 @@ pub fn find_by(processes: &[Process], pid: i32) -> Option<&Process>
 
 /// How many processes a player has.
 pub fn count_of(processes: &[Process], player: Dbref) -> usize
-    ensures { result ≡ count_by (is_of player) processes.now }
+    ensures { result ≡ count_by (is_process_of player) processes.now }
 {
     processes.iter().filter(|p| p.is_of(player)).count()
 }
@@ -83,7 +83,7 @@ fn earlier<'a>(best: Option<&'a Process>, p: &'a Process) -> &'a Process
 
 /// The process that is to go on next.
 pub fn earliest<'a>(processes: &'a [Process], claims: &[Claim], moment: u64) -> Option<&'a Process>
-    ensures { option_copied result ≡ earliest (is_due moment claims.now) processes.now }
+    ensures { option_copied result ≡ earliest (is_process_due moment claims.now) processes.now }
 {
     let mut best = None;
     for p in processes {
@@ -133,7 +133,7 @@ pub fn put_back(processes: &mut Vec<Process>, pid: i32, running: Running)
 
 /// A process took so many units.
 pub fn count(processes: &mut Vec<Process>, pid: i32, units: u32)
-    ensures { processes.new.items ≡ changed_first (has_pid pid) (counted units) processes.old.items }
+    ensures { processes.new.items ≡ changed_first (has_pid pid) (units_counted units) processes.old.items }
 {
     let at = place_of(processes, pid);
     if at < processes.len() {
@@ -166,7 +166,7 @@ pub fn sleep(processes: &mut Vec<Process>, pid: i32, due: u64)
 
 /// A process is in another mode.
 pub fn set_mode(processes: &mut Vec<Process>, pid: i32, mode: Mode)
-    ensures { processes.new.items ≡ changed_first (has_pid pid) (in_mode mode) processes.old.items }
+    ensures { processes.new.items ≡ changed_first (has_pid pid) (process_in_mode mode) processes.old.items }
 {
     let at = place_of(processes, pid);
     if at < processes.len() {
@@ -249,7 +249,7 @@ pub fn end_tied(processes: &mut Vec<Process>, d: u32)
 
 /// The processes that run a program end.
 pub fn end_running(processes: &mut Vec<Process>, program: Dbref)
-    ensures { processes.new.items ≡ without_all (runs program) processes.old.items }
+    ensures { processes.new.items ≡ without_all (runs_in program) processes.old.items }
 {
     processes.retain(|p| !p.runs(program));
 }

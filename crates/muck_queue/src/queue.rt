@@ -2,7 +2,7 @@
 ghost use Rattle.std.specs.Prelude.{◌≡◌, ◌≢◌, length, is_some, IfOk, OnOk, OnErr, Some, None};
 ghost use Rattle.std.specs.Option.{option_copied, option_map, option_map_or};
 ghost use Rattle.muf_model.specs.inner.View.{view};
-ghost use Rattle.muck_queue.specs.Queues.{empty_queue, process, next_due, claimed, released, on_process, standing, state_of, without, is_full, added, is_tied, is_busy, reader, oldest_event, ended_tied, ended_running, trigger_cleared, number_most, counted, resting, sleeping, in_mode, told_line, without_event, woken};
+ghost use Rattle.muck_queue.specs.Queues.{empty_queue, process, next_due, claimed, released, on_process, standing, state_of, without_process, is_queue_full, process_added, has_process_tied, is_busy, reader, oldest_event, ended_tied, ended_running, trigger_cleared, number_most, units_counted, resting, sleeping, process_in_mode, told_line, without_event, woken};
 ghost use Rattle.muck_queue.specs.inner.Adding.{Adds, Sends};
 ghost use Rattle.muck_queue.specs.inner.Events.{shown};
 ghost use Rattle.muck_queue.specs.inner.Leading.{IsNext};
@@ -82,9 +82,9 @@ impl Queue {
 
     /// Whether no process of that player can be added: there are as many as may be, or as many of this player, or no
     /// number is left.
-    #[tactic(auto, unfolding(crate::specs::Queues::is_full, crate::specs::Queues::number_most))]
+    #[tactic(auto, unfolding(crate::specs::Queues::is_queue_full, crate::specs::Queues::number_most))]
     pub fn is_full(&self, player: Dbref, tune: &Tune) -> bool
-        ensures { result ≡ is_full player tune.now self.now }
+        ensures { result ≡ is_queue_full player tune.now self.now }
     {
         self.processes.len() >= tune.process_limit as usize
             || processes::count_of(&self.processes, player) >= tune.player_processes as usize
@@ -105,11 +105,11 @@ impl Queue {
     }
 
     // Puts a process behind all others, with the next number, and makes room for the claim on it.
-    #[tactic(auto, unfolding(crate::specs::Queues::added, crate::specs::Queues::number_most))]
+    #[tactic(auto, unfolding(crate::specs::Queues::process_added, crate::specs::Queues::number_most))]
     fn append(&mut self, process: Process) -> Result<i32, NoMemory>
         requires { self.old.last ≢ number_most }
         ensures number { IfOk result (λ n. n ≡ self.new.last) }
-        ensures state { OnOk result (self.new ≡ added process self.old) }
+        ensures state { OnOk result (self.new ≡ process_added process self.old) }
         ensures err { OnErr result (self.new ≡ self.old) }
     {
         let number = self.last + 1;
@@ -209,10 +209,10 @@ impl Queue {
     }
 
     /// Ends the process of a number; answers whether it was there, and where it wasn't nothing has changed.
-    #[tactic(auto, unfolding(crate::specs::Queues::without))]
+    #[tactic(auto, unfolding(crate::specs::Queues::without_process))]
     pub fn kill(&mut self, pid: i32) -> bool
         ensures there { result ≡ is_some (process pid self.old) }
-        ensures rest { self.new ≡ without pid self.old }
+        ensures rest { self.new ≡ without_process pid self.old }
     {
         let ended = processes::take(&mut self.processes, pid);
         self.tied = processes::are_tied(&self.processes);
@@ -222,7 +222,7 @@ impl Queue {
     /// The process of a number took so many units; where it isn't there nothing has changed, here and in the calls below.
     #[tactic(auto, unfolding(crate::specs::Queues::on_process))]
     pub fn count(&mut self, pid: i32, units: u32)
-        ensures { self.new ≡ on_process pid (counted units) self.old }
+        ensures { self.new ≡ on_process pid (units_counted units) self.old }
     {
         processes::count(&mut self.processes, pid, units);
     }
@@ -248,7 +248,7 @@ impl Queue {
     /// It is in another mode: in the background without a connection; in preempt a section begins, where it wasn't in preempt.
     #[tactic(auto, unfolding(crate::specs::Queues::on_process))]
     pub fn set_mode(&mut self, pid: i32, mode: Mode)
-        ensures { self.new ≡ on_process pid (in_mode mode) self.old }
+        ensures { self.new ≡ on_process pid (process_in_mode mode) self.old }
     {
         processes::set_mode(&mut self.processes, pid, mode);
         self.tied = processes::are_tied(&self.processes);
@@ -336,9 +336,9 @@ impl Queue {
     }
 
     /// Whether a process is tied to the connection.
-    #[tactic(auto, unfolding(crate::specs::Queues::is_tied))]
+    #[tactic(auto, unfolding(crate::specs::Queues::has_process_tied))]
     pub fn is_tied(&self, d: u32) -> bool
-        ensures { result ≡ is_tied d self.now }
+        ensures { result ≡ has_process_tied d self.now }
     {
         if !self.tied {
             return false;

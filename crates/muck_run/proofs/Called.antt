@@ -4,7 +4,7 @@ use Rattle.std.specs.Prelude.{codes, ◌++◌}
 use Rattle.muck_io.specs.Faults.{Rose}
 use Rattle.muck_model.specs.declared.event.Entry.{Entry}
 use Rattle.muck_model.specs.declared.note.Note.{Note}
-use Rattle.muck_log.specs.Store.{Chosen, Damage, LogState, stored}
+use Rattle.muck_log.specs.Store.{Chosen, Damage, LogState, store_of}
 use Rattle.muck_log.specs.World.{IsFine}
 use Rattle.muck_log.specs.inner.Mount.{IsMountedAs, IsMountFault}
 use Rattle.muck_log.specs.declared.fault.LogFault.{LogFault}
@@ -12,7 +12,7 @@ use Rattle.muck_log.specs.declared.fault.LogFault.TheVariants.{NoMemory as LogMe
 use Rattle.spec_dumps.specs.Fronts.{file_most}
 use Rattle.muck_script.specs.declared.act.Act.{Act}
 use Rattle.muck_run.specs.Done.{RunDone}
-use Rattle.muck_run.specs.Outcome.{HasRead, HasBegun, IsUnbegun, IsUntouched, EndsAs, EndsFull, IsInGrammar, IsFirstOutside}
+use Rattle.muck_run.specs.Outcome.{HasReadScript, HasBegun, IsUnbegun, IsUntouched, EndsAs, EndsFull, IsScriptLeft, IsFirstOutsideScript}
 use Rattle.muck_run.specs.inner.Ends.{refusal_of, MayNotOpen, IsMountWhy, MayRefuse, IsScriptWhy, HasPlayed, NeverPlayed, MayEnd, MayEndDump, booted_from}
 use Rattle.muck_why.specs.declared.why.Why.{Why}
 use Rattle.muck_why.specs.declared.why.Why.TheVariants.{Fine, Usage, BadScript, NoMemory, ReadFault, WriteFault, DiskFault, Damaged, StoreFull}
@@ -69,10 +69,6 @@ dump_may tells why may = dumps_run (end_of why) may
 pub not_write : (tells : Bool) (why : Why) → MayEndDump tells why → why ≡ WriteFault → ⊥
 not_write tells why may e = subst (MayEndDump tells) e may
 
--- an error is that one
-pub err_is : {T E : Type 0} (r : Result T E) (e f : E) → r ≡ Err e → r ≡ Err f → e ≡ f
-err_is r e f one other = let both = sym one ∙ other in cc
-
 -- a count that rose after another call did since before it
 pub rose_since : (a b c : ℕ) → a ≤ b → Rose b c → Rose a c
 rose_since a b c le rose = omega (arith, le, rose)
@@ -85,8 +81,8 @@ either_since a b c x y z le ge rose = elim rose [
 
 -- Two files that nothing was written to hold the same store.
 module _ {D : Type 0} (seen : D → List ℕ) (moment : D → ℕ) (images : D → ℕ → List ℕ → Type 0) (first second first' second' : D) (a : IsUntouched seen moment images first first') (b : IsUntouched seen moment images second second') where
-  pub holds_still : (r : Result Chosen Damage) → stored (seen first') (seen second') ≡ r → stored (seen first) (seen second) ≡ r
-  holds_still r is = ap (λ x. stored x (seen second)) (sym a.gives) ∙ ap (λ y. stored (seen first') y) (sym b.gives) ∙ is
+  pub holds_still : (r : Result Chosen Damage) → store_of (seen first') (seen second') ≡ r → store_of (seen first) (seen second) ≡ r
+  holds_still r is = ap (λ x. store_of x (seen second)) (sym a.gives) ∙ ap (λ y. store_of (seen first') y) (sym b.gives) ∙ is
 
 -- memory was wanted before the run began
 module _ {K D : Type 0} (tells : Bool) (seen : D → List ℕ) (moment : D → ℕ) (images : D → ℕ → List ℕ → Type 0) (why : Why) (k l : K) (first second first' second' first'' second'' : D) (tale : List Entry) where
@@ -105,7 +101,7 @@ module _ {S K D : Type 0} (left : S → Option (List ℕ)) (faults : S → ℕ) 
   unfoldable pub has_begun : (tells ≡ true → IsMountedAs seen moment images file_most log first' second') → IsFine log.chosen.held.world
       → (tells ≡ true → attached first' ≡ Some (store ++ codes ".a")) → (tells ≡ true → attached second' ≡ Some (store ++ codes ".b"))
       → attached first'' ≡ attached first' → attached second'' ≡ attached second'
-      → (tells ≡ true → IsUntouched seen moment images first first') → (tells ≡ true → IsUntouched seen moment images second second') → fails first ≤ fails first' → fails second ≤ fails second' → HasRead left faults s t acts
+      → (tells ≡ true → IsUntouched seen moment images first first') → (tells ≡ true → IsUntouched seen moment images second second') → fails first ≤ fails first' → fails second ≤ fails second' → HasReadScript left faults s t acts
       → HasPlayed written breaks tells seen moment images fails log why acts k l first' second' first'' second'' tale notes
       → HasBegun left faults written breaks tells attached seen moment images fails store why s t k l first second first'' second'' tale notes
   has_begun mounted fine name_a name_b still_a still_b a b later_a later_b read p = record {
@@ -158,7 +154,7 @@ module _ {S K D : Type 0} (left : S → Option (List ℕ)) (faults : S → ℕ) 
 
 -- Where nothing stood in the way of a run, the work is done.
 
-grammar_stands : (left : Option (List ℕ)) (line : ℕ) → IsInGrammar left → IsFirstOutside left line → ⊥
+grammar_stands : (left : Option (List ℕ)) (line : ℕ) → IsScriptLeft left → IsFirstOutsideScript left line → ⊥
 grammar_stands None line is outside = is
 grammar_stands (Some bytes) line is outside = let both = sym is.1 ∙ outside in cc
 
@@ -186,15 +182,15 @@ module _ {S K D : Type 0} (left : S → Option (List ℕ)) (faults : S → ℕ) 
 
   pub run_done : EndsAs why (IsUnbegun tells seen moment images k l first second first' second' tale) Begun
       → (why ≡ Usage → ⊥)
-      → ((line : ℕ) → why ≡ BadScript line → IsFirstOutside (left s) line)
+      → ((line : ℕ) → why ≡ BadScript line → IsFirstOutsideScript (left s) line)
       → (why ≡ ReadFault → Rose (faults s) (faults t))
       → (why ≡ WriteFault → Rose (breaks k) (breaks l))
       → (why ≡ DiskFault → Rose (fails first) (fails first') ⊎ Rose (fails second) (fails second'))
-      → ((file : Bool) (at : ℕ) → tells ≡ true → why ≡ Damaged file at → stored (seen first) (seen second) ≡ Err (record { second = file; at = at }))
+      → ((file : Bool) (at : ℕ) → tells ≡ true → why ≡ Damaged file at → store_of (seen first) (seen second) ≡ Err (record { second = file; at = at }))
       → ((why ≡ ReadFault → ⊥) → faults t ≡ faults s)
       → ((why ≡ WriteFault → ⊥) → breaks l ≡ breaks k)
       → ((file : Bool) (at : ℕ) → tells ≡ true → why ≡ Damaged file at → t ≡ s)
-      → (tells ≡ true → (why ≡ ReadFault) ⊎ ((line : ℕ) × (why ≡ BadScript line)) → (chosen : Chosen) × (stored (seen first) (seen second) ≡ Ok chosen))
+      → (tells ≡ true → (why ≡ ReadFault) ⊎ ((line : ℕ) × (why ≡ BadScript line)) → (chosen : Chosen) × (store_of (seen first) (seen second) ≡ Ok chosen))
       → RunDone left faults written breaks tells attached seen moment images fails store why s t k l first second first' second' tale notes
   run_done ends usage bad_script read_fault write_fault disk_fault damaged source_stands sink_stands unread loads = record {
     ends = ends;

@@ -9,7 +9,7 @@ use Rattle.spec_events.specs.World.{World}
 use Rattle.spec_events.specs.Histories.{History, after, now, entered, noted, Longer, by_porter}
 use Rattle.spec_events.proofs.Living.{dead-effect}
 use Rattle.spec_events.proofs.Runs.{now-longer, longer_on, longer_noted}
-use Rattle.muck_script.specs.Story.{Part, dumping}
+use Rattle.muck_script.specs.Story.{Part, dump_part}
 use Rattle.muck_run.specs.Outcome.{halted}
 use Rattle.muck_run.specs.inner.Dumps.{Dumps, IsDumpFault, ComesOut, ending_event}
 use Rattle.muck_run.specs.inner.Ends.{EndsPlay, ComesOutAs, LastKept, MayEndDump}
@@ -38,7 +38,7 @@ pub comes_failed : (h k : History) (o : Option LogFault) (fault : LogFault) → 
 comes_failed h k o fault is came = comes_by h k fault (subst (λ (x : Option LogFault). ComesOut h k x) is came)
 
 -- a dump that failed was played, but for want of memory
-pub ends_by : (h k : History) (o : Option (List ℕ)) (fault : LogFault) → (fault ≡ LogMemory → ⊥) → Plays dumping h k o o → EndsPlay h k o (why_of fault)
+pub ends_by : (h k : History) (o : Option (List ℕ)) (fault : LogFault) → (fault ≡ LogMemory → ⊥) → Plays dump_part h k o o → EndsPlay h k o (why_of fault)
 ends_by h k o LogMemory apart p = absurd (apart refl)
 ends_by h k o fault apart p = p
 

@@ -1,18 +1,18 @@
 -- A drill, from how its script was played.
-use Rattle.std.proofs.Common.{◌≡◌, inl, inr, ℕ, true, false, ◌+◌, ◌≤◌, List, [], ◌∷◌, ◌++◌, length, drop, refl, sym, ◌∙◌, ap, subst, arith, append-nil, append_assoc, add-one, Option, Some, None, Result, Ok, Err}
-use Rattle.std.specs.Prelude.{OnErr, codes}
+use Rattle.std.proofs.Common.{◌≡◌, inl, inr, ℕ, true, false, ◌+◌, ◌≤◌, List, [], ◌∷◌, ◌++◌, length, drop, refl, sym, ◌∙◌, ap, subst, arith, append-nil, append_assoc, add-one, Option, Some, None}
+use Rattle.std.specs.Prelude.{codes}
 use Rattle.std.specs.Fmt.{decimal}
 use Rattle.std.specs.List.{filter}
 use Rattle.muck_model.specs.declared.event.Entry.{Entry}
 use Rattle.muck_model.specs.declared.event.Event.TheVariants.{Died}
-use Rattle.spec_events.specs.World.{World, starting, booted}
+use Rattle.spec_events.specs.World.{World, starting_world, world_booted}
 use Rattle.spec_events.specs.Steps.{effect}
 use Rattle.spec_events.specs.Histories.{History, after, now, by_porter}
 use Rattle.spec_events.proofs.Runs.{after-append, now-longer}
 use Rattle.muck_script.specs.declared.act.Act.{Act}
 use Rattle.muck_script.specs.declared.act.Act.TheVariants.{Send}
 use Rattle.muck_script.specs.Lines.{is_line_feed}
-use Rattle.muck_script.specs.Story.{Dumped, stored, failed, next_outcome, dump_entries, outcomes_of, told, text_of, lines_story, transcript}
+use Rattle.muck_script.specs.Story.{Dumped, stored, failed, next_outcome, dump_entries, outcomes_of, event_told, transcript_of, lines_story, transcript}
 use Rattle.muck_run.specs.Drill.{describing, round, rounds, summary, objects_in, drill_script, IsDrillFront}
 use Rattle.muck_run.specs.inner.Drills.{fresh, IsPlayedAs, IsDrilledAs, IsCutShort}
 use Rattle.spec_live.specs.Boards.{early_board}
@@ -75,46 +75,46 @@ rounds_end a b n count e le ge = let same : n ≡ count = omega (arith, le, ge) 
 
 -- the starting world lives, and no dump runs in it
 pub fresh_alive : (h : History) → h ≡ fresh → (now h).dead ≡ false
-unfolding now starting booted
+unfolding now starting_world world_booted
 fresh_alive h is = ap (λ (x : History). (now x).dead) is
 
 pub fresh_opens : (h : History) → h ≡ fresh → Opens 0 h
-unfolding starting booted early_board
+unfolding starting_world world_booted early_board
 fresh_opens h is = record { nobody = ap (λ (x : History). x.start.live.board.connections) is; opened = ap (λ (x : History). all_within 0 x.entries) is }
 
 pub fresh_idle : (h : History) → h ≡ fresh → (now h).dumps.running ≡ None
-unfolding now starting booted
+unfolding now starting_world world_booted
 fresh_idle h is = ap (λ (x : History). (now x).dumps.running) is
 
-pub fresh_now : (h : History) → h ≡ fresh → now h ≡ starting
+pub fresh_now : (h : History) → h ≡ fresh → now h ≡ starting_world
 unfolding now
 fresh_now h is = ap (λ (x : History). now x) is
 
 -- Nothing is written of a dump.
 
-dump_text : (o : Dumped) (w : World) → text_of w (dump_entries o) ≡ []
-unfolding told
+dump_text : (o : Dumped) (w : World) → transcript_of w (dump_entries o) ≡ []
+unfolding event_told
 dump_text (stored k) w = refl
 dump_text (failed k) w = refl
 
-pub transcript_lines : (acts : List Act) (os : List Dumped) (w : World) → transcript acts os w ≡ text_of w (lines_story acts os w)
+pub transcript_lines : (acts : List Act) (os : List Dumped) (w : World) → transcript acts os w ≡ transcript_of w (lines_story acts os w)
 transcript_lines acts os w =
     let es = lines_story acts os w in
     let o = next_outcome (drop (length (outcomes_of es)) os) in
-    text_of-append es (dump_entries o) w ∙ ap (λ x. text_of w es ++ x) (dump_text o (after w es)) ∙ append-nil (text_of w es)
+    text_of-append es (dump_entries o) w ∙ ap (λ x. transcript_of w es ++ x) (dump_text o (after w es)) ∙ append-nil (transcript_of w es)
 
 module _ (acts : List Act) (h k : History) (bytes : List ℕ) (is : h ≡ fresh) (p : Plays (lines_story acts) h k (Some []) (Some bytes)) where
-  there : now h ≡ starting
+  there : now h ≡ starting_world
   there = fresh_now h is
 
   entries : k.entries ≡ p.entries
   entries = p.history.entries ∙ ap (λ (x : History). x.entries ++ p.entries) is
 
-  whole : p.entries ≡ lines_story acts (outcomes_of p.entries) starting
+  whole : p.entries ≡ lines_story acts (outcomes_of p.entries) starting_world
   whole = sym (p.said []) ∙ ap (λ os. lines_story acts os (now h)) (append-nil (outcomes_of p.entries)) ∙ ap (lines_story acts (outcomes_of p.entries)) there
 
-  written : bytes ≡ text_of starting p.entries
-  written = same bytes (text_of (now h) p.entries) p.text ∙ ap (λ (w : World). text_of w p.entries) there
+  written : bytes ≡ transcript_of starting_world p.entries
+  written = same bytes (transcript_of (now h) p.entries) p.text ∙ ap (λ (w : World). transcript_of w p.entries) there
     where
       same : (x y : List ℕ) → Some x ≡ Some y → x ≡ y
       same x y e = cc
@@ -123,12 +123,12 @@ module _ (acts : List Act) (h k : History) (bytes : List ℕ) (is : h ≡ fresh)
   played_as = record {
     start = p.history.start ∙ ap (λ (x : History). x.start) is;
     said = λ later.
-        ap (λ es. lines_story acts (outcomes_of es ++ later) starting) entries ∙ ap (lines_story acts (outcomes_of p.entries ++ later)) (sym there) ∙ p.said later
+        ap (λ es. lines_story acts (outcomes_of es ++ later) starting_world) entries ∙ ap (lines_story acts (outcomes_of p.entries ++ later)) (sym there) ∙ p.said later
         ∙ sym entries;
-    story = entries ∙ whole ∙ ap (λ es. lines_story acts (outcomes_of es) starting) (sym entries);
+    story = entries ∙ whole ∙ ap (λ es. lines_story acts (outcomes_of es) starting_world) (sym entries);
     told =
-        written ∙ ap (text_of starting) whole ∙ sym (transcript_lines acts (outcomes_of p.entries) starting)
-        ∙ ap (λ es. transcript acts (outcomes_of es) starting) (sym entries);
+        written ∙ ap (transcript_of starting_world) whole ∙ sym (transcript_lines acts (outcomes_of p.entries) starting_world)
+        ∙ ap (λ es. transcript acts (outcomes_of es) starting_world) (sym entries);
     alive = p.alive;
   }
 
@@ -148,22 +148,17 @@ drilled_as n size h bytes text p counts is = record {
   story = p.story;
   written =
       is ∙ ap (λ x. summary n x bytes) (counts ∙ ap (λ (w : World). objects_in (after w h.entries)) p.start)
-      ∙ ap (λ x. summary n (objects_in (after starting h.entries)) x) p.told;
+      ∙ ap (λ x. summary n (objects_in (after starting_world h.entries)) x) p.told;
 }
 
 -- Drills that broke off.
-
--- what is said of an error, of any answer
-pub on_err : {A E P : Type 0} (r : Result A E) → P → OnErr r P
-on_err (Ok x) p = tt
-on_err (Err e) p = p
 
 -- before anything was played
 pub fresh_short : (n : ℕ) (h : History) → h ≡ fresh → IsCutShort n h
 fresh_short n h is = record {
   start = ap (λ (x : History). x.start) is;
   front = [];
-  is = record { pending = []; began = tt; whole = λ later. (lines_story (drill_script n) later starting, refl) };
+  is = record { pending = []; began = tt; whole = λ later. (lines_story (drill_script n) later starting_world, refl) };
   wanted = inl (ap (λ (x : History). x.entries) is, fresh_alive h is);
 }
 
@@ -185,7 +180,7 @@ module _ (n : ℕ) (h k : History) (a b : Option (List ℕ)) (ending : List Entr
     whole = λ later. let part = p.whole later in (part.0, part.1 ∙ ap (lines_story (drill_script n) (outcomes_of p.front ++ (p.pending ++ later))) (fresh_now h is));
   }
 
-  start_played : k.start ≡ starting
+  start_played : k.start ≡ starting_world
   start_played = p.history.start ∙ ap (λ (x : History). x.start) is
 
   entries_played : k.entries ≡ p.front ++ ending

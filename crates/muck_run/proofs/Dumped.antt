@@ -1,6 +1,6 @@
 -- A dump as a part of a run: it begins, and comes out.
 use Rattle.std.proofs.Common.{◌≡◌, inl, inr, ℕ, Bool, true, false, List, [], ◌∷◌, refl, ap, ◌∙◌, Option, Some, None, Ok, Err}
-use Rattle.std.specs.Prelude.{is_none, ◌&&◌}
+use Rattle.muck_laws.proofs.Lists.{no_ending}
 use Rattle.muck_model.specs.declared.event.Event.{Event}
 use Rattle.muck_model.specs.declared.event.Event.TheVariants.{Cut, Stored, DumpFailed, Died}
 use Rattle.muck_model.specs.declared.note.Note.{Note}
@@ -12,7 +12,7 @@ use Rattle.spec_events.specs.Steps.{is_died}
 use Rattle.spec_events.specs.Histories.{History, now, entered, noted, Longer, by_porter}
 use Rattle.spec_events.proofs.Living.{dead-effect}
 use Rattle.spec_events.proofs.Runs.{longer_one, longer_noted, longer_on, now-longer}
-use Rattle.muck_script.specs.Story.{stored, failed, dumping, told}
+use Rattle.muck_script.specs.Story.{stored, failed, dump_part, event_told}
 use Rattle.muck_dumping.specs.inner.Dumps.{Dies, HasDumped, first as died_first, begun as died_begun, cut as died_cut, ending as died_ending}
 use Rattle.muck_dumping.proofs.Steps.{ended_idle}
 use Rattle.muck_run.specs.declared.playing.RunFault.{RunFault}
@@ -20,19 +20,19 @@ use Rattle.muck_run.specs.inner.Dumps.{ending_event, Dumps, DumpsLast, ComesOut,
 use Rattle.muck_run.specs.inner.Plays.{Plays, Breaks}
 use Rattle.muck_run.proofs.Closing.{came_stored, came_failed}
 use Rattle.muck_run.proofs.Noted.{noted_one, noted_more, noted_then}
-use Rattle.muck_run.proofs.Parts.{appends_nothing, no_ending}
+use Rattle.muck_run.proofs.Parts.{appends_nothing}
 
 lives : (h k : History) (event : Event) → Longer h k (by_porter event ∷ []) → is_died event ≡ false → (now h).dead ≡ false → (now k).dead ≡ false
 lives h k event is other alive = ap (λ (w : World). w.dead) (now-longer h k (by_porter event ∷ []) is) ∙ dead-effect (now h) (by_porter event) other ∙ alive
 
 module _ (h : History) (o : Option (List ℕ)) where
   -- memory was wanted before it began
-  dies_first : (k : History) → Longer h k (by_porter Died ∷ []) → Breaks dumping (by_porter Died ∷ []) h k o o
+  dies_first : (k : History) → Longer h k (by_porter Died ∷ []) → Breaks dump_part (by_porter Died ∷ []) h k o o
   dies_first k is = record {
     front = [];
     pending = [];
     began = tt;
-    whole = λ later. (dumping later (now h), refl);
+    whole = λ later. (dump_part later (now h), refl);
     history = is;
     told = [];
     untold = [];
@@ -41,10 +41,10 @@ module _ (h : History) (o : Option (List ℕ)) where
     alive = λ e. no_ending e;
   }
 
-  dies_at_once : (k : History) → k ≡ entered h (by_porter Died) → Breaks dumping (by_porter Died ∷ []) h k o o
+  dies_at_once : (k : History) → k ≡ entered h (by_porter Died) → Breaks dump_part (by_porter Died ∷ []) h k o o
   dies_at_once k is = dies_first k (longer_one h k (by_porter Died) is)
 
-  dies_noted : (k : History) (note : Note) → k ≡ entered (noted h note) (by_porter Died) → Breaks dumping (by_porter Died ∷ []) h k o o
+  dies_noted : (k : History) (note : Note) → k ≡ entered (noted h note) (by_porter Died) → Breaks dump_part (by_porter Died ∷ []) h k o o
   dies_noted k note is = dies_first k (longer_noted h k note (by_porter Died) is)
 
   -- it began
@@ -53,8 +53,8 @@ module _ (h : History) (o : Option (List ℕ)) where
     cut_longer = longer_noted h k note (by_porter (Cut n)) cuts
 
     -- and memory was wanted
-    dies_longer : Longer k m (by_porter Died ∷ []) → Breaks dumping (by_porter Died ∷ []) h m o o
-    unfolding told
+    dies_longer : Longer k m (by_porter Died ∷ []) → Breaks dump_part (by_porter Died ∷ []) h m o o
+    unfolding event_told
     dies_longer is = record {
       front = by_porter (Cut n) ∷ [];
       pending = stored n ∷ [];
@@ -68,15 +68,15 @@ module _ (h : History) (o : Option (List ℕ)) where
       alive = λ e. no_ending e;
     }
 
-    dies_cut : m ≡ entered k (by_porter Died) → Breaks dumping (by_porter Died ∷ []) h m o o
+    dies_cut : m ≡ entered k (by_porter Died) → Breaks dump_part (by_porter Died ∷ []) h m o o
     dies_cut is = dies_longer (longer_one k m (by_porter Died) is)
 
-    dies_ending : (note' : Note) → m ≡ entered (noted k note') (by_porter Died) → Breaks dumping (by_porter Died ∷ []) h m o o
+    dies_ending : (note' : Note) → m ≡ entered (noted k note') (by_porter Died) → Breaks dump_part (by_porter Died ∷ []) h m o o
     dies_ending note' is = dies_longer (longer_noted k m note' (by_porter Died) is)
 
     -- or it came out
-    plays_dump : (note' : Note) (b : Bool) → m ≡ entered (noted k note') (by_porter (ending_event n b)) → (now h).dead ≡ false → Plays dumping h m o o
-    unfolding told
+    plays_dump : (note' : Note) (b : Bool) → m ≡ entered (noted k note') (by_porter (ending_event n b)) → (now h).dead ≡ false → Plays dump_part h m o o
+    unfolding event_told
     plays_dump note' true is alive = record {
       entries = by_porter (Cut n) ∷ by_porter (Stored n) ∷ [];
       said = λ later. refl;
@@ -113,11 +113,11 @@ module _ (h : History) (o : Option (List ℕ)) where
 abbrev cut_behind : History → Note → ℕ → History
 cut_behind h a n = entered (noted h a) (by_porter (Cut n))
 
-pub plays_made : (h m : History) (o : Option (List ℕ)) (x : Option LogFault) → HasDumped 0 {E = Wanted} h m (Ok x) → (now h).dead ≡ false → Plays dumping h m o o
+pub plays_made : (h m : History) (o : Option (List ℕ)) (x : Option LogFault) → HasDumped 0 {E = Wanted} h m (Ok x) → (now h).dead ≡ false → Plays dump_part h m o o
 plays_made h m o None d alive = plays_dump h o (cut_behind h d.1 d.0) m d.1 d.0 refl d.2 true d.3 alive
 plays_made h m o (Some fault) d alive = plays_dump h o (cut_behind h d.1 d.0) m d.1 d.0 refl d.2 false d.3 alive
 
-pub breaks_made : (h m : History) (o : Option (List ℕ)) → Dies 0 h m → Breaks dumping (by_porter Died ∷ []) h m o o
+pub breaks_made : (h m : History) (o : Option (List ℕ)) → Dies 0 h m → Breaks dump_part (by_porter Died ∷ []) h m o o
 breaks_made h m o (died_first is) = dies_at_once h o m is
 breaks_made h m o (died_begun a is) = dies_noted h o m a is
 breaks_made h m o (died_cut n a is) = dies_cut h o (cut_behind h a n) m a n refl is
@@ -150,10 +150,6 @@ noted_dead h m (died_ending n a b is) = noted_then h (cut_behind h a n) m (noted
 pub idle_made : (h m : History) (x : Option LogFault) → HasDumped 0 {E = Wanted} h m (Ok x) → (now m).dumps.running ≡ None
 idle_made h m None d = ended_idle (cut_behind h d.1 d.0) m d.2 0 d.0 true d.3
 idle_made h m (Some fault) d = ended_idle (cut_behind h d.1 d.0) m d.2 0 d.0 false d.3
-
--- the porter may begin one where none runs
-pub porter_cuts : {A : Type 0} (running : Option A) → running ≡ None → (is_none running && true) ≡ true
-porter_cuts running idle = ap (λ o. is_none o && true) idle
 
 -- What is kept is the same, whatever want of memory is called.
 

@@ -10,7 +10,7 @@ use Rattle.spec_events.specs.World.{World}
 use Rattle.spec_events.specs.Histories.{History, now}
 use Rattle.spec_live.specs.Connections.{connections_most}
 use Rattle.muck_script.specs.declared.act.Act.{Act}
-use Rattle.muck_script.specs.Story.{Dumped, Part, acted, turns, turns_most, plain, both, served, asks_dump, dumping, asked_dump, line_story}
+use Rattle.muck_script.specs.Story.{Dumped, Part, acted, turns, turns_most, plain_part, both_parts, served, asks_dump, dump_part, asked_dump, line_story}
 use Rattle.muck_run.specs.declared.playing.RunFault.{RunFault}
 use Rattle.muck_run.specs.declared.playing.RunFault.TheVariants.{NoMemory}
 use Rattle.muck_run.specs.inner.Dumps.{Dumps, Held}
@@ -25,15 +25,15 @@ is_asked act w = asks_dump act || is_some w.dumps.asked
 
 -- The dump that is asked for is made, and nothing where none is.
 
-asked_is : (act : Act) (w : World) (os : List Dumped) → is_asked act w ≡ true → dumping os w ≡ asked_dump act os w
+asked_is : (act : Act) (w : World) (os : List Dumped) → is_asked act w ≡ true → dump_part os w ≡ asked_dump act os w
 unfolding asked_dump
 asked_is act w os due = sym (cond-true _ _ _ due)
 
-pub plays_asked : (act : Act) (h k : History) (o : Option (List ℕ)) → is_asked act (now h) ≡ true → Plays dumping h k o o → Plays (asked_dump act) h k o o
-plays_asked act h k o due p = plays_as dumping (asked_dump act) h k o o (λ os. asked_is act (now h) os due) p
+pub plays_asked : (act : Act) (h k : History) (o : Option (List ℕ)) → is_asked act (now h) ≡ true → Plays dump_part h k o o → Plays (asked_dump act) h k o o
+plays_asked act h k o due p = plays_as dump_part (asked_dump act) h k o o (λ os. asked_is act (now h) os due) p
 
-pub breaks_asked : (act : Act) (ending : List Entry) (h k : History) (o : Option (List ℕ)) → is_asked act (now h) ≡ true → Breaks dumping ending h k o o → Breaks (asked_dump act) ending h k o o
-breaks_asked act ending h k o due p = breaks_as dumping (asked_dump act) ending h k o o (λ os. asked_is act (now h) os due) p
+pub breaks_asked : (act : Act) (ending : List Entry) (h k : History) (o : Option (List ℕ)) → is_asked act (now h) ≡ true → Breaks dump_part ending h k o o → Breaks (asked_dump act) ending h k o o
+breaks_asked act ending h k o due p = breaks_as dump_part (asked_dump act) ending h k o o (λ os. asked_is act (now h) os due) p
 
 pub plays_unasked : (act : Act) (h : History) (o : Option (List ℕ)) → is_asked act (now h) ≡ false → (now h).dead ≡ false → Plays (asked_dump act) h h o o
 unfolding asked_dump
@@ -42,10 +42,10 @@ plays_unasked act h o undue alive = plays_nothing (asked_dump act) h h o (λ lat
 -- What a line of the script does, by its three parts.
 
 abbrev pub first_turns : Act → Part
-first_turns act = both (plain (acted act)) (plain (turns turns_most))
+first_turns act = both_parts (plain_part (acted act)) (plain_part (turns turns_most))
 
 abbrev pub then_asked : Act → Part
-then_asked act = both (first_turns act) (asked_dump act)
+then_asked act = both_parts (first_turns act) (asked_dump act)
 
 pub line_breaks : (act : Act) (ending : List Entry) (h k : History) (a b : Option (List ℕ)) → Breaks (first_turns act) ending h k a b → Breaks (line_story act) ending h k a b
 unfolding line_story

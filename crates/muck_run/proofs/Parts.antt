@@ -1,5 +1,6 @@
 -- Lemmas on parts of a run.
 use Rattle.std.proofs.Common.{◌≡◌, ℕ, ◌<◌, ◌≤◌, Bool, true, false, cond, List, [], ◌∷◌, ◌++◌, length, take, drop, refl, sym, ◌∙◌, ap, subst, arith, append_assoc, append-nil, Option, Some, None, Result, Ok, Err, min}
+use Rattle.muck_laws.proofs.Lists.{no_ending}
 use Rattle.muck_io.proofs.Appended.{appends_twice}
 use Rattle.std.proofs.lemmas.Bool.{lt-ltb, cond-true, cond-false}
 use Rattle.std.proofs.lemmas.List.{take-append-drop}
@@ -16,7 +17,7 @@ use Rattle.spec_events.specs.Histories.{History, after, now, entered, Longer, by
 use Rattle.spec_events.proofs.Living.{dead-effect}
 use Rattle.spec_events.proofs.Runs.{longer_nothing, longer_one, longer_on, longer_as, now-longer}
 use Rattle.muck_script.specs.Lines.{lines_of}
-use Rattle.muck_script.specs.Story.{Dumped, stored, failed, Part, outcome, outcomes_of, plain, then_on, both, if_lawful, taken, told, text_of, shown, farewell}
+use Rattle.muck_script.specs.Story.{Dumped, stored, failed, Part, outcome, outcomes_of, plain_part, then_on, both_parts, if_lawful, queue_taken, event_told, transcript_of, line_shown, farewell}
 use Rattle.muck_run.specs.declared.playing.RunFault.{RunFault}
 use Rattle.muck_run.specs.Outcome.{IsPending}
 use Rattle.muck_run.specs.inner.Plays.{Says, Plays, Breaks, PlaysOrBreaks}
@@ -28,9 +29,9 @@ appends_nothing (Some w) = ap Some (sym (append-nil w))
 pub appends_as : (a b : Option (List ℕ)) (x y : List ℕ) → x ≡ y → Appends a b x → Appends a b y
 appends_as a b x y e p = let P : List ℕ → Type 0 = Appends a b in subst P e p
 
-pub text_of-append : (es fs : List Entry) (w : World) → text_of w (es ++ fs) ≡ text_of w es ++ text_of (after w es) fs
+pub text_of-append : (es fs : List Entry) (w : World) → transcript_of w (es ++ fs) ≡ transcript_of w es ++ transcript_of (after w es) fs
 text_of-append [] fs w = refl
-text_of-append (e ∷ es) fs w = ap (λ t. told w e.event ++ t) (text_of-append es fs (effect w e)) ∙ sym (append_assoc (told w e.event) _ _)
+text_of-append (e ∷ es) fs w = ap (λ t. event_told w e.event ++ t) (text_of-append es fs (effect w e)) ∙ sym (append_assoc (event_told w e.event) _ _)
 
 -- nothing happens
 pub plays_nothing : (f : Part) (h k : History) (o : Option (List ℕ)) → Says f (now h) [] → k ≡ h → (now h).dead ≡ false → Plays f h k o o
@@ -48,21 +49,18 @@ lives_on h k event is other alive =
 
 -- one event happens
 pub plays_one : (f : Part) (h k : History) (a b : Option (List ℕ)) (event : Event) (text : List ℕ) → Says f (now h) (by_porter event ∷ []) → k ≡ entered h (by_porter event) →
-    is_died event ≡ false → (now h).dead ≡ false → text ≡ told (now h) event → Appends a b text → Plays f h k a b
+    is_died event ≡ false → (now h).dead ≡ false → text ≡ event_told (now h) event → Appends a b text → Plays f h k a b
 plays_one f h k a b event text e is other alive written app = record {
   entries = by_porter event ∷ [];
   said = e;
   history = longer_one h k (by_porter event) is;
-  text = appends_as a b text _ (written ∙ sym (append-nil (told (now h) event))) app;
+  text = appends_as a b text _ (written ∙ sym (append-nil (event_told (now h) event))) app;
   alive = lives_on h k event is other alive;
 }
 
-pub no_ending : {X : Type 0} {x : X} {xs : List X} {P : Type 0} → x ∷ xs ≡ [] → P
-no_ending e = cc
-
 -- one event happened, all of the part, and then the ending; a front of its text was written
 pub breaks_after : (f : Part) (ending : List Entry) (h k : History) (a b : Option (List ℕ)) (event : Event) (text : List ℕ) → Says f (now h) (by_porter event ∷ []) →
-    Longer h k (by_porter event ∷ ending) → text ≡ told (now h) event → AppendsFront a b text → (ending ≡ [] → (now k).dead ≡ false) → Breaks f ending h k a b
+    Longer h k (by_porter event ∷ ending) → text ≡ event_told (now h) event → AppendsFront a b text → (ending ≡ [] → (now k).dead ≡ false) → Breaks f ending h k a b
 breaks_after f ending h k a b event text e is written app alive = record {
   front = by_porter event ∷ [];
   pending = [];
@@ -71,7 +69,7 @@ breaks_after f ending h k a b event text e is written app alive = record {
   history = is;
   told = take app.0 text;
   untold = drop app.0 text;
-  text = take-append-drop app.0 text ∙ written ∙ sym (append-nil (told (now h) event));
+  text = take-append-drop app.0 text ∙ written ∙ sym (append-nil (event_told (now h) event));
   appended = app.1;
   alive = alive;
 }
@@ -96,19 +94,19 @@ pub front_nothing : (o : Option (List ℕ)) (text : List ℕ) → AppendsFront o
 front_nothing o text = (0, appends_nothing o)
 
 -- an event that may be unlawful, and of which nothing is written
-pub plays_if_lawful : (event : Event) (h k : History) (o : Option (List ℕ)) (may : Bool) → told (now h) event ≡ [] → is_died event ≡ false → (now h).dead ≡ false →
-    may ≡ is_lawful (now h) (by_porter event) → k ≡ cond may (entered h (by_porter event)) h → Plays (plain (if_lawful event)) h k o o
+pub plays_if_lawful : (event : Event) (h k : History) (o : Option (List ℕ)) (may : Bool) → event_told (now h) event ≡ [] → is_died event ≡ false → (now h).dead ≡ false →
+    may ≡ is_lawful (now h) (by_porter event) → k ≡ cond may (entered h (by_porter event)) h → Plays (plain_part (if_lawful event)) h k o o
 plays_if_lawful event h k o true silent other alive e is =
-    plays_one (plain (if_lawful event)) h k o o event [] (λ later. sym (ap (λ b. cond b (by_porter event ∷ []) []) e)) is other alive (sym silent) (appends_nothing o)
+    plays_one (plain_part (if_lawful event)) h k o o event [] (λ later. sym (ap (λ b. cond b (by_porter event ∷ []) []) e)) is other alive (sym silent) (appends_nothing o)
 plays_if_lawful event h k o false silent other alive e is =
-    plays_nothing (plain (if_lawful event)) h k o (λ later. sym (ap (λ b. cond b (by_porter event ∷ []) []) e)) is alive
+    plays_nothing (plain_part (if_lawful event)) h k o (λ later. sym (ap (λ b. cond b (by_porter event ∷ []) []) e)) is alive
 
-pub opened_silent : (d : ℕ) (w : World) → told w (Opened d) ≡ []
-unfolding told
+pub opened_silent : (d : ℕ) (w : World) → event_told w (Opened d) ≡ []
+unfolding event_told
 opened_silent d w = refl
 
-pub input_silent : (d : ℕ) (line : List ℕ) (w : World) → told w (Input d line) ≡ []
-unfolding told
+pub input_silent : (d : ℕ) (line : List ℕ) (w : World) → event_told w (Input d line) ≡ []
+unfolding event_told
 input_silent d line w = refl
 
 -- a part that says the same of the world as it was
@@ -128,7 +126,7 @@ plays_as f g h k a b (Err fault) same p = record {
 }
 
 -- what is taken of a queue that isn't empty
-pub taken_some : (d n : ℕ) (w : World) → n ≡ length (queue_of d w) → 0 < n → taken d w ≡ by_porter (Take d n) ∷ []
+pub taken_some : (d n : ℕ) (w : World) → n ≡ length (queue_of d w) → 0 < n → queue_taken d w ≡ by_porter (Take d n) ∷ []
 taken_some d n w e some = cond-true _ _ _ (lt-ltb 0 (length (queue_of d w)) (omega (arith, e, some))) ∙ ap (λ k. by_porter (Take d k) ∷ []) (sym e)
 
 -- all of a queue is taken, where the buffer has room for it
@@ -138,13 +136,13 @@ whole_queue d n size w is alive room =
     omega (arith, all, room)
 
 -- the text of what was taken
-pub text_taken : (d n : ℕ) (w : World) (text buf : List ℕ) → buf ≡ take n (queue_of d w) → text ≡ flat_map (shown d) (lines_of buf) → text ≡ told w (Take d n)
-unfolding told
-text_taken d n w text buf cut is = is ∙ ap (λ bytes. flat_map (shown d) (lines_of bytes)) cut
+pub text_taken : (d n : ℕ) (w : World) (text buf : List ℕ) → buf ≡ take n (queue_of d w) → text ≡ flat_map (line_shown d) (lines_of buf) → text ≡ event_told w (Take d n)
+unfolding event_told
+text_taken d n w text buf cut is = is ∙ ap (λ bytes. flat_map (line_shown d) (lines_of bytes)) cut
 
 -- the text of a connection that was leaving
-pub text_parted : (d : ℕ) (w : World) (text : List ℕ) → is_leaving d w ≡ true → text ≡ farewell d → text ≡ told w (Closed d)
-unfolding told
+pub text_parted : (d : ℕ) (w : World) (text : List ℕ) → is_leaving d w ≡ true → text ≡ farewell d → text ≡ event_told w (Closed d)
+unfolding event_told
 text_parted d w text leaving is = is ∙ sym (cond-true _ _ _ leaving)
 
 pub outcomes-append : (es fs : List Entry) (later : List Dumped) → outcomes_of (es ++ fs) ++ later ≡ outcomes_of es ++ (outcomes_of fs ++ later)
@@ -152,16 +150,16 @@ outcomes-append es fs later =
     ap (λ os. os ++ later) (flat_map-append (λ (e : Entry). outcome e.event) es fs) ∙ append_assoc (outcomes_of es) (outcomes_of fs) later
 
 -- behind what the first part says the second goes on, with the outcomes that are left
-pub goes_second : (f g : Part) (w v : World) (es fs : List Entry) (later : List Dumped) → v ≡ after w es → Says f w es → both f g (outcomes_of (es ++ fs) ++ later) w ≡ es ++ g (outcomes_of fs ++ later) v
+pub goes_second : (f g : Part) (w v : World) (es fs : List Entry) (later : List Dumped) → v ≡ after w es → Says f w es → both_parts f g (outcomes_of (es ++ fs) ++ later) w ≡ es ++ g (outcomes_of fs ++ later) v
 goes_second f g w v es fs later e p =
     let left : List Dumped = outcomes_of fs ++ later in
-    ap (λ os. both f g os w) (outcomes-append es fs later)
+    ap (λ os. both_parts f g os w) (outcomes-append es fs later)
     ∙ ap (then_on g (outcomes_of es ++ left) w) (p left)
     ∙ ap (λ os. es ++ g os (after w es)) (drop-append_seam (outcomes_of es) left)
     ∙ ap (λ (x : World). es ++ g left x) (sym e)
 
 -- one part and then another
-pub plays_both : (f g : Part) (h k m : History) (a b c : Option (List ℕ)) → Plays f h k a b → Plays g k m b c → Plays (both f g) h m a c
+pub plays_both : (f g : Part) (h k m : History) (a b c : Option (List ℕ)) → Plays f h k a b → Plays g k m b c → Plays (both_parts f g) h m a c
 plays_both f g h k m a b c p q =
     let next : now k ≡ after (now h) p.entries = now-longer h k _ p.history in
     record {
@@ -169,7 +167,7 @@ plays_both f g h k m a b c p q =
       said = λ later. goes_second f g (now h) (now k) p.entries q.entries later next p.said ∙ ap (λ es. p.entries ++ es) (q.said later);
       history = longer_on h k m _ _ p.history q.history;
       text = appends_as a c _ _
-          (ap (λ w. text_of (now h) p.entries ++ text_of w q.entries) next ∙ sym (text_of-append p.entries q.entries (now h)))
+          (ap (λ w. transcript_of (now h) p.entries ++ transcript_of w q.entries) next ∙ sym (text_of-append p.entries q.entries (now h)))
           (appends_twice a b c _ _ p.text q.text);
       alive = q.alive;
     }
@@ -181,7 +179,7 @@ pending_behind es front (stored k ∷ []) p = (es ++ p.0, ap (λ (xs : List Entr
 pending_behind es front (stored k ∷ (o ∷ os)) p = absurd p
 pending_behind es front (failed k ∷ os) p = absurd p
 
-pub breaks_first : (f g : Part) (ending : List Entry) (h k : History) (a b : Option (List ℕ)) → Breaks f ending h k a b → Breaks (both f g) ending h k a b
+pub breaks_first : (f g : Part) (ending : List Entry) (h k : History) (a b : Option (List ℕ)) → Breaks f ending h k a b → Breaks (both_parts f g) ending h k a b
 breaks_first f g ending h k a b p = record {
   front = p.front;
   pending = p.pending;
@@ -199,7 +197,7 @@ breaks_first f g ending h k a b p = record {
   alive = p.alive;
 }
 
-pub breaks_second : (f g : Part) (ending : List Entry) (h k m : History) (a b c : Option (List ℕ)) → Plays f h k a b → Breaks g ending k m b c → Breaks (both f g) ending h m a c
+pub breaks_second : (f g : Part) (ending : List Entry) (h k m : History) (a b c : Option (List ℕ)) → Plays f h k a b → Breaks g ending k m b c → Breaks (both_parts f g) ending h m a c
 breaks_second f g ending h k m a b c p q =
     let next : now k ≡ after (now h) p.entries = now-longer h k _ p.history in
     record {
@@ -210,10 +208,10 @@ breaks_second f g ending h k m a b c p q =
           let part = q.whole later in
           (part.0, append_assoc p.entries q.front part.0 ∙ ap (λ es. p.entries ++ es) part.1 ∙ sym (goes_second f g (now h) (now k) p.entries q.front (q.pending ++ later) next p.said));
       history = longer_as h m _ _ (sym (append_assoc p.entries q.front ending)) (longer_on h k m _ _ p.history q.history);
-      told = text_of (now h) p.entries ++ q.told;
+      told = transcript_of (now h) p.entries ++ q.told;
       untold = q.untold;
-      text = append_assoc (text_of (now h) p.entries) q.told q.untold
-          ∙ ap (λ t. text_of (now h) p.entries ++ t) (q.text ∙ ap (λ w. text_of w q.front) next)
+      text = append_assoc (transcript_of (now h) p.entries) q.told q.untold
+          ∙ ap (λ t. transcript_of (now h) p.entries ++ t) (q.text ∙ ap (λ w. transcript_of w q.front) next)
           ∙ sym (text_of-append p.entries q.front (now h));
       appended = appends_twice a b c _ _ p.text q.appended;
       alive = q.alive;

@@ -1,30 +1,27 @@
 -- A run starts on the world of a log that was mounted.
-use Rattle.std.proofs.Common.{◌≡◌, ℕ, ◌≤◌, true, false, List, length, refl, sym, ap, subst, ◌∙◌, Option, Some, None}
+use Rattle.std.proofs.Common.{◌≡◌, ℕ, true, false, List, length, refl, sym, ap, subst, ◌∙◌, Option, Some, None}
 use Rattle.std.proofs.lemmas.Bool.{and_parts, leb-true}
 use Rattle.std.proofs.lemmas.List.Elements.{All-weaker, recursion_from_All}
 use Rattle.std.specs.Prelude.{All, nat_le, slice_get}
 use Rattle.std.specs.List.{list_all}
 use Rattle.std.specs.Option.{option_map, option_and_then}
 use Rattle.muck_model.specs.declared.note.Note.{Note}
-use Rattle.muck_model.specs.declared.tune.Tune.{Tune}
+use Rattle.muck_model.specs.Parameters.{tune_fits}
 use Rattle.muck_codec.specs.declared.stored.Stored.{Stored}
 use Rattle.muck_codec.specs.inner.Stored.{AreProperties, IsStored}
-use Rattle.muck_store.specs.Forms.{entry_of, loaded}
-use Rattle.muck_store.specs.Limits.{fits}
-use Rattle.muck_store.specs.Whole.{is_whole}
+use Rattle.muck_store.specs.Forms.{entry_of_stored, loaded}
+use Rattle.muck_store.specs.Limits.{record_fits}
+use Rattle.muck_store.specs.Whole.{is_whole_store}
 use Rattle.muck_store.proofs.Loaded.{get_loaded}
 use Rattle.muck_store.proofs.Round.{persist_loaded}
 use Rattle.muck_store.proofs.Sound.{whole_hangs}
 use Rattle.muck_log.specs.inner.Mount.{IsMountedAs}
 use Rattle.muck_log.specs.Store.{LogState}
-use Rattle.muck_log.specs.World.{World as Kept, is_between, tune_fits, is_fine}
-use Rattle.spec_admin.specs.Parameters.{parameter_of, parameter_most, IsInRange}
-use Rattle.spec_admin.specs.declared.word.Parameter.{Parameter}
-use Rattle.spec_admin.specs.declared.word.Parameter.TheVariants.{InstrSlice, PreemptUnits, M1Units, M2Units, ProcessLimit, PlayerProcesses, MpiCommands, DumpInterval}
+use Rattle.muck_log.specs.World.{StoredWorld as Kept, is_fine}
 use Rattle.spec_dumps.specs.Fronts.{persisted, file_most}
 use Rattle.spec_dumps.specs.inner.Holding.{Rests}
 use Rattle.spec_dumps.proofs.Begun.{rests_begun}
-use Rattle.spec_events.specs.World.{booted}
+use Rattle.spec_events.specs.World.{world_booted}
 use Rattle.spec_events.specs.Histories.{History, now, AllLawful, AllLicensed}
 use Rattle.spec_events.specs.Passwords.{AllKnown}
 use Rattle.spec_events.specs.Sourced.{AllSourced}
@@ -41,7 +38,8 @@ use Rattle.spec_origins.proofs.Staying.{stays_there_booted}
 use Rattle.spec_events.proofs.Passwords.{all_known_booted}
 use Rattle.spec_events.proofs.SourcedEvents.{all_sourced_booted}
 use Rattle.spec_events.proofs.Turns.{all_licensed_booted}
-use Rattle.spec_live.specs.Objects.{Entry, mark_in}
+use Rattle.spec_live.specs.Objects.{Entry, mark_in, object_in}
+use Rattle.spec_live.specs.Stood.{standing, stood_in, stands_in}
 use Rattle.spec_live.specs.Boards.{early_board}
 use Rattle.spec_live.specs.Consistent.{IsConsistent}
 use Rattle.muck_model.specs.declared.event.Entry.{Entry as Happened}
@@ -56,46 +54,30 @@ pub bootable : (kept : Kept) → is_fine kept.objects kept.tune ≡ true → IsB
 unfolding is_fine
 bootable kept fine =
     let a = and_parts (nat_le (length kept.objects) 100000) _ fine in
-    let b = and_parts (list_all fits kept.objects) _ a.1 in
-    let c = and_parts (tune_fits kept.tune) (is_whole kept.objects) b.1 in
+    let b = and_parts (list_all record_fits kept.objects) _ a.1 in
+    let c = and_parts (tune_fits kept.tune) (is_whole_store kept.objects) b.1 in
     record { few = leb-true (length kept.objects) 100000 a.0; whole = c.1; fit = b.0; tuned = c.0 }
-
-between : (n most : ℕ) → is_between n most ≡ true → (1 ≤ n) × (n ≤ most)
-between n most e = let both = and_parts (nat_le 1 n) (nat_le n most) e in (leb-true 1 n both.0, leb-true n most both.1)
-
--- what is kept of the parameters is in its range
-pub in_range : (t : Tune) → tune_fits t ≡ true → IsInRange t
-unfolding tune_fits
-in_range t e p =
-    let a = and_parts (is_between t.instr_slice 20000) _ e in
-    let b = and_parts (is_between t.preempt_units 20000) _ a.1 in
-    let c = and_parts (is_between t.m1_units 1000000) _ b.1 in
-    let d = and_parts (is_between t.m2_units 1000000) _ c.1 in
-    let f = and_parts (is_between t.process_limit 400) _ d.1 in
-    let g = and_parts (is_between t.player_processes 400) _ f.1 in
-    let h = and_parts (is_between t.mpi_commands 2048) (is_between t.dump_interval 86400) g.1 in
-    at p a.0 b.0 c.0 d.0 f.0 g.0 h.0 h.1
-  where
-    at : (p : Parameter) → is_between t.instr_slice 20000 ≡ true → is_between t.preempt_units 20000 ≡ true → is_between t.m1_units 1000000 ≡ true → is_between t.m2_units 1000000 ≡ true → is_between t.process_limit 400 ≡ true →
-        is_between t.player_processes 400 ≡ true → is_between t.mpi_commands 2048 ≡ true → is_between t.dump_interval 86400 ≡ true → (1 ≤ parameter_of p t) × (parameter_of p t ≤ parameter_most p)
-    at InstrSlice a b c d f g h i = between t.instr_slice 20000 a
-    at PreemptUnits a b c d f g h i = between t.preempt_units 20000 b
-    at M1Units a b c d f g h i = between t.m1_units 1000000 c
-    at M2Units a b c d f g h i = between t.m2_units 1000000 d
-    at ProcessLimit a b c d f g h i = between t.process_limit 400 f
-    at PlayerProcesses a b c d f g h i = between t.player_processes 400 g
-    at MpiCommands a b c d f g h i = between t.mpi_commands 2048 h
-    at DumpInterval a b c d f g h i = between t.dump_interval 86400 i
 
 pub properties : (os : List Stored) → All IsStored os → All (λ s. AreProperties s.props) os
 properties os all = All-weaker IsStored (λ s. AreProperties s.props) (λ x s. s.props) os all
 
 -- the objects of records have no marks
 pub unmarked : (os : List Stored) (n : ℕ) → mark_in (loaded os) n ≡ None
-unfolding mark_in entry_of
+unfolding mark_in entry_of_stored
 unmarked os n = ap (λ (o : Option Entry). option_and_then (λ (e : Entry). e.mark) o) (get_loaded os n) ∙ by_cases (slice_get os n)
   where
-    by_cases : (o : Option Stored) → option_and_then (λ (e : Entry). e.mark) (option_map (entry_of os) o) ≡ None
+    by_cases : (o : Option Stored) → option_and_then (λ (e : Entry). e.mark) (option_map (entry_of_stored os) o) ≡ None
+    by_cases None = refl
+    by_cases (Some s) = refl
+
+-- nor has any of them moved
+pub unmoved : (os : List Stored) (k : ℕ) → stood_in (loaded os) k ≡ stands_in (loaded os) k
+unfolding stood_in stands_in object_in entry_of_stored
+unmoved os k =
+    ap (λ (o : Option Entry). option_and_then (λ (e : Entry). e.stood) o) (get_loaded os k) ∙ by_cases (slice_get os k)
+    ∙ sym (ap (λ (o : Option Entry). option_and_then standing (option_map (λ (e : Entry). e.object) o)) (get_loaded os k))
+  where
+    by_cases : (o : Option Stored) → option_and_then (λ (e : Entry). e.stood) (option_map (entry_of_stored os) o) ≡ option_and_then standing (option_map (λ (e : Entry). e.object) (option_map (entry_of_stored os) o))
     by_cases None = refl
     by_cases (Some s) = refl
 
@@ -126,26 +108,26 @@ known_from began kept es lawful = all_known_booted (loaded kept.objects) kept.tu
 
 -- what a dump would store of that world is what was kept
 pub held_again : (began : ℕ) (kept : Kept) → IsBootable kept → All (λ s. AreProperties s.props) kept.objects → kept ≡ persisted (booted_at began kept)
-unfolding booted early_board
+unfolding world_booted early_board
 held_again began kept is props =
     ap (λ (os : List Stored). let k : Kept = record { objects = os; tune = kept.tune } in k)
     (sym (persist_loaded kept.objects is.few is.whole (recursion_from_All (λ s. AreProperties s.props) kept.objects props)))
 
 pub hangs : (began : ℕ) (kept : Kept) → IsBootable kept → IsConsistent (booted_at began kept).live.objects
-unfolding booted
+unfolding world_booted
 hangs began kept is = (whole_hangs kept.objects is.few is.whole).world
 
 -- the world of a run that begins lives, and no dump runs
 pub begins_alive : (began : ℕ) (log : LogState) (note : Note) (h : History) → h ≡ begun_at began log note → (now h).dead ≡ false
-unfolding now booted
+unfolding now world_booted
 begins_alive began log note h is = ap (λ (x : History). (now x).dead) is
 
 pub begins_opens : (began : ℕ) (log : LogState) (note : Note) (h : History) → h ≡ begun_at began log note → Opens 0 h
-unfolding booted early_board
+unfolding world_booted early_board
 begins_opens began log note h is = record { nobody = ap (λ (x : History). x.start.live.board.connections) is; opened = ap (λ (x : History). all_within 0 x.entries) is }
 
 pub begins_idle : (began : ℕ) (log : LogState) (note : Note) (h : History) → h ≡ begun_at began log note → (now h).dumps.running ≡ None
-unfolding now booted
+unfolding now world_booted
 begins_idle began log note h is = ap (λ (x : History). (now x).dumps.running) is
 
 module _ {D : Type 0} (began : ℕ) (seen : D → List ℕ) (moment : D → ℕ) (images : D → ℕ → List ℕ → Type 0) (faults : D → ℕ) (log : LogState) (f s : D) (is : IsBootable log.chosen.held.world) (props : All (λ x. AreProperties x.props) log.chosen.held.world.objects) (on : IsMountedAs seen moment images file_most log f s) where

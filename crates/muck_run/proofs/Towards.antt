@@ -10,7 +10,7 @@ use Rattle.spec_events.specs.World.{World, connection}
 use Rattle.spec_live.specs.Connections.{connections_most}
 use Rattle.spec_events.specs.Histories.{History, now, entered, by_porter}
 use Rattle.muck_script.specs.declared.act.Act.{Act}
-use Rattle.muck_script.specs.Story.{Dumped, Part, outcomes_of, plain, both, taken, parted, served, line_story, lines_story, told}
+use Rattle.muck_script.specs.Story.{Dumped, Part, outcomes_of, plain_part, both_parts, queue_taken, connection_parted, served, line_story, lines_story, event_told}
 use Rattle.muck_run.specs.inner.Plays.{Plays, Breaks}
 use Rattle.muck_run.proofs.Opening.{served_nothing}
 use Rattle.muck_run.proofs.Parts.{plays_both, plays_nothing, plays_one, appends_nothing, breaks_first, breaks_second}
@@ -51,16 +51,16 @@ breaks_as f g ending h k a b e p = record {
 }
 
 -- a part was done, and the others are left
-towards_goes_on : (whole rest first others : Part) (h k l : History) (a b c : Option (List ℕ)) → Towards whole rest h k a b → ((os : List Dumped) → both first others os (now k) ≡ rest os (now k)) → Plays first k l b c → Towards whole others h l a c
+towards_goes_on : (whole rest first others : Part) (h k l : History) (a b c : Option (List ℕ)) → Towards whole rest h k a b → ((os : List Dumped) → both_parts first others os (now k) ≡ rest os (now k)) → Plays first k l b c → Towards whole others h l a c
 towards_goes_on whole rest first others h k l a b c t e p = record {
-  finish = λ m o q. t.finish m o (plays_as (both first others) rest k m b o e (plays_both first others k l m b c o p q));
-  break = λ ending m o q. t.break ending m o (breaks_as (both first others) rest ending k m b o e (breaks_second first others ending k l m b c o p q));
+  finish = λ m o q. t.finish m o (plays_as (both_parts first others) rest k m b o e (plays_both first others k l m b c o p q));
+  break = λ ending m o q. t.break ending m o (breaks_as (both_parts first others) rest ending k m b o e (breaks_second first others ending k l m b c o p q));
   alive = p.alive;
 }
 
 -- a part broke off
-towards_breaks : (whole rest first others : Part) (ending : List Entry) (h k l : History) (a b c : Option (List ℕ)) → Towards whole rest h k a b → ((os : List Dumped) → both first others os (now k) ≡ rest os (now k)) → Breaks first ending k l b c → Breaks whole ending h l a c
-towards_breaks whole rest first others ending h k l a b c t e p = t.break ending l c (breaks_as (both first others) rest ending k l b c e (breaks_first first others ending k l b c p))
+towards_breaks : (whole rest first others : Part) (ending : List Entry) (h k l : History) (a b c : Option (List ℕ)) → Towards whole rest h k a b → ((os : List Dumped) → both_parts first others os (now k) ≡ rest os (now k)) → Breaks first ending k l b c → Breaks whole ending h l a c
+towards_breaks whole rest first others ending h k l a b c t e p = t.break ending l c (breaks_as (both_parts first others) rest ending k l b c e (breaks_first first others ending k l b c p))
 
 -- nothing is left
 towards_ends : (whole rest : Part) (h k : History) (a b : Option (List ℕ)) → Towards whole rest h k a b → ((os : List Dumped) → rest os (now k) ≡ []) → Plays whole h k a b
@@ -75,19 +75,19 @@ pub record IsServing (whole : Part) (d : ℕ) (h k : History) (a b : Option (Lis
 pub serving_begins : (h : History) (a : Option (List ℕ)) → (now h).dead ≡ false → IsServing (served connections_most 1) 1 h h a a
 serving_begins h a alive = record { left = 256; all = refl; towards = towards_begins (served 256 1) h a alive }
 
-pub serving_goes_on : (whole : Part) (d : ℕ) (h k l : History) (a b c : Option (List ℕ)) → IsServing whole d h k a b → d < 257 → Plays (both (plain (taken d)) (plain (parted d))) k l b c → IsServing whole (d + 1) h l a c
+pub serving_goes_on : (whole : Part) (d : ℕ) (h k l : History) (a b c : Option (List ℕ)) → IsServing whole d h k a b → d < 257 → Plays (both_parts (plain_part (queue_taken d)) (plain_part (connection_parted d))) k l b c → IsServing whole (d + 1) h l a c
 unfolding served
 serving_goes_on whole d h k l a b c s less p = goes s.left s.all s.towards where
   goes : (left : ℕ) → left + d ≡ 257 → Towards whole (served left d) h k a b → IsServing whole (d + 1) h l a c
   goes zero e t = absurd (omega arith)
-  goes (suc n) e t = record { left = n; all = omega arith; towards = towards_goes_on whole (served (suc n) d) (both (plain (taken d)) (plain (parted d))) (served n (d + 1)) h k l a b c t (λ os. refl) p }
+  goes (suc n) e t = record { left = n; all = omega arith; towards = towards_goes_on whole (served (suc n) d) (both_parts (plain_part (queue_taken d)) (plain_part (connection_parted d))) (served n (d + 1)) h k l a b c t (λ os. refl) p }
 
-pub serving_breaks : (whole : Part) (d : ℕ) (ending : List Entry) (h k l : History) (a b c : Option (List ℕ)) → IsServing whole d h k a b → d < 257 → Breaks (both (plain (taken d)) (plain (parted d))) ending k l b c → Breaks whole ending h l a c
+pub serving_breaks : (whole : Part) (d : ℕ) (ending : List Entry) (h k l : History) (a b c : Option (List ℕ)) → IsServing whole d h k a b → d < 257 → Breaks (both_parts (plain_part (queue_taken d)) (plain_part (connection_parted d))) ending k l b c → Breaks whole ending h l a c
 unfolding served
 serving_breaks whole d ending h k l a b c s less p = goes s.left s.all s.towards where
   goes : (left : ℕ) → left + d ≡ 257 → Towards whole (served left d) h k a b → Breaks whole ending h l a c
   goes zero e t = absurd (omega arith)
-  goes (suc n) e t = towards_breaks whole (served (suc n) d) (both (plain (taken d)) (plain (parted d))) (served n (d + 1)) ending h k l a b c t (λ os. refl) p
+  goes (suc n) e t = towards_breaks whole (served (suc n) d) (both_parts (plain_part (queue_taken d)) (plain_part (connection_parted d))) (served n (d + 1)) ending h k l a b c t (λ os. refl) p
 
 pub serving_ends : (whole : Part) (d : ℕ) (h k : History) (a b : Option (List ℕ)) → IsServing whole d h k a b → ((n : ℕ) → d ≤ n → n < 257 → is_some (connection n (now k)) ≡ false) → Plays whole h k a b
 serving_ends whole d h k a b s none =
@@ -107,7 +107,7 @@ playing_stopped acts rest h k a b t e = towards_ends (lines_story acts) (lines_s
 
 -- a line's story, and the story of the lines behind it
 line_first : (acts : List Act) (at : ℕ) (act : Act) (os : List Dumped) (w : World) → at < length acts → act ≡ get_or acts at act → w.stopping ≡ false →
-    both (line_story act) (lines_story (drop (at + 1) acts)) os w ≡ lines_story (drop at acts) os w
+    both_parts (line_story act) (lines_story (drop (at + 1) acts)) os w ≡ lines_story (drop at acts) os w
 line_first acts at act os w less is e = sym (cond-false _ _ _ e) ∙ ap (λ xs. lines_story xs os w) (sym (drop_one acts at act less is))
 
 pub playing_goes_on : (acts : List Act) (at : ℕ) (act : Act) (h k l : History) (a b c : Option (List ℕ)) → at < length acts → act ≡ get_or acts at act → (now k).stopping ≡ false →
@@ -123,7 +123,7 @@ playing_breaks acts at act ending h k l a b c less is e t p =
 -- the run is halted behind the last line
 pub playing_halted : (acts : List Act) (at : ℕ) (h k l : History) (a b : Option (List ℕ)) → length acts ≤ at → (now k).stopping ≡ false → l ≡ entered k (by_porter Halt) →
     Towards (lines_story acts) (lines_story (drop at acts)) h k a b → Plays (lines_story acts) h l a b
-unfolding told
+unfolding event_told
 playing_halted acts at h k l a b over e is t =
     let none : drop at acts ≡ [] = drop_all at acts over in
     let same : (os : List Dumped) → lines_story (drop at acts) os (now k) ≡ by_porter Halt ∷ [] = λ os. ap (λ xs. lines_story xs os (now k)) none ∙ cond-false _ _ _ e in

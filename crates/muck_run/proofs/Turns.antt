@@ -1,6 +1,7 @@
 -- The turns after a line: nothing is written of them, they leave the world alive, and no dump is among them.
 use Rattle.std.proofs.Common.{◌≡◌, ℕ, ℤ, false, List, [], ◌∷◌, ◌++◌, refl, sym, ◌∙◌, ap, Option, Some, None, suc, zero, subst}
 use Rattle.std.specs.List.{list_any}
+use Rattle.muck_laws.proofs.Lists.{no_ending}
 use Rattle.muck_model.specs.declared.event.Entry.{Entry}
 use Rattle.muck_model.specs.declared.event.Event.TheVariants.{Exec, Claim, Slice, Died}
 use Rattle.spec_events.specs.Logged.{is_dump}
@@ -12,9 +13,9 @@ use Rattle.spec_events.specs.Histories.{History, now, after, Grew, by_porter}
 use Rattle.spec_events.proofs.Living.{dead-effect}
 use Rattle.spec_events.proofs.Runs.{longer_grew, now-grew}
 use Rattle.muck_script.specs.inner.Settling.{DiedDuring}
-use Rattle.muck_script.specs.Story.{Turn, of_line, of_process, next_turn, turn_entries, turn, turns, plain, told, text_of}
+use Rattle.muck_script.specs.Story.{StoryTurn, of_line, of_process, next_turn, turn_entries, turn_followed, turns, plain_part, event_told, transcript_of}
 use Rattle.muck_run.specs.inner.Plays.{Plays, Breaks}
-use Rattle.muck_run.proofs.Parts.{appends_nothing, appends_as, no_ending}
+use Rattle.muck_run.proofs.Parts.{appends_nothing, appends_as}
 
 -- Entries of turns, each behind the other: done lines, claims and slices.
 data AreTurns : List Entry → Type 0 where
@@ -23,7 +24,7 @@ data AreTurns : List Entry → Type 0 where
   a_claim : (pid : ℤ) (es : List Entry) → AreTurns es → AreTurns (by_porter (Claim pid) ∷ es)
   a_slice : (pid : ℤ) (es : List Entry) → AreTurns es → AreTurns (by_porter (Slice pid) ∷ es)
 
-turn_is : (o : Option Turn) (others : Turn → List Entry) → ((t : Turn) → AreTurns (others t)) → AreTurns (turn o others)
+turn_is : (o : Option StoryTurn) (others : StoryTurn → List Entry) → ((t : StoryTurn) → AreTurns (others t)) → AreTurns (turn_followed o others)
 turn_is None others p = no_turn
 turn_is (Some (of_line d)) others p = a_line d _ (p (of_line d))
 turn_is (Some (of_process pid)) others p = a_claim pid _ (a_slice pid _ (p (of_process pid)))
@@ -33,15 +34,15 @@ unfolding turns
 turns_are zero w = no_turn
 turns_are (suc n) w = turn_is (next_turn w) (λ t. turns n (after w (turn_entries t))) (λ t. turns_are n (after w (turn_entries t)))
 
-turns_silent : (es : List Entry) → AreTurns es → (w : World) → text_of w es ≡ []
-unfolding told
+turns_silent : (es : List Entry) → AreTurns es → (w : World) → transcript_of w es ≡ []
+unfolding event_told
 turns_silent _ no_turn w = refl
 turns_silent _ (a_line d es l) w = turns_silent es l (effect w (by_porter (Exec d)))
 turns_silent _ (a_claim pid es l) w = turns_silent es l (effect w (by_porter (Claim pid)))
 turns_silent _ (a_slice pid es l) w = turns_silent es l (effect w (by_porter (Slice pid)))
 
 -- nothing is written of turns
-pub turned_silent : (n : ℕ) (w : World) → text_of w (turns n w) ≡ []
+pub turned_silent : (n : ℕ) (w : World) → transcript_of w (turns n w) ≡ []
 turned_silent n w = turns_silent (turns n w) (turns_are n w) w
 
 turns_live : (es : List Entry) → AreTurns es → (w : World) → (after w es).dead ≡ w.dead
@@ -56,7 +57,7 @@ front_turns (e ∷ front) rest (a_line d _ l) = a_line d front (front_turns fron
 front_turns (e ∷ front) rest (a_claim pid _ l) = a_claim pid front (front_turns front rest l)
 front_turns (e ∷ front) rest (a_slice pid _ l) = a_slice pid front (front_turns front rest l)
 
-pub plays_turns : (n : ℕ) (h k : History) (o : Option (List ℕ)) → Grew h k (turns n (now h)) → (now h).dead ≡ false → Plays (plain (turns n)) h k o o
+pub plays_turns : (n : ℕ) (h k : History) (o : Option (List ℕ)) → Grew h k (turns n (now h)) → (now h).dead ≡ false → Plays (plain_part (turns n)) h k o o
 plays_turns n h k o is alive = record {
   entries = turns n (now h);
   said = λ later. refl;
@@ -68,7 +69,7 @@ plays_turns n h k o is alive = record {
 died_in_turns : (n : ℕ) (h k : History) (d : DiedDuring (turns n (now h)) h k) → AreTurns d.front
 died_in_turns n h k d = front_turns d.front d.rest (let P : List Entry → Type 0 = AreTurns in subst P (sym d.whole) (turns_are n (now h)))
 
-pub breaks_turns : (n : ℕ) (h k : History) (o : Option (List ℕ)) → DiedDuring (turns n (now h)) h k → Breaks (plain (turns n)) (by_porter Died ∷ []) h k o o
+pub breaks_turns : (n : ℕ) (h k : History) (o : Option (List ℕ)) → DiedDuring (turns n (now h)) h k → Breaks (plain_part (turns n)) (by_porter Died ∷ []) h k o o
 breaks_turns n h k o d = record {
   front = d.front;
   pending = [];

@@ -14,13 +14,13 @@ use Rattle.spec_events.proofs.Runs.{longer_nothing, longer_one, longer_as, now-l
 use Rattle.muck_script.specs.declared.act.Act.{Act}
 use Rattle.muck_script.specs.Script.{script_of, script_most, read_part, refused_at, acts_of}
 use Rattle.muck_script.specs.Lines.{lines_of}
-use Rattle.muck_script.specs.Story.{Part, both, dumping, outcomes_of, text_of, lines_story, story}
+use Rattle.muck_script.specs.Story.{Part, both_parts, dump_part, outcomes_of, transcript_of, lines_story, story}
 use Rattle.muck_why.specs.declared.why.Why.TheVariants.{NoMemory, WriteFault}
 use Rattle.muck_run.specs.declared.playing.RunFault.{RunFault}
 use Rattle.muck_run.specs.inner.Plays.{Plays, Breaks, ending_of}
 use Rattle.muck_run.proofs.Parts.{appends_as, plays_both, breaks_first, breaks_second}
 use Rattle.muck_run.specs.inner.Dumps.{DumpsLast}
-use Rattle.muck_run.specs.Outcome.{PlayedWhole, BrokeOff, IsScriptIn, IsReadOut, IsFirstOutside, halted}
+use Rattle.muck_run.specs.Outcome.{PlayedWhole, BrokeOff, IsScriptIn, IsReadOut, IsFirstOutsideScript, halted}
 
 -- a run begins in this world, with the note of the mounting
 abbrev pub begun : World → Note → History
@@ -33,23 +33,23 @@ begun_now h w note e = ap (λ (x : History). now x) e
 -- the world where a run ends is the one after its tale
 module _ (w : World) (note : Note) (acts : List Act) (h : History) (is : h ≡ begun w note) where
   -- the script was played whole, and the last dump was made
-  pub played_whole : (k m : History) (a b : Option (List ℕ)) (tale : List Entry) → Plays (lines_story acts) h k a b → Plays dumping k m b b → tale ≡ m.entries → PlayedWhole w acts a b tale
+  pub played_whole : (k m : History) (a b : Option (List ℕ)) (tale : List Entry) → Plays (lines_story acts) h k a b → Plays dump_part k m b b → tale ≡ m.entries → PlayedWhole w acts a b tale
   played_whole k m a b tale p d end =
-      let P : History → Type 0 = λ x. Plays (both (lines_story acts) dumping) x m a b in
-      let q : Plays (both (lines_story acts) dumping) (begun w note) m a b = subst P is (plays_both (lines_story acts) dumping h k m a b b p d) in
+      let P : History → Type 0 = λ x. Plays (both_parts (lines_story acts) dump_part) x m a b in
+      let q : Plays (both_parts (lines_story acts) dump_part) (begun w note) m a b = subst P is (plays_both (lines_story acts) dump_part h k m a b b p d) in
       let start = begun_now (begun w note) w note refl in
       let all : tale ≡ q.entries = end ∙ q.history.entries in
       let whole : q.entries ≡ story acts (outcomes_of q.entries) w =
       sym (q.said []) ∙ ap (λ os. story acts os (now (begun w note))) (append-nil (outcomes_of q.entries)) ∙ ap (story acts (outcomes_of q.entries)) start in
       let W : List Entry → Type 0 = λ es. es ≡ story acts (outcomes_of es) w in
       let told : tale ≡ story acts (outcomes_of tale) w = subst W (sym all) whole in
-      record { history = told; text = appends_as a b _ _ (ap (λ (x : World). text_of x q.entries) start ∙ ap (text_of w) (sym all ∙ told)) q.text }
+      record { history = told; text = appends_as a b _ _ (ap (λ (x : World). transcript_of x q.entries) start ∙ ap (transcript_of w) (sym all ∙ told)) q.text }
 
   -- memory was wanted
-  died_at : (m : History) (a b : Option (List ℕ)) (tale : List Entry) → Breaks (both (lines_story acts) dumping) (by_porter Died ∷ []) h m a b → tale ≡ m.entries → BrokeOff w NoMemory acts a b tale
+  died_at : (m : History) (a b : Option (List ℕ)) (tale : List Entry) → Breaks (both_parts (lines_story acts) dump_part) (by_porter Died ∷ []) h m a b → tale ≡ m.entries → BrokeOff w NoMemory acts a b tale
   died_at m a b tale p end =
-      let P : History → Type 0 = λ x. Breaks (both (lines_story acts) dumping) (by_porter Died ∷ []) x m a b in
-      let q : Breaks (both (lines_story acts) dumping) (by_porter Died ∷ []) (begun w note) m a b = subst P is p in
+      let P : History → Type 0 = λ x. Breaks (both_parts (lines_story acts) dump_part) (by_porter Died ∷ []) x m a b in
+      let q : Breaks (both_parts (lines_story acts) dump_part) (by_porter Died ∷ []) (begun w note) m a b = subst P is p in
       let start = begun_now (begun w note) w note refl in
       record {
         front = q.front;
@@ -61,21 +61,21 @@ module _ (w : World) (note : Note) (acts : List Act) (h : History) (is : h ≡ b
         history = end ∙ q.history.entries;
         told = q.told;
         untold = q.untold;
-        text = q.text ∙ ap (λ (x : World). text_of x q.front) start;
+        text = q.text ∙ ap (λ (x : World). transcript_of x q.front) start;
         appended = q.appended;
       }
 
   pub died_playing : (m : History) (a b : Option (List ℕ)) (tale : List Entry) → Breaks (lines_story acts) (by_porter Died ∷ []) h m a b → tale ≡ m.entries → BrokeOff w NoMemory acts a b tale
-  died_playing m a b tale p end = died_at m a b tale (breaks_first (lines_story acts) dumping (by_porter Died ∷ []) h m a b p) end
+  died_playing m a b tale p end = died_at m a b tale (breaks_first (lines_story acts) dump_part (by_porter Died ∷ []) h m a b p) end
 
-  pub died_dumping : (k m : History) (a b : Option (List ℕ)) (tale : List Entry) → Plays (lines_story acts) h k a b → Breaks dumping (by_porter Died ∷ []) k m b b → tale ≡ m.entries → BrokeOff w NoMemory acts a b tale
-  died_dumping k m a b tale p d end = died_at m a b tale (breaks_second (lines_story acts) dumping (by_porter Died ∷ []) h k m a b b p d) end
+  pub died_dumping : (k m : History) (a b : Option (List ℕ)) (tale : List Entry) → Plays (lines_story acts) h k a b → Breaks dump_part (by_porter Died ∷ []) k m b b → tale ≡ m.entries → BrokeOff w NoMemory acts a b tale
+  died_dumping k m a b tale p d end = died_at m a b tale (breaks_second (lines_story acts) dump_part (by_porter Died ∷ []) h k m a b b p d) end
 
   -- the sink failed: the world was halted, and dumped all the same
   pub halted_off : (k l m : History) (a b : Option (List ℕ)) (tale : List Entry) → Breaks (lines_story acts) [] h k a b → Longer k l (halted (now k)) → DumpsLast l m → tale ≡ m.entries → BrokeOff w WriteFault acts a b tale
   halted_off k l m a b tale p stops dump end =
-      let P : History → Type 0 = λ x. Breaks (both (lines_story acts) dumping) [] x k a b in
-      let q : Breaks (both (lines_story acts) dumping) [] (begun w note) k a b = subst P is (breaks_first (lines_story acts) dumping [] h k a b p) in
+      let P : History → Type 0 = λ x. Breaks (both_parts (lines_story acts) dump_part) [] x k a b in
+      let q : Breaks (both_parts (lines_story acts) dump_part) [] (begun w note) k a b = subst P is (breaks_first (lines_story acts) dump_part [] h k a b p) in
       let start = begun_now (begun w note) w note refl in
       let same : k.entries ≡ q.front = q.history.entries ∙ append-nil q.front in
       let there : now k ≡ after w q.front = now-longer (begun w note) k (q.front ++ []) q.history ∙ ap (after (now (begun w note))) (append-nil q.front) ∙ ap (λ (x : World). after x q.front) start in
@@ -91,7 +91,7 @@ module _ (w : World) (note : Note) (acts : List Act) (h : History) (is : h ≡ b
             ∙ append_assoc q.front (halted (after w q.front)) dump.0;
         told = q.told;
         untold = q.untold;
-        text = q.text ∙ ap (λ (x : World). text_of x q.front) start;
+        text = q.text ∙ ap (λ (x : World). transcript_of x q.front) start;
         appended = q.appended;
       }
 
@@ -142,7 +142,7 @@ pub script_in : (left now : Option (List ℕ)) (most : ℕ) (bytes : List ℕ) (
 script_in None now most bytes acts m h e = tt
 script_in (Some left) now most bytes acts m h e = sym (same_script left) ∙ ap (λ n. script_of (take n left)) (sym m) ∙ ap script_of (sym h.0) ∙ e
 
-pub first_outside : (left now : Option (List ℕ)) (most : ℕ) (bytes : List ℕ) (line : ℕ) → most ≡ script_most + 1 → HasReadAll left now most bytes → script_of bytes ≡ Err line → IsFirstOutside left line
+pub first_outside : (left now : Option (List ℕ)) (most : ℕ) (bytes : List ℕ) (line : ℕ) → most ≡ script_most + 1 → HasReadAll left now most bytes → script_of bytes ≡ Err line → IsFirstOutsideScript left line
 first_outside None now most bytes line m h e = tt
 first_outside (Some left) now most bytes line m h e = sym (same_script left) ∙ ap (λ n. script_of (take n left)) (sym m) ∙ ap script_of (sym h.0) ∙ e
 

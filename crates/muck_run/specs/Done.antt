@@ -3,9 +3,9 @@ use Rattle.std.specs.Prelude.{◌≡◌, ◌⊎◌, ℕ, Bool, true, List, Optio
 use Rattle.muck_io.specs.Faults.{Rose}
 use Rattle.muck_model.specs.declared.event.Entry.{Entry}
 use Rattle.muck_model.specs.declared.note.Note.{Note}
-use Rattle.muck_log.specs.Store.{Chosen, stored}
+use Rattle.muck_log.specs.Store.{Chosen, store_of}
 use Rattle.muck_run.specs.Drill.{HasDrilled}
-use Rattle.muck_run.specs.Outcome.{EndsAs, EndsFull, HasBegun, IsFirstOutside, IsInGrammar, IsUnbegun}
+use Rattle.muck_run.specs.Outcome.{EndsAs, EndsFull, HasBegun, IsFirstOutsideScript, IsScriptLeft, IsUnbegun}
 use Rattle.muck_why.specs.declared.why.Why.{Why}
 use Rattle.muck_why.specs.declared.why.Why.TheVariants.{Fine, Usage, BadScript, NoMemory, ReadFault, WriteFault, DiskFault, Damaged, StoreFull}
 
@@ -19,18 +19,18 @@ pub record RunDone {S K D : Type 0} (left : S → Option (List ℕ)) (faults : S
   pub ends : EndsAs why (IsUnbegun tells seen moment images k l first second first' second' tale) (HasBegun left faults written breaks tells attached seen moment images fails store why s t k l first second first' second' tale notes)
   -- each answer but `Fine` and want of memory has its cause
   pub usage : why ≡ Usage → ⊥
-  pub bad_script : (line : ℕ) → why ≡ BadScript line → IsFirstOutside (left s) line
+  pub bad_script : (line : ℕ) → why ≡ BadScript line → IsFirstOutsideScript (left s) line
   pub read_fault : why ≡ ReadFault → Rose (faults s) (faults t)
   pub write_fault : why ≡ WriteFault → Rose (breaks k) (breaks l)
   pub disk_fault : why ≡ DiskFault → Rose (fails first) (fails first') ⊎ Rose (fails second) (fails second')
-  pub damaged : (file : Bool) (at : ℕ) → tells ≡ true → why ≡ Damaged file at → stored (seen first) (seen second) ≡ Err (record { second = file; at = at })
+  pub damaged : (file : Bool) (at : ℕ) → tells ≡ true → why ≡ Damaged file at → store_of (seen first) (seen second) ≡ Err (record { second = file; at = at })
   -- the first cause stands: no other fault of the source or the sink came, and the store was mounted before the script was read
   pub source_stands : (why ≡ ReadFault → ⊥) → faults t ≡ faults s
   pub sink_stands : (why ≡ WriteFault → ⊥) → breaks l ≡ breaks k
   pub unread : (file : Bool) (at : ℕ) → tells ≡ true → why ≡ Damaged file at → t ≡ s
-  pub loads : tells ≡ true → (why ≡ ReadFault) ⊎ ((line : ℕ) × (why ≡ BadScript line)) → (chosen : Chosen) × (stored (seen first) (seen second) ≡ Ok chosen)
+  pub loads : tells ≡ true → (why ≡ ReadFault) ⊎ ((line : ℕ) × (why ≡ BadScript line)) → (chosen : Chosen) × (store_of (seen first) (seen second) ≡ Ok chosen)
   -- where a store loads, the script is inside the grammar and no count rose, the work was done, or memory was wanted, or the last dump would pass what a file may have, on what the files hold
-  pub complete : (chosen : Chosen) → tells ≡ true → stored (seen first) (seen second) ≡ Ok chosen → IsInGrammar (left s) → (Rose (faults s) (faults t) → ⊥) → (Rose (breaks k) (breaks l) → ⊥)
+  pub complete : (chosen : Chosen) → tells ≡ true → store_of (seen first) (seen second) ≡ Ok chosen → IsScriptLeft (left s) → (Rose (faults s) (faults t) → ⊥) → (Rose (breaks k) (breaks l) → ⊥)
       → (Rose (fails first) (fails first') → ⊥) → (Rose (fails second) (fails second') → ⊥)
       → (why ≡ Fine) ⊎ ((why ≡ NoMemory) ⊎ ((end more : ℕ) × (why ≡ StoreFull end more) × EndsFull tells seen 0 first second first' second' tale notes end more))
 

@@ -7,7 +7,7 @@ use Rattle.muck_io.specs.Faults.{Rose}
 use Rattle.muck_model.specs.declared.event.Entry.{Entry}
 use Rattle.muck_model.specs.declared.event.Event.TheVariants.{Died}
 use Rattle.spec_live.specs.Objects.{is_garbage}
-use Rattle.spec_events.specs.World.{World, starting}
+use Rattle.spec_events.specs.World.{World, starting_world}
 use Rattle.spec_events.specs.Histories.{after, by_porter, AllLawful}
 use Rattle.muck_script.specs.declared.act.Act.{Act}
 use Rattle.muck_script.specs.declared.act.Act.TheVariants.{Open, Send, Wait}
@@ -48,19 +48,19 @@ summary n objects text =
 
 -- The tale of a drill that was played whole: the story of its script in the starting world, where dumps come out as the tale says.
 pub record IsDrilled (n : ℕ) (tale : List Entry) : Type 0 where
-  pub lawful : AllLawful starting tale
-  pub story : tale ≡ lines_story (drill_script n) (outcomes_of tale) starting
+  pub lawful : AllLawful starting_world tale
+  pub story : tale ≡ lines_story (drill_script n) (outcomes_of tale) starting_world
 
 -- These entries are a front of that story, however the dumps behind them would have come out; a dump that began in them and didn't come out
 -- counts as stored.
 pub record IsDrillFront (n : ℕ) (front : List Entry) : Type 0 where
   pub pending : List Dumped
   pub began : IsPending front pending
-  pub whole : (later : List Dumped) → (rest : List Entry) × (front ++ rest ≡ lines_story (drill_script n) (outcomes_of front ++ (pending ++ later)) starting)
+  pub whole : (later : List Dumped) → (rest : List Entry) × (front ++ rest ≡ lines_story (drill_script n) (outcomes_of front ++ (pending ++ later)) starting_world)
 
 -- The tale of a drill that broke off for want of memory: a front of its story happened, and then Died.
 pub record BrokeDrill (n : ℕ) (tale : List Entry) : Type 0 where
-  pub lawful : AllLawful starting tale
+  pub lawful : AllLawful starting_world tale
   pub front : List Entry
   pub is : IsDrillFront n front
   pub history : tale ≡ front ++ by_porter Died ∷ []
@@ -71,7 +71,7 @@ objects_in w = count_by (λ e. not (is_garbage e.object.kind)) w.live.objects
 
 -- what is written of it
 abbrev pub drill_text : ℕ → List Entry → List ℕ
-drill_text n tale = summary n (objects_in (after starting tale)) (transcript (drill_script n) (outcomes_of tale) starting)
+drill_text n tale = summary n (objects_in (after starting_world tale)) (transcript (drill_script n) (outcomes_of tale) starting_world)
 
 -- What a drill comes to, by the answer, with the count of faults of the sink: its summary was written, or a front of it, or nothing. Where memory was
 -- wanted for the world itself nothing happened.

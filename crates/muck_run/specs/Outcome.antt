@@ -5,13 +5,13 @@ use Rattle.muck_io.specs.Faults.{Rose}
 use Rattle.muck_model.specs.declared.event.Entry.{Entry}
 use Rattle.muck_model.specs.declared.event.Event.TheVariants.{Halt, Died, Cut}
 use Rattle.muck_model.specs.declared.note.Note.{Note}
-use Rattle.muck_log.specs.World.{World as Kept, IsFine}
-use Rattle.muck_log.specs.Store.{Chosen, LeavesOnly, stored as stored_in, target}
+use Rattle.muck_log.specs.World.{StoredWorld as Kept, IsFine}
+use Rattle.muck_log.specs.Store.{Chosen, LeavesOnly, store_of as stored_in, target}
 use Rattle.muck_log.specs.Append.{more_of}
 use Rattle.muck_store.specs.Forms.{loaded}
 use Rattle.spec_dumps.specs.Fronts.{IsFront, dump_payload, log_of, file_most}
 use Rattle.spec_dumps.specs.Survival.{IsSafe, StandsWhole, RoseInLast}
-use Rattle.spec_events.specs.World.{World, booted}
+use Rattle.spec_events.specs.World.{World, world_booted}
 use Rattle.spec_events.specs.Histories.{after, by_porter, AllLawful, AllLicensed}
 use Rattle.spec_events.specs.Passwords.{AllKnown}
 use Rattle.spec_events.specs.Sourced.{AllSourced}
@@ -22,7 +22,7 @@ use Rattle.spec_origins.specs.Stops.{AllStops}
 use Rattle.spec_origins.specs.There.{StaysThere}
 use Rattle.muck_script.specs.declared.act.Act.{Act}
 use Rattle.muck_script.specs.Script.{script_of}
-use Rattle.muck_script.specs.Story.{Dumped, stored, failed, outcomes_of, dump_entries, story, text_of, transcript}
+use Rattle.muck_script.specs.Story.{Dumped, stored, failed, outcomes_of, dump_entries, story, transcript_of, transcript}
 use Rattle.muck_why.specs.declared.why.Why.{Why}
 use Rattle.muck_why.specs.declared.why.Why.TheVariants.{Fine, NoMemory, WriteFault, DiskFault, StoreFull}
 use Rattle.muck_why.specs.Causes.{admitted, Ending, row_of, end_of}
@@ -38,14 +38,14 @@ IsReadOut None now = Unit {0}
 IsReadOut (Some bytes) now = now ≡ Some []
 
 -- the line of this number is the first that is outside the grammar
-abbrev pub IsFirstOutside : Option (List ℕ) → ℕ → Type 0
-IsFirstOutside None line = Unit {0}
-IsFirstOutside (Some bytes) line = script_of bytes ≡ Err line
+abbrev pub IsFirstOutsideScript : Option (List ℕ) → ℕ → Type 0
+IsFirstOutsideScript None line = Unit {0}
+IsFirstOutsideScript (Some bytes) line = script_of bytes ≡ Err line
 
 -- what was left in the source is a script, and the source tells so
-abbrev pub IsInGrammar : Option (List ℕ) → Type 0
-IsInGrammar None = ⊥
-IsInGrammar (Some bytes) = (acts : List Act) × (script_of bytes ≡ Ok acts)
+abbrev pub IsScriptLeft : Option (List ℕ) → Type 0
+IsScriptLeft None = ⊥
+IsScriptLeft (Some bytes) = (acts : List Act) × (script_of bytes ≡ Ok acts)
 
 -- the porter halts a world that isn't stopping
 abbrev pub halted : World → List Entry
@@ -86,7 +86,7 @@ pub record BrokeOff (w : World) (why : Why) (acts : List Act) (before written : 
   pub history : tale ≡ front ++ ending
   pub told : List ℕ
   pub untold : List ℕ
-  pub text : told ++ untold ≡ text_of w front
+  pub text : told ++ untold ≡ transcript_of w front
   pub appended : Appends before written told
 
 -- the last dump was stored, or it failed
@@ -123,7 +123,7 @@ abbrev pub HasRun : {K : Type 0} → (K → Option (List ℕ)) → (K → ℕ) �
 HasRun written faults w why acts before now tale = RunsTo written faults w (end_of why) acts before now tale
 
 -- what a call that has read its script says of the source
-pub record HasRead {S : Type 0} (left : S → Option (List ℕ)) (faults : S → ℕ) (before now : S) (acts : List Act) : Type 0 where
+pub record HasReadScript {S : Type 0} (left : S → Option (List ℕ)) (faults : S → ℕ) (before now : S) (acts : List Act) : Type 0 where
   pub script : IsScriptIn (left before) acts
   pub read : IsReadOut (left before) (left now)
   pub fine : faults now ≡ faults before
@@ -133,7 +133,7 @@ pub record HasRead {S : Type 0} (left : S → Option (List ℕ)) (faults : S →
 pub record IsStart (tells : Bool) (a b : List ℕ) (began : ℕ) (w : World) (mounted : ℕ) : Type 0 where
   pub kept : Kept
   pub fine : IsFine kept
-  pub boots : w ≡ booted (loaded kept.objects) kept.tune began began
+  pub boots : w ≡ world_booted (loaded kept.objects) kept.tune began began
   pub holds : tells ≡ true → (s : Chosen) × (stored_in a b ≡ Ok s) × (s.held.world ≡ kept) × (s.held.number ≡ mounted)
 
 -- What happened in a run that began in the world w: each entry was lawful where it stands, and changed only what is open there; what was built and what ran was of
@@ -152,7 +152,7 @@ pub record HasHappened {S K : Type 0} (left : S → Option (List ℕ)) (faults :
   pub there : StaysThere w tale
   pub passwords : AllKnown w tale
   pub acts : List Act
-  pub read : HasRead left faults s t acts
+  pub read : HasReadScript left faults s t acts
   pub run : HasRun written breaks w why acts k l tale
 
 -- The files STORE.a and STORE.b of this store were opened, and the store was mounted: until then nothing was written to them, and no count of faults fell. The same files are

@@ -4,15 +4,15 @@ ghost use Rattle.muck_io.specs.Faults.{Rose};
 ghost use Rattle.spec_dumps.specs.inner.Holding.{Rests};
 ghost use Rattle.spec_events.specs.Histories.{now};
 ghost use Rattle.muck_dumping.specs.inner.Between.{Knows};
-ghost use Rattle.muck_script.specs.Story.{dumping};
+ghost use Rattle.muck_script.specs.Story.{dump_part};
 ghost use Rattle.muck_run.specs.inner.Dumps.{Dumps, DumpsLast, ComesOut, IsNotedOn};
 ghost use Rattle.muck_run.specs.inner.Plays.{PlaysOrBreaks};
 
 use crate::playing::RunFault;
 use muck_disk::Disk;
+use muck_dumping::World;
 pub use muck_dumping::{FILE_MOST, Store};
 use muck_log::LogFault;
-use muck_machine::World;
 use muck_model::NoMemory;
 use std::alloc::Global;
 
@@ -32,7 +32,7 @@ pub fn dump<D: Disk>(
     requires idle { (now world.old).dumps.running ≡ None }
     requires knows { Knows store.old world.old }
     requires mounted { D.tells ≡ true → (mounted : ℕ) × Rests D.seen D.moment D.images D.faults store.old.log first.old second.old mounted world.old }
-    ensures plays { (o : Option (List ℕ)) → PlaysOrBreaks dumping world.old world.new o o result }
+    ensures plays { (o : Option (List ℕ)) → PlaysOrBreaks dump_part world.old world.new o o result }
     ensures last { DumpsLast world.old world.new }
     ensures outcome { IfOk result (ComesOut world.old world.new) }
     ensures notes { IsNotedOn world.old world.new }

@@ -12,8 +12,8 @@ ghost use Rattle.muck_run.specs.Outcome.{IsUntouched};
 use crate::dumping::FILE_MOST;
 use muck_db::{Db, Persisted};
 use muck_disk::{Disk, DiskFault};
+use muck_dumping::World;
 use muck_log::{Kept, Log, LogFault};
-use muck_machine::World;
 use muck_model::NoMemory;
 use muck_why::Why;
 use std::alloc::{AllocError, Global};
@@ -94,7 +94,7 @@ pub fn mount<D: Disk>(alloc: Global, store: &str, first: &mut D, second: &mut D)
 }
 
 // The world of what a store holds at this second, which its random numbers begin with too; nothing has happened in it yet.
-#[tactic(auto, using(crate::proofs::Started::in_range, crate::proofs::Started::properties, crate::proofs::Started::unmarked))]
+#[tactic(auto, using(muck_model::proofs::Parameters::in_range, crate::proofs::Started::properties, crate::proofs::Started::unmarked, crate::proofs::Started::unmoved))]
 fn boot(alloc: Global, kept: &Kept, began: u64) -> Result<World, NoMemory>
     requires { IsBootable kept.now }
     ensures storable { All IsStored kept.now.objects }

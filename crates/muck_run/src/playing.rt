@@ -3,7 +3,7 @@ ghost use Rattle.std.specs.Prelude.{◌≡◌, ◌<◌, ◌≤◌, IfOk, OnOk, I
 ghost use Rattle.muck_io.specs.Faults.{Rose};
 ghost use Rattle.spec_events.specs.Histories.{now};
 ghost use Rattle.spec_live.specs.Connections.{connections_most};
-ghost use Rattle.muck_script.specs.Story.{acted, turns, turns_most, taken, parted, plain, both, served, asks_dump, asked_dump, line_story, lines_story};
+ghost use Rattle.muck_script.specs.Story.{acted, turns, turns_most, queue_taken, connection_parted, plain_part, both_parts, served, asks_dump, asked_dump, line_story, lines_story};
 ghost use Rattle.spec_dumps.specs.inner.Holding.{Quietly, Rests};
 ghost use Rattle.spec_events.specs.World.{connection};
 ghost use Rattle.muck_dumping.specs.inner.Between.{Knows};
@@ -13,8 +13,8 @@ ghost use Rattle.muck_run.specs.inner.Plays.{PlaysOrBreaks};
 
 use crate::dumping::{Store, dump};
 use muck_disk::Disk;
+use muck_dumping::World;
 use muck_io::{Sink, WriteFailed, write_all};
-use muck_machine::World;
 use muck_model::NoMemory;
 use muck_script::{Act, farewell_text, lines_text, settle};
 use std::alloc::{AllocError, Global};
@@ -36,7 +36,7 @@ pub fn buffer(alloc: Global) -> Result<Vec<u8>, AllocError>
 // Takes the turns of lines and processes; nothing is written of it.
 fn turn(world: &mut World) -> Result<(), RunFault>
     requires { (now world.old).dead ≡ false }
-    ensures plays { (o : Option (List ℕ)) → PlaysOrBreaks (plain (turns turns_most)) world.old world.new o o result }
+    ensures plays { (o : Option (List ℕ)) → PlaysOrBreaks (plain_part (turns turns_most)) world.old world.new o o result }
     ensures quiet { Quietly world.old world.new }
     ensures memory { OnErr result (result ≡ Err RunFault.NoMemory) }
 {
@@ -56,7 +56,7 @@ fn take_queue<K: Sink>(
 ) -> Result<(), RunFault>
     requires room { 131090 ≤ length buf.old }
     requires alive { (now world.old).dead ≡ false }
-    ensures plays { PlaysOrBreaks (plain (taken d)) world.old world.new (K.written out.old) (K.written out.new) result }
+    ensures plays { PlaysOrBreaks (plain_part (queue_taken d)) world.old world.new (K.written out.old) (K.written out.new) result }
     ensures quiet { Quietly world.old world.new }
     ensures fine { OnOk result (K.faults out.new ≡ K.faults out.old) }
     ensures later { K.faults out.old ≤ K.faults out.new }
@@ -82,7 +82,7 @@ fn take_queue<K: Sink>(
 // Closes a connection that is leaving, and writes so.
 fn part<K: Sink>(alloc: Global, world: &mut World, d: u32, out: &mut K) -> Result<(), RunFault>
     requires { (now world.old).dead ≡ false }
-    ensures plays { PlaysOrBreaks (plain (parted d)) world.old world.new (K.written out.old) (K.written out.new) result }
+    ensures plays { PlaysOrBreaks (plain_part (connection_parted d)) world.old world.new (K.written out.old) (K.written out.new) result }
     ensures quiet { Quietly world.old world.new }
     ensures fine { OnOk result (K.faults out.new ≡ K.faults out.old) }
     ensures later { K.faults out.old ≤ K.faults out.new }
@@ -113,7 +113,7 @@ fn part<K: Sink>(alloc: Global, world: &mut World, d: u32, out: &mut K) -> Resul
 // Closes a connection where it is there; where it is leaving that is written, and else nothing is.
 fn close<K: Sink>(alloc: Global, world: &mut World, d: u32, out: &mut K) -> Result<(), RunFault>
     requires { (now world.old).dead ≡ false }
-    ensures plays { PlaysOrBreaks (plain (acted (Act.Close d))) world.old world.new (K.written out.old) (K.written out.new) result }
+    ensures plays { PlaysOrBreaks (plain_part (acted (Act.Close d))) world.old world.new (K.written out.old) (K.written out.new) result }
     ensures quiet { Quietly world.old world.new }
     ensures fine { OnOk result (K.faults out.new ≡ K.faults out.old) }
     ensures later { K.faults out.old ≤ K.faults out.new }
@@ -140,7 +140,7 @@ pub fn act<K: Sink>(
     out: &mut K,
 ) -> Result<(), RunFault>
     requires { (now world.old).dead ≡ false }
-    ensures plays { PlaysOrBreaks (plain (acted act.now)) world.old world.new (K.written out.old) (K.written out.new) result }
+    ensures plays { PlaysOrBreaks (plain_part (acted act.now)) world.old world.new (K.written out.old) (K.written out.new) result }
     ensures quiet { Quietly world.old world.new }
     ensures fine { OnOk result (K.faults out.new ≡ K.faults out.old) }
     ensures later { K.faults out.old ≤ K.faults out.new }
@@ -182,7 +182,7 @@ fn serve_one<K: Sink>(
 ) -> Result<(), RunFault>
     requires room { 131090 ≤ length buf.old }
     requires alive { (now world.old).dead ≡ false }
-    ensures plays { PlaysOrBreaks (both (plain (taken d)) (plain (parted d))) world.old world.new (K.written out.old) (K.written out.new) result }
+    ensures plays { PlaysOrBreaks (both_parts (plain_part (queue_taken d)) (plain_part (connection_parted d))) world.old world.new (K.written out.old) (K.written out.new) result }
     ensures quiet { Quietly world.old world.new }
     ensures fine { OnOk result (K.faults out.new ≡ K.faults out.old) }
     ensures later { K.faults out.old ≤ K.faults out.new }
@@ -239,7 +239,7 @@ fn act_and_turn<K: Sink>(
     out: &mut K,
 ) -> Result<(), RunFault>
     requires { (now world.old).dead ≡ false }
-    ensures plays { PlaysOrBreaks (both (plain (acted asked.now)) (plain (turns turns_most))) world.old world.new (K.written out.old) (K.written out.new) result }
+    ensures plays { PlaysOrBreaks (both_parts (plain_part (acted asked.now)) (plain_part (turns turns_most))) world.old world.new (K.written out.old) (K.written out.new) result }
     ensures quiet { Quietly world.old world.new }
     ensures fine { OnOk result (K.faults out.new ≡ K.faults out.old) }
     ensures later { K.faults out.old ≤ K.faults out.new }

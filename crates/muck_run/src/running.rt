@@ -2,7 +2,7 @@
 ghost use Rattle.std.specs.Prelude.{◌≡◌, ◌⊎◌, ◌≤◌, ℕ, Bool, true, false, IfOk, IfErr, OnOk, IsErrOf, All, vec_len, List, Option, None, Ok, Err};
 ghost use Rattle.muck_codec.specs.inner.Stored.{AreProperties};
 ghost use Rattle.muck_io.specs.Faults.{Rose};
-ghost use Rattle.muck_log.specs.Store.{Chosen, stored};
+ghost use Rattle.muck_log.specs.Store.{Chosen, store_of};
 ghost use Rattle.muck_log.specs.World.{IsFine};
 ghost use Rattle.spec_events.specs.Histories.{now, Longer};
 ghost use Rattle.muck_log.specs.inner.Mount.{IsMountedAs};
@@ -12,15 +12,15 @@ ghost use Rattle.muck_dumping.specs.inner.Between.{Knows};
 ghost use Rattle.muck_run.specs.inner.Dumps.{note_of, DumpsLast, IsNotedOn};
 ghost use Rattle.muck_run.specs.inner.Ends.{MayEnd, MayEndDump, IsScriptWhy, IsBootable, unbegun_at, begun_at, EndsPlay, ComesOutAs, LastKept, HasPlayed, NeverPlayed};
 ghost use Rattle.muck_run.specs.Done.{RunDone};
-ghost use Rattle.muck_run.specs.Outcome.{halted, HasRead};
+ghost use Rattle.muck_run.specs.Outcome.{halted, HasReadScript};
 
 use crate::dumping::{Store, dump};
 use crate::mounting::{awake, mount};
 use crate::playing::{RunFault, buffer, play};
 use muck_disk::Disk;
+use muck_dumping::World;
 use muck_io::{ReadFault, Sink, Source, read_all};
 use muck_log::Log;
-use muck_machine::World;
 use muck_model::{NoMemory, Tale};
 use muck_script::{Act, SCRIPT_MOST, Script, ScriptFault, read};
 use muck_why::{Why, why_of};
@@ -28,7 +28,7 @@ use std::alloc::Global;
 
 // Reads the script whole.
 fn read_script<S: Source>(alloc: Global, script: &mut S) -> Result<Script, Why>
-    ensures read { IfOk result (λ acts. HasRead S.left S.faults script.old script.new acts) }
+    ensures read { IfOk result (λ acts. HasReadScript S.left S.faults script.old script.new acts) }
     ensures why { IfErr result (IsScriptWhy (S.left script.old)) }
     ensures cause { IsErrOf result Why.ReadFault → Rose (S.faults script.old) (S.faults script.new) }
     ensures stands { (IsErrOf result Why.ReadFault → ⊥) → S.faults script.new ≡ S.faults script.old }

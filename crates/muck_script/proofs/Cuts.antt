@@ -1,10 +1,9 @@
 -- Lemmas on lines and on reading them.
 use Rattle.std.proofs.Common.{◌≡◌, ℕ, ◌+◌, ◌<◌, true, false, not, cond, List, [], ◌∷◌, ◌++◌, length, take, drop, refl, sym, ◌∙◌, ap, arith, suc, Option, Some, None, Result, Ok, Err}
-use Rattle.std.proofs.lemmas.List.{drop-drop}
 use Rattle.std.specs.List.{position_or_len, onto_first}
 use Rattle.muck_script.specs.Lines.{is_line_feed, lines_of}
 use Rattle.std.proofs.lemmas.Bool.{cond-true, lt-ltb}
-use Rattle.muck_script.specs.Script.{act_of, with_first, acts_from, acts_of, refused_at, script_most, read_part, script_of}
+use Rattle.muck_script.specs.Script.{act_of, with_act, acts_from, acts_of, refused_at, script_most, read_part, script_of}
 use Rattle.muck_script.specs.declared.act.Act.{Act}
 
 pub first_line : (b : ℕ) (bytes : List ℕ) →
@@ -42,22 +41,10 @@ pub stops : (front : List Act) (n : ℕ) (line rest bytes : List ℕ) (all : Res
     lines_of bytes ≡ line ∷ lines_of rest → act_of line ≡ None →
     with_all front (acts_from n (lines_of bytes)) ≡ all → all ≡ Err n
 stops front n line rest bytes all e a h =
-    sym h ∙ ap (λ ls. with_all front (acts_from n ls)) e ∙ ap (λ o. with_all front (with_first o n (acts_from (n + 1) (lines_of rest)))) a
-
--- what stands behind the first element of the rest
-pub tail_is : (bytes others rest : List ℕ) (n first : ℕ) → rest ≡ first ∷ others → rest ≡ drop n bytes → others ≡ drop (n + 1) bytes
-tail_is bytes others rest n first e p =
-    let tail : others ≡ drop 1 rest = sym (ap (drop 1) e) in
-    tail ∙ ap (drop 1) p ∙ drop-drop 1 n bytes
-
-pub tail_none : (bytes rest : List ℕ) (n : ℕ) → length rest ≡ 0 → rest ≡ drop n bytes → rest ≡ drop (n + 1) bytes
-tail_none bytes rest n e p = nothing rest e ∙ sym (ap (drop 1) (nothing rest e)) ∙ ap (drop 1) p ∙ drop-drop 1 n bytes where
-  nothing : (xs : List ℕ) → length xs ≡ 0 → xs ≡ []
-  nothing [] h = refl
-  nothing (x ∷ xs) h = absurd (omega arith)
+    sym h ∙ ap (λ ls. with_all front (acts_from n ls)) e ∙ ap (λ o. with_all front (with_act o n (acts_from (n + 1) (lines_of rest)))) a
 
 first_ok : (o : Option Act) (n : ℕ) (rest : Result (List Act) ℕ) (acts : List Act) (count : ℕ) → ((others : List Act) → rest ≡ Ok others → length others ≡ count) →
-    with_first o n rest ≡ Ok acts → length acts ≡ suc count
+    with_act o n rest ≡ Ok acts → length acts ≡ suc count
 first_ok None n rest acts count more e = cc
 first_ok (Some act) n (Err m) acts count more e = cc
 first_ok (Some act) n (Ok others) acts count more e =

@@ -15,8 +15,8 @@ if_positive None = None
 if_positive (Some n) = if nat_lt 0 n then Some n else None
 
 -- the number of a connection, from 1 to 256
-abbrev pub number_of : List ℕ → Option ℕ
-number_of text = if_positive (decimal_of 256 text)
+abbrev pub connection_number : List ℕ → Option ℕ
+connection_number text = if_positive (decimal_of 256 text)
 
 -- the most seconds of a wait: a day
 abbrev pub wait_most : ℕ
@@ -30,37 +30,37 @@ abbrev pub line_of : List ℕ → Option (List ℕ)
 line_of text = slice_get (lines (text ++ 10 ∷ [])) 0
 
 -- that line comes on the connection; where there is none, nothing is asked
-abbrev pub sent : Option (List ℕ) → ℕ → Act
-sent None d = Nothing
-sent (Some line) d = Send d line
+abbrev pub sending_line : Option (List ℕ) → ℕ → Act
+sending_line None d = Nothing
+sending_line (Some line) d = Send d line
 
 -- a number, one space, and the text
 abbrev pub sending : List ℕ → Option Act
-sending rest = if list_any is_space rest then option_map (sent (line_of (other_words rest))) (number_of (first_word rest)) else None
+sending rest = if list_any is_space rest then option_map (sending_line (line_of (other_words rest))) (connection_number (first_word rest)) else None
 
-abbrev pub asked : List ℕ → Option Act
-asked line =
+abbrev pub act_asked : List ℕ → Option Act
+act_asked line =
     if bytes_eq line (codes "dump") then Some Dump
-    else if bytes_eq (first_word line) (codes "open") then option_map Open (number_of (other_words line))
+    else if bytes_eq (first_word line) (codes "open") then option_map Open (connection_number (other_words line))
     else if bytes_eq (first_word line) (codes "send") then sending (other_words line)
-    else if bytes_eq (first_word line) (codes "close") then option_map Close (number_of (other_words line))
+    else if bytes_eq (first_word line) (codes "close") then option_map Close (connection_number (other_words line))
     else if bytes_eq (first_word line) (codes "wait") then option_map Wait (seconds_of (other_words line))
     else None
 
 -- what a line asks for, or none where it is outside the grammar; the empty line and one that begins with # ask for nothing
 unfoldable pub act_of : List ℕ → Option Act
 act_of [] = Some Nothing
-act_of (b ∷ line) = if b == 35 then Some Nothing else asked (b ∷ line)
+act_of (b ∷ line) = if b == 35 then Some Nothing else act_asked (b ∷ line)
 
-abbrev pub with_first : Option Act → ℕ → Result (List Act) ℕ → Result (List Act) ℕ
-with_first None n rest = Err n
-with_first (Some act) n (Ok acts) = Ok (act ∷ acts)
-with_first (Some act) n (Err m) = Err m
+abbrev pub with_act : Option Act → ℕ → Result (List Act) ℕ → Result (List Act) ℕ
+with_act None n rest = Err n
+with_act (Some act) n (Ok acts) = Ok (act ∷ acts)
+with_act (Some act) n (Err m) = Err m
 
 -- what the lines ask for, or the number of the first that is outside, where the first line has the number n
 abbrev pub acts_from : ℕ → List (List ℕ) → Result (List Act) ℕ
 acts_from n [] = Ok []
-acts_from n (line ∷ lines) = with_first (act_of line) n (acts_from (n + 1) lines)
+acts_from n (line ∷ lines) = with_act (act_of line) n (acts_from (n + 1) lines)
 
 abbrev pub acts_of : List ℕ → Result (List Act) ℕ
 acts_of bytes = acts_from 1 (lines_of bytes)

@@ -32,24 +32,24 @@ abbrev pub Part : Type 0
 Part = List Dumped → World → List Entry
 
 -- no dump is made in it
-abbrev pub plain : (World → List Entry) → Part
-plain f os w = f w
+abbrev pub plain_part : (World → List Entry) → Part
+plain_part f os w = f w
 
 -- behind these entries g goes on, with the outcomes that they left
 abbrev pub then_on : Part → List Dumped → World → List Entry → List Entry
 then_on g os w es = es ++ g (drop (length (outcomes_of es)) os) (after w es)
 
 -- what f says happens, and then what g says happens in the world that it leaves
-abbrev pub both : Part → Part → Part
-both f g os w = then_on g os w (f os w)
+abbrev pub both_parts : Part → Part → Part
+both_parts f g os w = then_on g os w (f os w)
 
 -- an event, where it is lawful
 abbrev pub if_lawful : Event → World → List Entry
 if_lawful event w = if is_lawful w (by_porter event) then by_porter event ∷ [] else []
 
 -- so many seconds later, as far as seconds go
-abbrev pub later : ℕ → World → ℕ
-later seconds w = min (w.moment + seconds) 18446744073709551615
+abbrev pub moment_later : ℕ → World → ℕ
+moment_later seconds w = min (w.moment + seconds) 18446744073709551615
 
 -- what a line of the script asks for
 abbrev pub acted : Act → World → List Entry
@@ -57,41 +57,41 @@ acted Nothing w = []
 acted (Open d) w = if_lawful (Opened d) w
 acted (Send d text) w = if_lawful (Input d text) w
 acted (Close d) w = if_lawful (Closed d) w
-acted (Wait seconds) w = if_lawful (Moment (later seconds w)) w
+acted (Wait seconds) w = if_lawful (Moment (moment_later seconds w)) w
 acted Dump w = []
 
 -- A turn: the first line of a connection is done, or a process runs for a slice.
-pub data Turn : Type 0 where
-  of_line : ℕ → Turn
-  of_process : ℤ → Turn
+pub data StoryTurn : Type 0 where
+  of_line : ℕ → StoryTurn
+  of_process : ℤ → StoryTurn
 
 -- lines come before processes
-abbrev pub chosen : Option ℕ → Option ℤ → Option Turn
-chosen (Some d) pid = Some (of_line d)
-chosen None (Some pid) = Some (of_process pid)
-chosen None None = None
+abbrev pub turn_chosen : Option ℕ → Option ℤ → Option StoryTurn
+turn_chosen (Some d) pid = Some (of_line d)
+turn_chosen None (Some pid) = Some (of_process pid)
+turn_chosen None None = None
 
 -- the next turn, where there is one
-unfoldable pub next_turn : World → Option Turn
-next_turn w = chosen (next_ready w) (next_process w)
+unfoldable pub next_turn : World → Option StoryTurn
+next_turn w = turn_chosen (next_ready w) (next_process w)
 
 -- what happens in a turn: a process is claimed, and at once sliced
-abbrev pub turn_entries : Turn → List Entry
+abbrev pub turn_entries : StoryTurn → List Entry
 turn_entries (of_line d) = by_porter (Exec d) ∷ []
 turn_entries (of_process pid) = by_porter (Claim pid) ∷ by_porter (Slice pid) ∷ []
 
 -- a turn is taken, and others follow; without one nothing follows
-abbrev pub turn : Option Turn → (Turn → List Entry) → List Entry
-turn None others = []
-turn (Some t) others = turn_entries t ++ others t
+abbrev pub turn_followed : Option StoryTurn → (StoryTurn → List Entry) → List Entry
+turn_followed None others = []
+turn_followed (Some t) others = turn_entries t ++ others t
 
 -- at most n turns
 unfoldable pub turns : ℕ → World → List Entry
 turns zero w = []
-turns (suc n) w = turn (next_turn w) (λ t. turns n (after w (turn_entries t)))
+turns (suc n) w = turn_followed (next_turn w) (λ t. turns n (after w (turn_entries t)))
 
 -- how many turns those are
-abbrev pub counted : Option Turn → (Turn → ℕ) → ℕ
+abbrev pub counted : Option StoryTurn → (StoryTurn → ℕ) → ℕ
 counted None others = 0
 counted (Some t) others = suc (others t)
 
@@ -104,17 +104,17 @@ abbrev pub turns_most : ℕ
 turns_most = 4096
 
 -- all of a queue is taken, where it isn't empty
-abbrev pub taken : ℕ → World → List Entry
-taken d w = if nat_lt 0 (length (queue_of d w)) then by_porter (Take d (length (queue_of d w))) ∷ [] else []
+abbrev pub queue_taken : ℕ → World → List Entry
+queue_taken d w = if nat_lt 0 (length (queue_of d w)) then by_porter (Take d (length (queue_of d w))) ∷ [] else []
 
 -- a connection that is leaving is closed
-abbrev pub parted : ℕ → World → List Entry
-parted d w = if is_leaving d w then by_porter (Closed d) ∷ [] else []
+abbrev pub connection_parted : ℕ → World → List Entry
+connection_parted d w = if is_leaving d w then by_porter (Closed d) ∷ [] else []
 
 -- n connections from d on, in rising order
 unfoldable pub served : ℕ → ℕ → Part
 served zero d os w = []
-served (suc n) d os w = both (both (plain (taken d)) (plain (parted d))) (served n (d + 1)) os w
+served (suc n) d os w = both_parts (both_parts (plain_part (queue_taken d)) (plain_part (connection_parted d))) (served n (d + 1)) os w
 
 -- how the next dump comes out: it is stored, where nothing is said of it
 abbrev pub next_outcome : List Dumped → Dumped
@@ -126,8 +126,8 @@ abbrev pub dump_entries : Dumped → List Entry
 dump_entries (stored k) = by_porter (Cut k) ∷ by_porter (Stored k) ∷ []
 dump_entries (failed k) = by_porter (Cut k) ∷ by_porter (DumpFailed k) ∷ []
 
-abbrev pub dumping : Part
-dumping os w = dump_entries (next_outcome os)
+abbrev pub dump_part : Part
+dump_part os w = dump_entries (next_outcome os)
 
 abbrev pub asks_dump : Act → Bool
 asks_dump Dump = true
@@ -135,11 +135,11 @@ asks_dump act = false
 
 -- the line of the script asks for a dump, or a connection has asked for one
 unfoldable pub asked_dump : Act → Part
-asked_dump act os w = if asks_dump act || is_some w.dumps.asked then dumping os w else []
+asked_dump act os w = if asks_dump act || is_some w.dumps.asked then dump_part os w else []
 
 -- a line of the script, with what follows it: turns, a dump where one is asked, and then each queue is taken
 unfoldable pub line_story : Act → Part
-line_story act = both (both (both (plain (acted act)) (plain (turns turns_most))) (asked_dump act)) (served connections_most 1)
+line_story act = both_parts (both_parts (both_parts (plain_part (acted act)) (plain_part (turns turns_most))) (asked_dump act)) (served connections_most 1)
 
 -- the world stops, where it doesn't yet
 abbrev pub halting : World → List Entry
@@ -148,30 +148,30 @@ halting w = if w.stopping then [] else by_porter Halt ∷ []
 -- the lines of the script; those after the stop do nothing
 abbrev pub lines_story : List Act → Part
 lines_story [] os w = halting w
-lines_story (act ∷ acts) os w = if w.stopping then [] else both (line_story act) (lines_story acts) os w
+lines_story (act ∷ acts) os w = if w.stopping then [] else both_parts (line_story act) (lines_story acts) os w
 
 -- the whole script, and behind it the last dump
 abbrev pub story : List Act → Part
-story acts = both (lines_story acts) dumping
+story acts = both_parts (lines_story acts) dump_part
 
 -- a line that a connection is sent, without the byte 13 at its end
-abbrev pub shown : ℕ → List ℕ → List ℕ
-shown d line = decimal d ++ codes "< " ++ take (length line - 1) line ++ 10 ∷ []
+abbrev pub line_shown : ℕ → List ℕ → List ℕ
+line_shown d line = decimal d ++ codes "< " ++ take (length line - 1) line ++ 10 ∷ []
 
 abbrev pub farewell : ℕ → List ℕ
 farewell d = decimal d ++ codes " closed" ++ 10 ∷ []
 
 -- what is written for an event
-unfoldable pub told : World → Event → List ℕ
-told w (Take d n) = flat_map (shown d) (lines_of (take n (queue_of d w)))
-told w (Closed d) = if is_leaving d w then farewell d else []
-told w event = []
+unfoldable pub event_told : World → Event → List ℕ
+event_told w (Take d n) = flat_map (line_shown d) (lines_of (take n (queue_of d w)))
+event_told w (Closed d) = if is_leaving d w then farewell d else []
+event_told w event = []
 
 -- what is written for a history
-abbrev pub text_of : World → List Entry → List ℕ
-text_of w [] = []
-text_of w (entry ∷ entries) = told w entry.event ++ text_of (effect w entry) entries
+abbrev pub transcript_of : World → List Entry → List ℕ
+transcript_of w [] = []
+transcript_of w (entry ∷ entries) = event_told w entry.event ++ transcript_of (effect w entry) entries
 
 -- what a script writes
 abbrev pub transcript : List Act → List Dumped → World → List ℕ
-transcript acts os w = text_of w (story acts os w)
+transcript acts os w = transcript_of w (story acts os w)

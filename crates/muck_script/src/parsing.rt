@@ -2,7 +2,7 @@
 ghost use Rattle.std.specs.Prelude.{◌≡◌, ◌==◌, IfOk};
 ghost use Rattle.std.specs.List.{list_any};
 ghost use Rattle.spec_commands.specs.Texts.{is_space};
-ghost use Rattle.muck_script.specs.Script.{act_of, asked, sending, line_of, sent, number_of, seconds_of};
+ghost use Rattle.muck_script.specs.Script.{act_of, act_asked, sending, line_of, sending_line, connection_number, seconds_of};
 
 use crate::sending::line_of;
 use crate::{Act, WAIT_MOST};
@@ -25,7 +25,7 @@ pub fn act_of(alloc: Global, line: &[u8]) -> Result<Option<Act>, NoMemory>
 }
 
 fn asked(alloc: Global, line: &[u8]) -> Result<Option<Act>, NoMemory>
-    ensures { IfOk result (λ act. act ≡ asked line.now) }
+    ensures { IfOk result (λ act. act ≡ act_asked line.now) }
 {
     if line == b"dump".as_slice() {
         return Ok(Some(Act::Dump));
@@ -62,7 +62,7 @@ fn sending(alloc: Global, rest: &[u8]) -> Result<Option<Act>, NoMemory>
 
 // That the line of this text comes.
 fn sent(alloc: Global, text: &[u8], d: u32) -> Result<Act, NoMemory>
-    ensures { IfOk result (λ act. act ≡ sent (line_of text.now) d) }
+    ensures { IfOk result (λ act. act ≡ sending_line (line_of text.now) d) }
 {
     Ok(match line_of(alloc, text)? {
         Some(line) => Act::Send(d, line),
@@ -78,7 +78,7 @@ fn has_space(text: &[u8]) -> bool
 
 // The number of a connection, from 1 to 256.
 fn number_of(text: &[u8]) -> Option<u32>
-    ensures { result ≡ number_of text.now }
+    ensures { result ≡ connection_number text.now }
 {
     let n = decimal(text, 256)?;
     if n > 0 { Some(n as u32) } else { None }

@@ -1,7 +1,7 @@
 // The line of a text that is sent.
 ghost use Rattle.std.specs.Prelude.{◌≡◌, IfOk};
 ghost use Rattle.std.specs.List.{list_all};
-ghost use Rattle.muck_links.specs.Lines.{is_shown};
+ghost use Rattle.muck_links.specs.Lines.{is_shown_byte};
 ghost use Rattle.muck_script.specs.Script.{line_of};
 ghost use Rattle.muck_script.specs.inner.Plain.{is_plain};
 
@@ -11,7 +11,7 @@ use muck_model::{Line, NoMemory};
 use std::alloc::Global;
 
 fn are_shown(text: &[u8]) -> bool
-    ensures { result ≡ list_all is_shown text.now }
+    ensures { result ≡ list_all is_shown_byte text.now }
 {
     text.iter().all(|b| *b >= 32 && *b <= 126)
 }

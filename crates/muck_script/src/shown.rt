@@ -2,7 +2,7 @@
 ghost use Rattle.std.specs.Prelude.{◌≡◌, ◌++◌, IfOk, OnOk};
 ghost use Rattle.std.specs.List.{flat_map};
 ghost use Rattle.muck_script.specs.Lines.{lines_of};
-ghost use Rattle.muck_script.specs.Story.{shown, farewell};
+ghost use Rattle.muck_script.specs.Story.{line_shown, farewell};
 
 use crate::lines::cut_line;
 use itoa::Buffer;
@@ -13,7 +13,7 @@ use std::alloc::Global;
 const ROOM: usize = 64;
 
 fn push_shown(text: &mut Vec<u8>, d: u32, line: &[u8]) -> Result<(), NoMemory>
-    ensures { OnOk result (text.new.items ≡ text.old.items ++ shown d line.now) }
+    ensures { OnOk result (text.new.items ≡ text.old.items ++ line_shown d line.now) }
 {
     let mut buffer = Buffer::new();
     text.extend_from_slice(buffer.format(d).as_bytes())?;
@@ -25,7 +25,7 @@ fn push_shown(text: &mut Vec<u8>, d: u32, line: &[u8]) -> Result<(), NoMemory>
 
 /// The text that is written of the lines of a queue that was taken from the connection `d`.
 pub fn lines_text(alloc: Global, d: u32, bytes: &[u8]) -> Result<Vec<u8>, NoMemory>
-    ensures { IfOk result (λ text. text.items ≡ flat_map (shown d) (lines_of bytes.now)) }
+    ensures { IfOk result (λ text. text.items ≡ flat_map (line_shown d) (lines_of bytes.now)) }
 {
     let mut text = Vec::with_capacity(alloc, bytes.len().saturating_add(ROOM))?;
     let mut rest = bytes;

@@ -3,7 +3,7 @@ use Rattle.std.proofs.Common.{◌≡◌, inl, ℕ, Bool, true, false, cond, ◌&
 use Rattle.std.specs.Prelude.{is_none, is_some}
 use Rattle.std.proofs.lemmas.Option.{none-some}
 use Rattle.muck_io.specs.Faults.{Rose}
-use Rattle.muck_links.specs.Sessions.{Told, ListenAs}
+use Rattle.muck_links.specs.Sessions.{LinksTold, ListenAs}
 use Rattle.muck_links.specs.declared.links.Listened.{Listened}
 use Rattle.muck_links.specs.declared.links.Listened.TheVariants as listened
 use Rattle.muck_log.specs.Store.{LogState}
@@ -25,9 +25,9 @@ use Rattle.spec_talks.specs.Talks.{talks}
 use Rattle.spec_serve.specs.Marks.{LinksNote, counts_in, IsLinksNote}
 use Rattle.spec_serve.specs.Promises.{PromisedOf}
 use Rattle.spec_serve.proofs.Counted.{counts_made}
-use Rattle.muck_dumping.specs.inner.Between.{IsReady as HasLog}
-use Rattle.muck_porter.specs.inner.Kept.{Account}
-use Rattle.muck_porter.specs.Times.{Timely}
+use Rattle.muck_crew.specs.inner.Between.{IsReady as HasLog}
+use Rattle.muck_crew.specs.inner.Kept.{Account}
+use Rattle.muck_crew.specs.Times.{Timely}
 use Rattle.muck_crew.specs.Shared.{IsShared, AllOver, EndsStopped, LeavesWorkedOff}
 use Rattle.muck_crew.specs.inner.Finished.{HasDump}
 use Rattle.muck_why.specs.declared.why.Why.TheVariants.{ListenFault}
@@ -41,16 +41,16 @@ use Rattle.muck_server.proofs.Served.{Known, serves_deaf}
 use Rattle.muck_server.proofs.Dumped.{made_of}
 
 -- listening changes no session
-pub same_sessions : (port : ℕ) (old new : Told) (answer : Listened) → ListenAs port old new answer → new.sessions ≡ old.sessions
-same_sessions port old new listened.NoMemory is = ap (λ (t : Told). t.sessions) is
-same_sessions port old new listened.Ready is = ap (λ (t : Told). t.sessions) is
-same_sessions port old new listened.Fault is = ap (λ (t : Told). t.sessions) is
+pub same_sessions : (port : ℕ) (old new : LinksTold) (answer : Listened) → ListenAs port old new answer → new.sessions ≡ old.sessions
+same_sessions port old new listened.NoMemory is = ap (λ (t : LinksTold). t.sessions) is
+same_sessions port old new listened.Ready is = ap (λ (t : LinksTold). t.sessions) is
+same_sessions port old new listened.Fault is = ap (λ (t : LinksTold). t.sessions) is
 
 -- and tells the port, but for want of memory
-pub told_port : (port : ℕ) (old new : Told) (answer : Listened) → (answer ≡ listened.NoMemory → ⊥) → ListenAs port old new answer → new.ports ≡ port ∷ old.ports
+pub told_port : (port : ℕ) (old new : LinksTold) (answer : Listened) → (answer ≡ listened.NoMemory → ⊥) → ListenAs port old new answer → new.ports ≡ port ∷ old.ports
 told_port port old new listened.NoMemory heard is = absurd (heard refl)
-told_port port old new listened.Ready heard is = ap (λ (t : Told). t.ports) is
-told_port port old new listened.Fault heard is = ap (λ (t : Told). t.ports) is
+told_port port old new listened.Ready heard is = ap (λ (t : LinksTold). t.ports) is
+told_port port old new listened.Fault heard is = ap (λ (t : LinksTold). t.ports) is
 
 -- The world as it is halted.
 

@@ -1,7 +1,8 @@
 -- What a run comes to, from what all its parts left and how it ended.
 use Rattle.std.proofs.Common.{◌≡◌, ◌⊎◌, inl, inr, ℕ, ◌<◌, ◌≤◌, ◌^◌, Bool, true, false, List, [], ◌∷◌, ◌++◌, length, refl, sym, ap, ◌∙◌, subst, arith, length-append, Option}
 use Rattle.std.specs.Prelude.{is_some}
-use Rattle.std.proofs.lemmas.Bool.{cases_lt}
+use Rattle.muck_laws.proofs.Numbers.{few_left}
+use Rattle.muck_laws.proofs.Truths.{opposed}
 use Rattle.muck_io.specs.Faults.{Rose}
 use Rattle.muck_log.specs.Store.{LogState}
 use Rattle.muck_model.specs.declared.event.Entry.{Entry}
@@ -14,13 +15,12 @@ use Rattle.spec_dumps.proofs.Quiet.{quiet_one, safe_quiet}
 use Rattle.spec_events.specs.World.{World}
 use Rattle.spec_events.specs.Histories.{History, now, entered, AllLawful}
 use Rattle.spec_events.specs.Own.{Stage}
-use Rattle.spec_talks.proofs.Histories.{both_ways}
 use Rattle.spec_serve.specs.Marks.{counts_in, IsLinksNote}
-use Rattle.muck_dumping.specs.inner.Between.{IsReady as HasLog}
-use Rattle.muck_dumping.specs.inner.Dumps.{by}
-use Rattle.muck_porter.specs.inner.Kept.{Account}
-use Rattle.muck_porter.specs.Times.{Timely}
-use Rattle.muck_porter.proofs.InRounds.{rose_since}
+use Rattle.muck_crew.specs.inner.Between.{IsReady as HasLog}
+use Rattle.muck_crew.specs.inner.Dumps.{by}
+use Rattle.muck_crew.specs.inner.Kept.{Account}
+use Rattle.muck_crew.specs.Times.{Timely}
+use Rattle.muck_crew.proofs.Rising.{rose_since}
 use Rattle.muck_crew.specs.Shared.{IsParty, IsShared, AllOver, EndsStopped}
 use Rattle.muck_crew.specs.inner.Finished.{why_by, HasDump, IsFinish}
 use Rattle.muck_crew.specs.declared.serving.Way.{Way}
@@ -39,9 +39,6 @@ use Rattle.muck_server.proofs.Ended.{ended_by}
 use Rattle.muck_server.proofs.Disks.{OnDisks, on_dumped, on_undumped}
 
 -- Not all turns were had.
-
-few_left : (n : ℕ) → ¬ (2 ^ 62 ≤ n) → n < 2 ^ 62
-few_left n unspent = elim (cases_lt n (2 ^ 62)) [ inl few ↦ few | inr many ↦ absurd (unspent many) ]
 
 few_before : (es : List Entry) (e : Entry) → ¬ (2 ^ 62 ≤ length (es ++ e ∷ [])) → length es < 2 ^ 62
 few_before es e unspent = few_left (length es) (λ many. unspent (let l = length-append es (e ∷ []) in omega (arith, l, many)))
@@ -192,7 +189,7 @@ module _ {D : Type 0} (shows tells : Bool) (before later : Account) (seen : D �
           (on_undumped tells seen moment images faults (Spent (2 ^ 62)) mounted first second first1 second1 h tt safe_run)
 
       wanted_alone : (way ≡ ends.Wanted) ⊎ (way ≡ ends.Alone) → (now h).dead ≡ false → way ≡ ends.Alone
-      wanted_alone (inl is) alive = absurd (both_ways (now h).dead (run.dead is) alive)
+      wanted_alone (inl is) alive = absurd (opposed (now h).dead (run.dead is) alive)
       wanted_alone (inr is) alive = is
 
       serves_run : (why : Why) (first' second' : D) (k : History) → AllLawful k.start k.entries → IsFinish tells seen moment images faults way log1 first1 second1 first' second' h k why → Serves why first' second' k

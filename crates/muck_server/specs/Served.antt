@@ -10,13 +10,13 @@ use Rattle.turn_lock.specs.Histories.{StartsWith}
 use Rattle.spec_dumps.specs.Survival.{IsSafe, RoseInLast, StandsWhole}
 use Rattle.spec_events.specs.World.{World}
 use Rattle.spec_events.specs.Histories.{after, by_porter, AllLawful}
-use Rattle.spec_talks.specs.Talks.{Talk, talks, talks_with, sent}
+use Rattle.spec_talks.specs.Talks.{Talk, talks, talks_with, bytes_sent}
 use Rattle.spec_serve.specs.Marks.{LinksNote, counts_in, IsLinksNote}
 use Rattle.spec_serve.specs.Accounts.{Agrees}
 use Rattle.spec_serve.specs.Promises.{Tally, PromisedOf, sessions_with}
-use Rattle.muck_porter.specs.inner.Kept.{Account}
-use Rattle.muck_porter.specs.Times.{Timely}
-use Rattle.muck_dumping.specs.inner.Dumps.{IsFull}
+use Rattle.muck_crew.specs.inner.Kept.{Account}
+use Rattle.muck_crew.specs.Times.{Timely}
+use Rattle.muck_crew.specs.inner.Dumps.{IsFull}
 use Rattle.muck_crew.specs.Shared.{IsParty, IsShared, AllOver, EndsStopped, LeavesWorkedOff}
 use Rattle.muck_why.specs.declared.why.Why.{Why}
 use Rattle.muck_why.specs.declared.why.Why.TheVariants.{Fine, NoMemory, DiskFault, Damaged, StoreFull}
@@ -27,7 +27,7 @@ use Rattle.muck_why.specs.Causes.{Ending, end_of}
 -- the opening of a number at each place belongs to its acceptance at that place, to which a front of what was taken for it was written
 abbrev pub AgreesByNumber : LinksNote → World → List Entry → List Session → Type 0
 AgreesByNumber counted w tale mine = (d place : ℕ) (t : Talk) → slice_get (talks_with d (talks w tale)) place ≡ Some t
-    → (s : Session) × (slice_get (sessions_with d mine) place ≡ Some s) × Agrees counted t s × StartsWith (sent w tale d place) s.written
+    → (s : Session) × (slice_get (sessions_with d mine) place ≡ Some s) × Agrees counted t s × StartsWith (bytes_sent w tale d place) s.written
 
 -- What links that tell what they carry told before the call and tell now, against what happened in the world w.
 pub record IsCarried (counted : LinksNote) (before now : Tally) (w : World) (tale : List Entry) : Type 0 where

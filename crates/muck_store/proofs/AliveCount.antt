@@ -4,9 +4,10 @@ use Rattle.std.specs.Prelude.{not, if◌then◌else◌}
 use Rattle.std.proofs.lemmas.Bool.{false≢true}
 use Rattle.std.proofs.lemmas.List.Sums.{sum_by-cons}
 use Rattle.std.specs.List.{slice_get, count_by}
+use Rattle.muck_laws.proofs.Lists.{count_step}
+use Rattle.muck_laws.proofs.Places.{some_at}
 use Rattle.spec_live.specs.Chain.{Member, IsApart}
 use Rattle.spec_live.specs.Objects.{Entry, is_garbage, kind_in}
-use Rattle.spec_live.proofs.Lists.{some_at}
 use Rattle.muck_codec.specs.declared.stored.Stored.{Stored}
 use Rattle.muck_store.specs.Forms.{stored_of, stored_from, persist}
 use Rattle.muck_store.proofs.MetLists.{apart_short}
@@ -16,10 +17,6 @@ use Rattle.muck_store.proofs.StoredForms.{kind_there, alive_below}
 unfoldable alive_from : ℕ → List Entry → List ℕ
 alive_from k [] = []
 alive_from k (e ∷ es) = if is_garbage e.object.kind then alive_from (suc k) es else k ∷ alive_from (suc k) es
-
-count_step : (b : Bool) (k n : ℕ) (xs : List ℕ) → length xs ≡ n → length (cond b xs (k ∷ xs)) ≡ cond (not b) 1 0 + n
-count_step true k n xs h = omega arith
-count_step false k n xs h = omega arith
 
 alive_counted : (es : List Entry) (k : ℕ) (rest : List Entry) → length (alive_from k rest) ≡ count_by (λ (s : Stored). not (is_garbage s.kind)) (stored_from es k rest)
 unfolding alive_from stored_from stored_of

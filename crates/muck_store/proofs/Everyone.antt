@@ -10,7 +10,7 @@ use Rattle.spec_live.specs.Objects.{is_garbage, is_player, may_stand}
 use Rattle.spec_live.proofs.Chains.{member_any}
 use Rattle.spec_live.proofs.KindLaws.{player_alive, place_alive}
 use Rattle.spec_live.proofs.Lists.{has_not}
-use Rattle.muck_store.specs.Whole.{kind_of, seats_in, chain_met, list_met, held_met, all_met, first_at}
+use Rattle.muck_store.specs.Whole.{stored_kind, seats_in, chain_met, list_met, held_met, all_met, first_at}
 use Rattle.muck_store.proofs.Counted.{Passes, counted}
 use Rattle.muck_store.proofs.Meeting.{Up, Reached, Held, AllHeld, all_held}
 use Rattle.muck_store.proofs.Parts.{Whole, Tree, Alive, lives, kind_at, alive_at, passes, first_none, alive_stands, zero_place, place_of, none_in_player}
@@ -42,20 +42,20 @@ two_alive os p one other differ =
     counted lives os (1 ∷ p ∷ []) ((λ m. elim m [ inl e ↦ differ (sym e) | inr z ↦ z ]), ((λ z. z), tt))
     (λ d m. elim m [ inl e ↦ subst P (sym e) (passes os 1 one) | inr r ↦ elim r [ inl e ↦ subst P (sym e) (passes os p other) | inr z ↦ absurd z ] ])
 
-lonely : (os : List Stored) → Whole os → Tree os → is_garbage (kind_of os 0) ≡ true → ⊥
+lonely : (os : List Stored) → Whole os → Tree os → is_garbage (stored_kind os 0) ≡ true → ⊥
 lonely os w t g =
-    let one : Alive os 1 = alive_at os 1 (player_alive (kind_of os 1) w.player) in
-    let kind : kind_of os 1 ≡ one.stored.kind = kind_at os 1 one.stored one.is in
-    let l : Leads (λ p. may_stand one.stored.kind (kind_of os p) (seats_in os p)) one.stored.place = place_of os 1 w one (λ e. omega (arith, e)) in
-    let other : Alive os l.number = alive_at os l.number (place_alive one.stored.kind (kind_of os l.number) (seats_in os l.number) l.holds) in
+    let one : Alive os 1 = alive_at os 1 (player_alive (stored_kind os 1) w.player) in
+    let kind : stored_kind os 1 ≡ one.stored.kind = kind_at os 1 one.stored one.is in
+    let l : Leads (λ p. may_stand one.stored.kind (stored_kind os p) (seats_in os p)) one.stored.place = place_of os 1 w one (λ e. omega (arith, e)) in
+    let other : Alive os l.number = alive_at os l.number (place_alive one.stored.kind (stored_kind os l.number) (seats_in os l.number) l.holds) in
     let differ : l.number ≡ 1 → ⊥ = λ e.
     none_in_player one.stored.kind (seats_in os l.number) (ap (λ z. is_player z) (sym kind) ∙ w.player)
-    (ap (λ z. may_stand one.stored.kind z (seats_in os l.number)) (sym kind ∙ ap (λ z. kind_of os z) (sym e)) ∙ l.holds) in
+    (ap (λ z. may_stand one.stored.kind z (seats_in os l.number)) (sym kind ∙ ap (λ z. stored_kind os z) (sym e)) ∙ l.holds) in
     let lone : length t.met ≡ 1 = ap (λ (l : List ℕ). length l) (same_Some t.met (0 ∷ []) (sym t.is ∙ all_lone (length os) os (first_none os 0 w g))) in
     omega (arith, two_alive os l.number one other differ, t.size, lone)
 
 pub zero_alive : (os : List Stored) → Whole os → Tree os → Alive os 0
-zero_alive os w t = alive_at os 0 (elim (cases_Bool (is_garbage (kind_of os 0))) [ inl g ↦ absurd (lonely os w t g) | inr a ↦ a ])
+zero_alive os w t = alive_at os 0 (elim (cases_Bool (is_garbage (stored_kind os 0))) [ inl g ↦ absurd (lonely os w t g) | inr a ↦ a ])
 
 -- All that was met from `#0` on.
 
@@ -96,7 +96,7 @@ everyone os d w t h a = elim (cases_Bool (has d t.met)) [ inl e ↦ member_any d
 -- each list is a chain, also that of garbage
 pub every_list : (os : List Stored) (v : Bool) (p : ℕ) → Whole os → (t : Tree os) → AllHeld os t.met → Held os v p
 unfolding IsChain Member
-every_list os v p w t h = elim (cases_Bool (is_garbage (kind_of os p))) [
+every_list os v p w t h = elim (cases_Bool (is_garbage (stored_kind os p))) [
   | inl g ↦ record { items = []; chain = first_none os p w g v; stands = λ x m. absurd m }
   | inr a ↦ h.held p (everyone os p w t h (alive_at os p a)) v
 ]

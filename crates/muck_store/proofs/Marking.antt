@@ -6,6 +6,7 @@ use Rattle.std.proofs.Math.ListN.{length-replicate, length-set}
 use Rattle.std.proofs.lemmas.List.Folds.{list_any-append, sum_by-replicate}
 use Rattle.std.proofs.lemmas.List.Sums.{sum_by-set, count_by-le-length}
 use Rattle.std.specs.List.{count_by}
+use Rattle.muck_laws.proofs.Truths.{or_false}
 use Rattle.spec_live.specs.Chain.{has}
 use Rattle.muck_store.specs.inner.Marks.{IsMarked}
 
@@ -25,10 +26,6 @@ none_marked n = record {
 has_one_more : (k d : ℕ) (met : List ℕ) → has k (met ++ d ∷ []) ≡ (has k met || (eqb k d || false))
 unfolding has
 has_one_more k d met = list_any-append (λ (x : ℕ). eqb k x) met (d ∷ [])
-
-or_false : (b : Bool) → (b || false) ≡ b
-or_false true = refl
-or_false false = refl
 
 pub has_last : (k d : ℕ) (met : List ℕ) → k ≡ d → has k (met ++ d ∷ []) ≡ true
 has_last k d met e = has_one_more k d met ∙ or_right (has k met) (eqb k d || false) (or_false (eqb k d) ∙ eq-eqb k d e)

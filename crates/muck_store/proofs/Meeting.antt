@@ -6,14 +6,16 @@ use Rattle.std.proofs.lemmas.Map.Steps.{length-le_from_distinct_below}
 use Rattle.std.proofs.lemmas.Option.{same_Some, none-some, slice_get_within, option_and_then_some}
 use Rattle.std.specs.List.{slice_get}
 use Rattle.std.specs.Option.{option_and_then, option_map_or}
+use Rattle.muck_laws.proofs.Places.{get_left, get_none}
+use Rattle.muck_laws.proofs.Truths.{exit_or_not}
 use Rattle.muck_model.proofs.Dbrefs.{eq_same}
 use Rattle.muck_codec.specs.declared.stored.Stored.{Stored}
 use Rattle.spec_live.specs.Chain.{walk, IsChain, Member, IsApart, has}
 use Rattle.spec_live.specs.Objects.{dbref_of, index_of, same, is_exit}
 use Rattle.spec_live.proofs.Chains.{chain_below, walk_is, member_any, apart_distinct}
-use Rattle.spec_live.proofs.Lists.{has_not, some_at}
-use Rattle.muck_store.specs.Forms.{next_at}
-use Rattle.muck_store.specs.Whole.{stands_in, chain_met, first_at, list_met, held_met, all_met}
+use Rattle.spec_live.proofs.Lists.{has_not}
+use Rattle.muck_store.specs.Forms.{next_of_stored}
+use Rattle.muck_store.specs.Whole.{record_stands_in, chain_met, first_at, list_met, held_met, all_met}
 
 -- Members of lists.
 
@@ -46,14 +48,6 @@ unfolding Member
 member_at p [] m = elim m [ ]
 member_at p (x ∷ xs) m = elim m [ inl e ↦ (zero, ap (λ z. Some z) (sym e)) | inr r ↦ let k : (k : ℕ) × (slice_get xs k ≡ Some p) = member_at p xs r in (suc k.0, k.1) ]
 
-get_left : (k : ℕ) (xs ys : List ℕ) → k < length xs → slice_get (xs ++ ys) k ≡ slice_get xs k
-get_left k [] ys lt = absurd (omega arith)
-get_left zero (x ∷ xs) ys lt = refl
-get_left (suc k) (x ∷ xs) ys lt = get_left k xs ys (omega arith)
-
-get_none : (k : ℕ) (xs : List ℕ) → slice_get xs k ≡ None → length xs ≤ k
-get_none k xs h = elim (cases_lt k (length xs)) [ inl lt ↦ let s : (x : ℕ) × (slice_get xs k ≡ Some x) = some_at xs k lt in absurd (none-some s.0 (sym h ∙ s.1)) | inr le ↦ le ]
-
 -- Along a chain.
 
 -- an object has its place in p, and is an exit or not
@@ -63,30 +57,24 @@ pub record StandsAt (os : List Stored) (v : Bool) (p d : ℕ) : Type 0 where
   pub place : stored.place ≡ dbref_of p
   pub kind : is_exit stored.kind ≡ v
 
-exit_or_not : (e v : Bool) → cond e v (not v) ≡ true → e ≡ v
-exit_or_not true true h = refl
-exit_or_not true false h = absurd (false≢true h)
-exit_or_not false true h = absurd (false≢true h)
-exit_or_not false false h = refl
-
 stands_by : (os : List Stored) (v : Bool) (p d : ℕ) (o : Option Stored) → slice_get os d ≡ o → option_map_or (λ s. same s.place (dbref_of p) && cond (is_exit s.kind) v (not v)) o false ≡ true → StandsAt os v p d
 stands_by os v p d None e h = absurd (false≢true h)
 stands_by os v p d (Some s) e h =
     let k = and_parts (same s.place (dbref_of p)) (cond (is_exit s.kind) v (not v)) h in
     record { stored = s; is = e; place = eq_same s.place (dbref_of p) k.0; kind = exit_or_not (is_exit s.kind) v k.1 }
 
-pub stands_at : (os : List Stored) (v : Bool) (p d : ℕ) → stands_in os v p d ≡ true → StandsAt os v p d
+pub stands_at : (os : List Stored) (v : Bool) (p d : ℕ) → record_stands_in os v p d ≡ true → StandsAt os v p d
 stands_at os v p d h = stands_by os v p d (slice_get os d) refl h
 
 -- what was met before, with a chain behind it
 pub record Grown (os : List Stored) (v : Bool) (p : ℕ) (start : Option ℕ) (met out : List ℕ) : Type 0 where
   pub new : List ℕ
   pub is : out ≡ met ++ new
-  pub chain : IsChain (length os) (next_at os) start new
+  pub chain : IsChain (length os) (next_of_stored os) start new
   pub stands : (x : ℕ) → Member x new → StandsAt os v p x
   pub apart : IsApart met → IsApart out
 
-with_first : (os : List Stored) (v : Bool) (p d : ℕ) (met out : List ℕ) → StandsAt os v p d → has d met ≡ false → Grown os v p (next_at os d) (met ++ d ∷ []) out → Grown os v p (Some d) met out
+with_first : (os : List Stored) (v : Bool) (p d : ℕ) (met out : List ℕ) → StandsAt os v p d → has d met ≡ false → Grown os v p (next_of_stored os d) (met ++ d ∷ []) out → Grown os v p (Some d) met out
 unfolding IsChain Member
 with_first os v p d met out s fresh g = record {
   new = d ∷ g.new;
@@ -96,11 +84,11 @@ with_first os v p d met out s fresh g = record {
   apart = λ a. g.apart (apart_more d met a (has_not d met fresh));
 }
 
-first_met : (os : List Stored) (v : Bool) (p d : ℕ) (met out : List ℕ) (b : Bool) → (stands_in os v p d && not (has d met)) ≡ b → (rest : Option (List ℕ)) → (rest ≡ Some out → Grown os v p (next_at os d) (met ++ d ∷ []) out)
+first_met : (os : List Stored) (v : Bool) (p d : ℕ) (met out : List ℕ) (b : Bool) → (record_stands_in os v p d && not (has d met)) ≡ b → (rest : Option (List ℕ)) → (rest ≡ Some out → Grown os v p (next_of_stored os d) (met ++ d ∷ []) out)
     → cond b rest None ≡ Some out → Grown os v p (Some d) met out
 first_met os v p d met out false e rest more h = absurd (none-some out h)
 first_met os v p d met out true e rest more h =
-    let k = and_parts (stands_in os v p d) (not (has d met)) e in
+    let k = and_parts (record_stands_in os v p d) (not (has d met)) e in
     with_first os v p d met out (stands_at os v p d k.0) (not-true (has d met) k.1) (more h)
 
 pub chain_grown : (n : ℕ) (os : List Stored) (v : Bool) (p : ℕ) (start : Option ℕ) (met out : List ℕ) → chain_met n os v p start met ≡ Some out → Grown os v p start met out
@@ -110,7 +98,7 @@ chain_grown (suc n) os v p None met out h =
     let P : List ℕ → Type 0 = λ l. Grown os v p None met l in
     subst P (same_Some met out h) (record { new = []; is = sym (append-nil met); chain = refl; stands = λ x m. absurd m; apart = λ a. a })
 chain_grown (suc n) os v p (Some d) met out h =
-    first_met os v p d met out (stands_in os v p d && not (has d met)) refl (chain_met n os v p (next_at os d) (met ++ d ∷ [])) (λ q. chain_grown n os v p (next_at os d) (met ++ d ∷ []) out q) h
+    first_met os v p d met out (record_stands_in os v p d && not (has d met)) refl (chain_met n os v p (next_of_stored os d) (met ++ d ∷ [])) (λ q. chain_grown n os v p (next_of_stored os d) (met ++ d ∷ []) out q) h
 
 -- In the lists of an object.
 
@@ -119,12 +107,12 @@ pub record Listed (os : List Stored) (d : ℕ) : Type 0 where
   pub at : ℕ
   pub exits : Bool
   pub stands : StandsAt os exits at d
-  pub member : Member d (walk (length os) (next_at os) (first_at exits os at))
+  pub member : Member d (walk (length os) (next_of_stored os) (first_at exits os at))
 
 -- a list is a chain, of what stands there
 pub record Held (os : List Stored) (v : Bool) (p : ℕ) : Type 0 where
   pub items : List ℕ
-  pub chain : IsChain (length os) (next_at os) (first_at v os p) items
+  pub chain : IsChain (length os) (next_of_stored os) (first_at v os p) items
   pub stands : (x : ℕ) → Member x items → StandsAt os v p x
 
 unfoldable pub place_at : List Stored → ℕ → Option ℕ
@@ -155,7 +143,7 @@ up_more os v p d s up =
 listed_more : (os : List Stored) (v : Bool) (p d : ℕ) (met out : List ℕ) (g : Grown os v p (first_at v os p) met out) → Member d g.new → Listed os d
 listed_more os v p d met out g m =
     let M : List ℕ → Type 0 = λ l. Member d l in
-    record { at = p; exits = v; stands = g.stands d m; member = subst M (sym (walk_is (length os) (next_at os) (first_at v os p) g.new g.chain)) m }
+    record { at = p; exits = v; stands = g.stands d m; member = subst M (sym (walk_is (length os) (next_of_stored os) (first_at v os p) g.new g.chain)) m }
 
 still_met : (os : List Stored) (v : Bool) (p d : ℕ) (start : Option ℕ) (met out : List ℕ) → Grown os v p start met out → Member d met → Member d out
 still_met os v p d start met out g m = let M : List ℕ → Type 0 = λ l. Member d l in subst M (sym g.is) (member_left d met g.new m)
@@ -164,7 +152,7 @@ reached_more : (os : List Stored) (v : Bool) (p : ℕ) (met out : List ℕ) → 
 reached_more os v p met out r here g =
     let split : (x : ℕ) → Member x out → Member x met ⊎ Member x g.new = λ x m. let M : List ℕ → Type 0 = λ l. Member x l in member_append x met g.new (subst M g.is m) in
     record {
-      below = λ d m. elim (split d m) [ inl q ↦ r.below d q | inr q ↦ chain_below (length os) (next_at os) (first_at v os p) g.new d g.chain q ];
+      below = λ d m. elim (split d m) [ inl q ↦ r.below d q | inr q ↦ chain_below (length os) (next_of_stored os) (first_at v os p) g.new d g.chain q ];
       apart = g.apart r.apart;
       ups = λ d m. elim (split d m) [ inl q ↦ r.ups d q | inr q ↦ up_more os v p d (g.stands d q) (r.ups p here) ];
       listed = λ d m. elim (split d m) [ inl q ↦ r.listed d q | inr q ↦ inr (listed_more os v p d met out g q) ];

@@ -8,22 +8,22 @@ use Rattle.spec_live.specs.Consistent.{IsOrdered}
 use Rattle.spec_live.proofs.Lists.{has_false}
 use Rattle.spec_live.proofs.Readers.{place_known}
 use Rattle.muck_codec.specs.declared.stored.Stored.{Stored}
-use Rattle.muck_store.specs.Forms.{persist, next_at}
-use Rattle.muck_store.specs.Whole.{stands_in, chain_met, list_met, held_met}
+use Rattle.muck_store.specs.Forms.{persist, next_of_stored}
+use Rattle.muck_store.specs.Whole.{record_stands_in, chain_met, list_met, held_met}
 use Rattle.muck_store.proofs.MetLists.{member_split, apart_below}
-use Rattle.muck_store.proofs.StoredForms.{front, length_persist, first_persist, next_follows, stands_persist}
+use Rattle.muck_store.proofs.StoredForms.{first_of_list, length_persist, first_persist, next_follows, stands_persist}
 
 -- each leads to the one behind it in the list, the last to none
 unfoldable pub Links : (ℕ → Option ℕ) → List ℕ → Type 0
 Links next [] = Unit {0}
-Links next (x ∷ xs) = (next x ≡ front xs) × Links next xs
+Links next (x ∷ xs) = (next x ≡ first_of_list xs) × Links next xs
 
 links_frame : (f g : ℕ → Option ℕ) (xs : List ℕ) → ((x : ℕ) → Member x xs → g x ≡ f x) → Links f xs → Links g xs
 unfolding Links Member
 links_frame f g [] same h = tt
 links_frame f g (x ∷ xs) same h = (same x (inl refl) ∙ h.0, links_frame f g xs (λ y m. same y (inr m)) h.1)
 
-here : (x : ℕ) (xs : List ℕ) → follower x (x ∷ xs) ≡ front xs
+here : (x : ℕ) (xs : List ℕ) → follower x (x ∷ xs) ≡ first_of_list xs
 unfolding follower
 here x [] = rw (eq-eqb x x refl) refl
 here x (y ∷ ys) = rw (eq-eqb x x refl) refl
@@ -40,8 +40,8 @@ links_apart (x ∷ xs) h =
     (here x xs, links_frame (λ d. follower d xs) (λ d. follower d (x ∷ xs)) xs (λ y m. past y x xs (λ e. h.0 (subst P (sym e) m))) (links_apart xs h.1))
 
 -- the chain of a list whose numbers stand where they are looked for, and were not met, is met
-chain_through : (n : ℕ) (os : List Stored) (v : Bool) (p : ℕ) (xs met : List ℕ) → length xs < n → Links (next_at os) xs → ((d : ℕ) → Member d xs → stands_in os v p d ≡ true) → IsApart xs
-    → ((d : ℕ) → Member d xs → Member d met → ⊥) → chain_met n os v p (front xs) met ≡ Some (met ++ xs)
+chain_through : (n : ℕ) (os : List Stored) (v : Bool) (p : ℕ) (xs met : List ℕ) → length xs < n → Links (next_of_stored os) xs → ((d : ℕ) → Member d xs → record_stands_in os v p d ≡ true) → IsApart xs
+    → ((d : ℕ) → Member d xs → Member d met → ⊥) → chain_met n os v p (first_of_list xs) met ≡ Some (met ++ xs)
 unfolding chain_met Links Member IsApart
 chain_through zero os v p xs met short links stands apart free = absurd (omega arith)
 chain_through (suc n) os v p [] met short links stands apart free = ap (λ (l : List ℕ). Some l) (sym (append-nil met))
@@ -54,9 +54,9 @@ chain_through (suc n) os v p (x ∷ xs) met short links stands apart free =
     rw (stands x (inl refl), has_false x met (free x (inl refl)), links.0)
     (chain_through n os v p xs (met ++ x ∷ []) (omega arith) links.1 (λ d m. stands d (inr m)) apart.1 new ∙ ap (λ (l : List ℕ). Some l) (append_assoc met (x ∷ []) xs))
 
-pub list_links : (es : List Entry) → IsOrdered es → (v : Bool) (p : ℕ) → Links (next_at (persist es)) (list_in v es p)
+pub list_links : (es : List Entry) → IsOrdered es → (v : Bool) (p : ℕ) → Links (next_of_stored (persist es)) (list_in v es p)
 list_links es c v p =
-    links_frame (λ d. follower d (list_in v es p)) (next_at (persist es)) (list_in v es p) (λ d m. next_follows es v p d (c.stands v p d m)) (links_apart (list_in v es p) (c.once v p))
+    links_frame (λ d. follower d (list_in v es p)) (next_of_stored (persist es)) (list_in v es p) (λ d m. next_follows es v p d (c.stands v p d m)) (links_apart (list_in v es p) (c.once v p))
 
 list_short : (es : List Entry) → IsOrdered es → (v : Bool) (p : ℕ) → length (list_in v es p) < suc (length (persist es))
 list_short es c v p =

@@ -1,9 +1,10 @@
 -- Lists of numbers, none twice: joined, read by place, and counted.
-use Rattle.std.proofs.Common.{◌≡◌, ◌⊎◌, ℕ, ◌<◌, ◌≤◌, zero, suc, List, [], ◌∷◌, ◌++◌, Some, inl, inr, refl, sym, ap, subst, length, arith, Bool, true, false, cond, eqb}
+use Rattle.std.proofs.Common.{◌≡◌, ◌⊎◌, ℕ, ◌<◌, ◌≤◌, zero, suc, List, [], ◌∷◌, ◌++◌, Some, inl, inr, refl, sym, ap, subst, length, arith, eqb}
 use Rattle.std.proofs.lemmas.Bool.{cases_eq, ne_eqb, eq-eqb}
 use Rattle.std.proofs.lemmas.Map.Steps.{length-le_from_distinct_below}
 use Rattle.std.specs.List.{slice_get}
-use Rattle.spec_live.specs.Chain.{Member, IsApart, without}
+use Rattle.muck_laws.proofs.Lists.{fewer_by}
+use Rattle.spec_live.specs.Chain.{Member, IsApart, without_number}
 use Rattle.spec_live.proofs.Chains.{apart_distinct, member_any, member_without}
 
 -- Members of joined lists.
@@ -61,24 +62,15 @@ apart_at (y ∷ ys) (suc j) zero x a g h =
     absurd (a.0 (subst P e (member_at ys j x g)))
 apart_at (y ∷ ys) (suc j) (suc k) x a g h = ap suc (apart_at ys j k x a.1 g h)
 
-pub get_front : (xs ys : List ℕ) (k x : ℕ) → slice_get xs k ≡ Some x → slice_get (xs ++ ys) k ≡ Some x
-get_front [] ys k x h = absurd (cc)
-get_front (y ∷ xs) ys zero x h = h
-get_front (y ∷ xs) ys (suc k) x h = get_front xs ys k x h
-
 -- How long lists are.
 
-fewer_by : (b : Bool) (y : ℕ) (xs ys : List ℕ) → length xs ≤ length ys → length (cond b xs (y ∷ xs)) ≤ suc (length ys)
-fewer_by true y xs ys h = omega arith
-fewer_by false y xs ys h = omega arith
-
-without_le : (x : ℕ) (ys : List ℕ) → length (without x ys) ≤ length ys
-unfolding without
+without_le : (x : ℕ) (ys : List ℕ) → length (without_number x ys) ≤ length ys
+unfolding without_number
 without_le x [] = omega arith
-without_le x (y ∷ ys) = fewer_by (eqb y x) y (without x ys) ys (without_le x ys)
+without_le x (y ∷ ys) = fewer_by (eqb y x) y (without_number x ys) ys (without_le x ys)
 
-without_shorter : (x : ℕ) (ys : List ℕ) → Member x ys → length (without x ys) < length ys
-unfolding Member without
+without_shorter : (x : ℕ) (ys : List ℕ) → Member x ys → length (without_number x ys) < length ys
+unfolding Member without_number
 without_shorter x [] m = elim m [ ]
 without_shorter x (y ∷ ys) m = elim (cases_eq y x) [
   | inl e ↦ rw (eq-eqb y x e) (omega (arith, without_le x ys))
@@ -93,7 +85,7 @@ unfolding IsApart Member
 apart_short [] ys a sub = omega arith
 apart_short (x ∷ xs) ys a sub =
     let P : ℕ → Type 0 = λ z. Member z xs in
-    let rest : length xs ≤ length (without x ys) = apart_short xs (without x ys) a.1 (λ d m. member_without x d ys (λ e. a.0 (subst P e m)) (sub d (inr m))) in
+    let rest : length xs ≤ length (without_number x ys) = apart_short xs (without_number x ys) a.1 (λ d m. member_without x d ys (λ e. a.0 (subst P e m)) (sub d (inr m))) in
     omega (arith, without_shorter x ys (sub x (inl refl)))
 
 pub apart_below : (xs : List ℕ) (n : ℕ) → IsApart xs → ((d : ℕ) → Member d xs → d < n) → length xs ≤ n

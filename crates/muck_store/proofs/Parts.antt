@@ -4,26 +4,27 @@ use Rattle.std.proofs.lemmas.Bool.{and_parts, cases_Bool, eqb-true, false≢true
 use Rattle.std.proofs.lemmas.Option.{none-some}
 use Rattle.std.specs.List.{count_by, slice_get}
 use Rattle.std.specs.Option.{option_map_or, option_and_then}
+use Rattle.muck_laws.proofs.Options.{nowhere_by}
 use Rattle.muck_model.specs.declared.dbref.Kind.{Kind}
 use Rattle.muck_model.specs.declared.dbref.Kind.TheVariants.{Room, Player, Garbage}
 use Rattle.muck_model.proofs.Dbrefs.{eq_same}
 use Rattle.muck_codec.specs.declared.stored.Stored.{Stored}
 use Rattle.spec_live.specs.Objects.{dbref_of, index_of, nothing, same, is_room, is_player, is_garbage, may_stand}
-use Rattle.muck_store.specs.Whole.{kind_of, seats_in, all_tied, all_met, first_at, is_tree, is_whole, leads_to}
+use Rattle.muck_store.specs.Whole.{stored_kind, seats_in, all_tied, all_met, first_at, is_tree, is_whole_store, leads_to}
 use Rattle.muck_store.proofs.Counted.{Passes}
 use Rattle.muck_store.proofs.Meeting.{StandsAt, place_at}
 use Rattle.muck_store.proofs.TiedRecords.{Leads, leads, TiedAt, tied_from, AliveTied, alive_tied, Blank, blank_tied}
 
 pub record Whole (os : List Stored) : Type 0 where
-  pub player : is_player (kind_of os 1) ≡ true
+  pub player : is_player (stored_kind os 1) ≡ true
   pub tied : all_tied os 0 os ≡ true
   pub tree : is_tree os ≡ true
 
-pub whole_parts : (os : List Stored) → is_whole os ≡ true → Whole os
-unfolding is_whole
+pub whole_parts : (os : List Stored) → is_whole_store os ≡ true → Whole os
+unfolding is_whole_store
 whole_parts os h =
-    let all = and_parts (is_player (kind_of os 1) && all_tied os 0 os) (is_tree os) h in
-    let first = and_parts (is_player (kind_of os 1)) (all_tied os 0 os) all.0 in
+    let all = and_parts (is_player (stored_kind os 1) && all_tied os 0 os) (is_tree os) h in
+    let first = and_parts (is_player (stored_kind os 1)) (all_tied os 0 os) all.0 in
     record { player = first.0; tied = first.1; tree = all.1 }
 
 abbrev pub lives : Stored → Bool
@@ -50,12 +51,12 @@ pub record Alive (os : List Stored) (k : ℕ) : Type 0 where
   pub is : slice_get os k ≡ Some stored
   pub alive : is_garbage stored.kind ≡ false
 
-pub kind_at : (os : List Stored) (k : ℕ) (s : Stored) → slice_get os k ≡ Some s → kind_of os k ≡ s.kind
-unfolding kind_of
+pub kind_at : (os : List Stored) (k : ℕ) (s : Stored) → slice_get os k ≡ Some s → stored_kind os k ≡ s.kind
+unfolding stored_kind
 kind_at os k s e = ap (λ (o : Option Stored). option_map_or (λ (x : Stored). x.kind) o Garbage) e
 
-pub alive_at : (os : List Stored) (k : ℕ) → is_garbage (kind_of os k) ≡ false → Alive os k
-unfolding kind_of
+pub alive_at : (os : List Stored) (k : ℕ) → is_garbage (stored_kind os k) ≡ false → Alive os k
+unfolding stored_kind
 alive_at os k h = by_cases (slice_get os k) refl h
   where
     by_cases : (o : Option Stored) → slice_get os k ≡ o → is_garbage (option_map_or (λ (x : Stored). x.kind) o Garbage) ≡ false → Alive os k
@@ -73,10 +74,10 @@ alive_ties os k w a = alive_tied os k a.stored (tied_at os k a.stored w a.is) a.
 
 -- Garbage holds nothing and stands nowhere.
 
-pub blank_at : (os : List Stored) (k : ℕ) (s : Stored) → Whole os → slice_get os k ≡ Some s → is_garbage (kind_of os k) ≡ true → Blank s
+pub blank_at : (os : List Stored) (k : ℕ) (s : Stored) → Whole os → slice_get os k ≡ Some s → is_garbage (stored_kind os k) ≡ true → Blank s
 blank_at os k s w e g = blank_tied os k s (tied_at os k s w e) (ap (λ z. is_garbage z) (sym (kind_at os k s e)) ∙ g)
 
-pub first_none : (os : List Stored) (k : ℕ) → Whole os → is_garbage (kind_of os k) ≡ true → (v : Bool) → first_at v os k ≡ None
+pub first_none : (os : List Stored) (k : ℕ) → Whole os → is_garbage (stored_kind os k) ≡ true → (v : Bool) → first_at v os k ≡ None
 first_none os k w g v = by_cases v (slice_get os k) refl
   where
     by_cases : (b : Bool) (o : Option Stored) → slice_get os k ≡ o → option_and_then (λ (s : Stored). index_of (cond b s.first_exit s.first_content)) o ≡ None
@@ -84,7 +85,7 @@ first_none os k w g v = by_cases v (slice_get os k) refl
     by_cases true (Some s) e = ap (λ z. index_of z) (blank_at os k s w e g).exits
     by_cases false (Some s) e = ap (λ z. index_of z) (blank_at os k s w e g).contents
 
-pub place_none : (os : List Stored) (k : ℕ) → Whole os → is_garbage (kind_of os k) ≡ true → place_at os k ≡ None
+pub place_none : (os : List Stored) (k : ℕ) → Whole os → is_garbage (stored_kind os k) ≡ true → place_at os k ≡ None
 unfolding place_at
 place_none os k w g = by_cases (slice_get os k) refl
   where
@@ -112,10 +113,6 @@ pub place_nowhere : (os : List Stored) (d : ℕ) (s : Stored) → slice_get os d
 unfolding place_at
 place_nowhere os d s e h = ap (λ (o : Option Stored). option_and_then (λ (x : Stored). index_of x.place) o) e ∙ h
 
-nowhere_by : (o : Option ℕ) → not (option_map_or (λ n. true) o false) ≡ true → o ≡ None
-nowhere_by None h = refl
-nowhere_by (Some n) h = cc
-
 pub top_parts : (os : List Stored) → Whole os → (a : Alive os 0) → (is_room a.stored.kind ≡ true) × (index_of a.stored.place ≡ None) × (a.stored.next ≡ nothing)
 top_parts os w a =
     let s : Stored = a.stored in
@@ -124,15 +121,15 @@ top_parts os w a =
     (first.0, nowhere_by (index_of s.place) first.1, eq_same s.next nothing all.1)
 
 pub zero_place : (os : List Stored) → Whole os → place_at os 0 ≡ None
-zero_place os w = elim (cases_Bool (is_garbage (kind_of os 0))) [
+zero_place os w = elim (cases_Bool (is_garbage (stored_kind os 0))) [
   | inl g ↦ place_none os 0 w g
   | inr l ↦ let a : Alive os 0 = alive_at os 0 l in place_nowhere os 0 a.stored a.is (top_parts os w a).1
 ]
 
 -- the place of what isn't garbage nor `#0`
-pub place_of : (os : List Stored) (k : ℕ) → Whole os → (a : Alive os k) → (k ≡ 0 → ⊥) → Leads (λ p. may_stand a.stored.kind (kind_of os p) (seats_in os p)) a.stored.place
+pub place_of : (os : List Stored) (k : ℕ) → Whole os → (a : Alive os k) → (k ≡ 0 → ⊥) → Leads (λ p. may_stand a.stored.kind (stored_kind os p) (seats_in os p)) a.stored.place
 place_of os zero w a ne = absurd (ne refl)
-place_of os (suc k) w a ne = leads (λ p. may_stand a.stored.kind (kind_of os p) (seats_in os p)) a.stored.place (alive_ties os (suc k) w a).place
+place_of os (suc k) w a ne = leads (λ p. may_stand a.stored.kind (stored_kind os p) (seats_in os p)) a.stored.place (alive_ties os (suc k) w a).place
 
 -- Kinds.
 

@@ -9,19 +9,20 @@ use Rattle.std.specs.List.Sorted.{IsStrictlySortedBy}
 use Rattle.std.specs.Map.{keys_of}
 use Rattle.std.specs.Option.{option_and_then}
 use Rattle.std.specs.declared.cmp.Ordering.TheVariants.{Less}
+use Rattle.muck_laws.proofs.Orders.{is_less}
+use Rattle.muck_laws.proofs.Tests.{all_get}
 use Rattle.muck_model.specs.declared.dbref.Dbref.{Dbref}
 use Rattle.muck_model.proofs.Dbrefs.{eq_same}
 use Rattle.muck_prop.specs.Order.{path_cmp, path_cmp_total}
 use Rattle.muck_prop.proofs.Maps.{entries_are}
-use Rattle.muck_prop.proofs.Sequence.{is_less}
 use Rattle.muck_codec.specs.inner.Stored.{Run, IsProperty, AreProperties}
 use Rattle.muck_codec.specs.declared.stored.Property.{Property}
 use Rattle.muck_codec.specs.declared.stored.Stored.{Stored}
 use Rattle.spec_live.specs.Chain.{walk, IsChain, Member, follower}
 use Rattle.spec_live.specs.Objects.{Entry, dbref_of, index_of, nothing, same, is_exit, is_garbage, may_stand, kind_in, list_in}
 use Rattle.spec_live.proofs.Chains.{walk_none, walk_is}
-use Rattle.muck_store.specs.Forms.{property_of, properties_of, link_of, first_of, next_in, stored_of, stored_from, persist, entry_at, next_at, entry_of, loaded}
-use Rattle.muck_store.specs.Whole.{kind_of, seats_in, first_at, may_name, leads_to, is_whole}
+use Rattle.muck_store.specs.Forms.{property_of, properties_of, link_to_number, first_in_list, next_in, stored_of, stored_from, persist, entry_at, next_of_stored, entry_of_stored, loaded}
+use Rattle.muck_store.specs.Whole.{stored_kind, seats_in, first_at, may_name, leads_to, is_whole_store}
 use Rattle.muck_store.proofs.Loaded.{kind_loaded, place_loaded, list_loaded}
 use Rattle.muck_store.proofs.Meeting.{Listed, Held, place_at, place_stands}
 use Rattle.muck_store.proofs.Parts.{Whole, Alive, kind_at, alive_ties, tied_at, blank_at, place_none, place_is, place_of, top_parts}
@@ -65,18 +66,18 @@ names os d h = elim (or_cases (same d nothing) (leads_to (λ n. nat_lt n (length
   | inr e ↦ let l : Leads (λ n. nat_lt n (length os)) d = leads (λ n. nat_lt n (length os)) d e in some l.number l.is
 ]
 
-link_again : (d : Dbref) → Names d → link_of (index_of d) ≡ d
-link_again d (none e) = ap (λ z. link_of (index_of z)) e ∙ sym e
-link_again d (some n e) = ap (λ z. link_of (index_of z)) e ∙ sym e
+link_again : (d : Dbref) → Names d → link_to_number (index_of d) ≡ d
+link_again d (none e) = ap (λ z. link_to_number (index_of z)) e ∙ sym e
+link_again d (some n e) = ap (λ z. link_to_number (index_of z)) e ∙ sym e
 
-first_walk : (n : ℕ) (f : ℕ → Option ℕ) (m : ℕ) → 0 < n → first_of (walk n f (Some m)) ≡ dbref_of m
+first_walk : (n : ℕ) (f : ℕ → Option ℕ) (m : ℕ) → 0 < n → first_in_list (walk n f (Some m)) ≡ dbref_of m
 unfolding walk
 first_walk zero f m h = absurd (omega (arith, h))
 first_walk (suc n) f m h = refl
 
-first_again : (n : ℕ) (f : ℕ → Option ℕ) (d : Dbref) → 0 < n → Names d → first_of (walk n f (index_of d)) ≡ d
-first_again n f d lt (none e) = ap (λ z. first_of (walk n f (index_of z))) e ∙ ap (λ z. first_of z) (walk_none n f) ∙ sym e
-first_again n f d lt (some m e) = ap (λ z. first_of (walk n f (index_of z))) e ∙ first_walk n f m lt ∙ sym e
+first_again : (n : ℕ) (f : ℕ → Option ℕ) (d : Dbref) → 0 < n → Names d → first_in_list (walk n f (index_of d)) ≡ d
+first_again n f d lt (none e) = ap (λ z. first_in_list (walk n f (index_of z))) e ∙ ap (λ z. first_in_list z) (walk_none n f) ∙ sym e
+first_again n f d lt (some m e) = ap (λ z. first_in_list (walk n f (index_of z))) e ∙ first_walk n f m lt ∙ sym e
 
 -- What stands behind an object.
 
@@ -97,28 +98,28 @@ follower_is n f s (x ∷ xs) d h m = elim (cases_eq x d) [
   | inr ne ↦ behind_other d x xs ne ∙ follower_is n f (f x) xs d h.2 (elim m [ inl q ↦ absurd (ne (sym q)) | inr q ↦ q ])
 ]
 
-next_is : (os : List Stored) (k : ℕ) (s : Stored) → slice_get os k ≡ Some s → next_at os k ≡ index_of s.next
-unfolding next_at
+next_is : (os : List Stored) (k : ℕ) (s : Stored) → slice_get os k ≡ Some s → next_of_stored os k ≡ index_of s.next
+unfolding next_of_stored
 next_is os k s e = ap (λ (o : Option Stored). option_and_then (λ (x : Stored). index_of x.next) o) e
 
 unplaced : (os : List Stored) (k : ℕ) → place_at os k ≡ None → next_in (loaded os) k ≡ None
 unfolding next_in
 unplaced os k e = ap (λ (o : Option ℕ). option_and_then (λ p. follower k (list_in (is_exit (kind_in (loaded os) k)) (loaded os) p)) o) (place_loaded os k ∙ e)
 
-placed_next : (os : List Stored) (k p : ℕ) → Hanging os → place_at os k ≡ Some p → next_in (loaded os) k ≡ next_at os k
+placed_next : (os : List Stored) (k p : ℕ) → Hanging os → place_at os k ≡ Some p → next_in (loaded os) k ≡ next_of_stored os k
 unfolding next_in
 placed_next os k p h e =
     let l : Listed os k = listed_at os k p h e in
     let at : p ≡ l.at = same_Some p l.at (sym e ∙ place_stands os l.exits l.at k l.stands) in
     let kind : is_exit (kind_in (loaded os) k) ≡ l.exits = ap (λ z. is_exit z) (kind_loaded os k ∙ kind_at os k l.stands.stored l.stands.is) ∙ l.stands.kind in
     let held : Held os l.exits l.at = held_in os l.exits l.at h in
-    let items : walk (length os) (next_at os) (first_at l.exits os l.at) ≡ held.items = walk_is (length os) (next_at os) (first_at l.exits os l.at) held.items held.chain in
+    let items : walk (length os) (next_of_stored os) (first_at l.exits os l.at) ≡ held.items = walk_is (length os) (next_of_stored os) (first_at l.exits os l.at) held.items held.chain in
     let M : List ℕ → Type 0 = λ xs. Member k xs in
     ap (λ (o : Option ℕ). option_and_then (λ q. follower k (list_in (is_exit (kind_in (loaded os) k)) (loaded os) q)) o) (place_loaded os k ∙ e)
     ∙ ap (λ v. follower k (list_in v (loaded os) p)) kind
     ∙ ap (λ q. follower k (list_in l.exits (loaded os) q)) at
     ∙ ap (λ xs. follower k xs) (list_loaded os l.exits l.at ∙ items)
-    ∙ follower_is (length os) (next_at os) (first_at l.exits os l.at) held.items k held.chain (subst M items l.member)
+    ∙ follower_is (length os) (next_of_stored os) (first_at l.exits os l.at) held.items k held.chain (subst M items l.member)
 
 -- Each record.
 
@@ -126,15 +127,15 @@ placed_next os k p h e =
 record Chained (os : List Stored) (k : ℕ) (s : Stored) : Type 0 where
   pub contents : Names s.first_content
   pub exits : Names s.first_exit
-  pub next : link_of (next_in (loaded os) k) ≡ s.next
+  pub next : link_to_number (next_in (loaded os) k) ≡ s.next
 
-next_by : (os : List Stored) (k : ℕ) (s : Stored) → Hanging os → slice_get os k ≡ Some s → Names s.next → (place_at os k ≡ None → s.next ≡ nothing) → (o : Option ℕ) → place_at os k ≡ o → link_of (next_in (loaded os) k) ≡ s.next
-next_by os k s h e named top None q = ap (λ z. link_of z) (unplaced os k q) ∙ sym (top q)
-next_by os k s h e named top (Some p) q = ap (λ z. link_of z) (placed_next os k p h q ∙ next_is os k s e) ∙ link_again s.next named
+next_by : (os : List Stored) (k : ℕ) (s : Stored) → Hanging os → slice_get os k ≡ Some s → Names s.next → (place_at os k ≡ None → s.next ≡ nothing) → (o : Option ℕ) → place_at os k ≡ o → link_to_number (next_in (loaded os) k) ≡ s.next
+next_by os k s h e named top None q = ap (λ z. link_to_number z) (unplaced os k q) ∙ sym (top q)
+next_by os k s h e named top (Some p) q = ap (λ z. link_to_number z) (placed_next os k p h q ∙ next_is os k s e) ∙ link_again s.next named
 
 never_none : (os : List Stored) (k : ℕ) → Whole os → (a : Alive os k) → (k ≡ 0 → ⊥) → place_at os k ≡ None → ⊥
 never_none os k w a ne e =
-    let l : Leads (λ p. may_stand a.stored.kind (kind_of os p) (seats_in os p)) a.stored.place = place_of os k w a ne in
+    let l : Leads (λ p. may_stand a.stored.kind (stored_kind os p) (seats_in os p)) a.stored.place = place_of os k w a ne in
     none-some l.number (sym e ∙ place_is os k l.number a.stored a.is l.is)
 
 -- what isn't garbage and has no place is `#0`
@@ -161,29 +162,29 @@ chained_alive os k s h e alive =
 
 chained_blank : (os : List Stored) (k : ℕ) (s : Stored) → Hanging os → slice_get os k ≡ Some s → is_garbage s.kind ≡ true → Chained os k s
 chained_blank os k s h e g =
-    let of_k : is_garbage (kind_of os k) ≡ true = ap (λ z. is_garbage z) (kind_at os k s e) ∙ g in
+    let of_k : is_garbage (stored_kind os k) ≡ true = ap (λ z. is_garbage z) (kind_at os k s e) ∙ g in
     let b : Blank s = blank_at os k s h.whole e of_k in
     record {
       contents = none b.contents;
       exits = none b.exits;
-      next = ap (λ z. link_of z) (unplaced os k (place_none os k h.whole of_k)) ∙ sym b.next;
+      next = ap (λ z. link_to_number z) (unplaced os k (place_none os k h.whole of_k)) ∙ sym b.next;
     }
 
 chained : (os : List Stored) (k : ℕ) (s : Stored) → Hanging os → slice_get os k ≡ Some s → Chained os k s
 chained os k s h e = elim (cases_Bool (is_garbage s.kind)) [ inl g ↦ chained_blank os k s h e g | inr a ↦ chained_alive os k s h e a ]
 
-each_again : (os : List Stored) (k : ℕ) (s : Stored) → Hanging os → slice_get os k ≡ Some s → AreProperties s.props → stored_of (loaded os) k (entry_of os s) ≡ s
-unfolding stored_of entry_of
+each_again : (os : List Stored) (k : ℕ) (s : Stored) → Hanging os → slice_get os k ≡ Some s → AreProperties s.props → stored_of (loaded os) k (entry_of_stored os s) ≡ s
+unfolding stored_of entry_of_stored
 each_again os k s h e props =
     let n : ℕ = length os in
-    let f : ℕ → Option ℕ = next_at os in
+    let f : ℕ → Option ℕ = next_of_stored os in
     let lt : 0 < n = omega (arith, slice_get_within os k s e) in
     let t : TiedAt os k s = tied_at os k s h.whole e in
     let c : Chained os k s = chained os k s h e in
     let make : Dbref → Dbref → Dbref → Dbref → List Property → Stored = λ d x y z p. record s { dbref = d; first_content = x; first_exit = y; next = z; props = p } in
-    let content : Dbref = first_of (walk n f (index_of s.first_content)) in
-    let exit : Dbref = first_of (walk n f (index_of s.first_exit)) in
-    let next : Dbref = link_of (next_in (loaded os) k) in
+    let content : Dbref = first_in_list (walk n f (index_of s.first_content)) in
+    let exit : Dbref = first_in_list (walk n f (index_of s.first_exit)) in
+    let next : Dbref = link_to_number (next_in (loaded os) k) in
     let all : List Property = properties_of (from_entries (map (λ p. entry_at p) s.props)) in
     ap (λ d. make d content exit next all) (sym (eq_same s.dbref (dbref_of k) t.number))
     ∙ ap (λ d. make s.dbref d exit next all) (first_again n f s.first_content lt c.contents)
@@ -193,24 +194,19 @@ each_again os k s h e props =
 
 -- All of them.
 
-from_again : (os : List Stored) (es : List Entry) (k : ℕ) (rest : List Stored) → ((j n : ℕ) (s : Stored) → k + j ≡ n → slice_get rest j ≡ Some s → stored_of es n (entry_of os s) ≡ s)
-    → stored_from es k (map (entry_of os) rest) ≡ rest
+from_again : (os : List Stored) (es : List Entry) (k : ℕ) (rest : List Stored) → ((j n : ℕ) (s : Stored) → k + j ≡ n → slice_get rest j ≡ Some s → stored_of es n (entry_of_stored os s) ≡ s)
+    → stored_from es k (map (entry_of_stored os) rest) ≡ rest
 unfolding stored_from
 from_again os es k [] h = refl
 from_again os es k (s ∷ rest) h =
-    let head : stored_of es k (entry_of os s) ≡ s = h 0 k s (omega arith) refl in
-    let tail : stored_from es (suc k) (map (entry_of os) rest) ≡ rest = from_again os es (suc k) rest (λ j n x e q. h (suc j) n x (omega (arith, e)) q) in
-    ap (λ x. x ∷ stored_from es (suc k) (map (entry_of os) rest)) head ∙ ap (λ t. s ∷ t) tail
+    let head : stored_of es k (entry_of_stored os s) ≡ s = h 0 k s (omega arith) refl in
+    let tail : stored_from es (suc k) (map (entry_of_stored os) rest) ≡ rest = from_again os es (suc k) rest (λ j n x e q. h (suc j) n x (omega (arith, e)) q) in
+    ap (λ x. x ∷ stored_from es (suc k) (map (entry_of_stored os) rest)) head ∙ ap (λ t. s ∷ t) tail
 
-all_get : {X : Type 0} (P : X → Type 0) (xs : List X) (k : ℕ) (x : X) → AllByRecursion P xs → slice_get xs k ≡ Some x → P x
-all_get P [] k x h e = absurd (none-some x e)
-all_get P (y ∷ ys) zero x h e = subst P (same_Some y x e) h.0
-all_get P (y ∷ ys) (suc k) x h e = all_get P ys k x h.1 e
-
-pub persist_loaded : (os : List Stored) → length os ≤ 100000 → is_whole os ≡ true → AllByRecursion (λ s. AreProperties s.props) os → persist (loaded os) ≡ os
+pub persist_loaded : (os : List Stored) → length os ≤ 100000 → is_whole_store os ≡ true → AllByRecursion (λ s. AreProperties s.props) os → persist (loaded os) ≡ os
 unfolding persist loaded
 persist_loaded os few w props =
     let h : Hanging os = hanging os w in
-    from_again os (map (entry_of os) os) 0 os (λ j n s e q.
+    from_again os (map (entry_of_stored os) os) 0 os (λ j n s e q.
     let at : slice_get os n ≡ Some s = ap (λ z. slice_get os z) (sym (let i : j ≡ n = omega (arith, e) in i)) ∙ q in
     each_again os n s h at (all_get (λ x. AreProperties x.props) os n s props at))

@@ -1,22 +1,23 @@
 -- What the readers of records give where these are the stored form of objects.
-use Rattle.std.proofs.Common.{◌≡◌, ◌⊎◌, ℕ, ℤ, ◌<◌, ◌+◌, zero, suc, List, [], ◌∷◌, Option, Some, None, inl, inr, refl, sym, ◌∙◌, ap, length, arith, Bool, true, false}
+use Rattle.std.proofs.Common.{◌≡◌, ℕ, ℤ, ◌<◌, ◌+◌, zero, suc, List, [], ◌∷◌, Option, Some, None, inl, inr, refl, sym, ◌∙◌, ap, length, arith, Bool, true, false}
 use Rattle.std.specs.Prelude.{pos, negsuc, not, ◌&&◌, if◌then◌else◌}
 use Rattle.std.proofs.lemmas.Bool.{and_from, false≢true, cases_lt}
 use Rattle.std.specs.List.{slice_get}
 use Rattle.std.specs.Option.{option_map, option_and_then, option_map_or}
+use Rattle.muck_laws.proofs.Truths.{exits_agree}
 use Rattle.muck_model.specs.declared.dbref.Dbref.{Dbref}
 use Rattle.muck_model.specs.declared.dbref.Kind.TheVariants.{Garbage}
 use Rattle.muck_model.proofs.Dbrefs.{same_eq}
 use Rattle.spec_live.specs.declared.object.Object.{Object}
 use Rattle.spec_live.specs.Flags.{has_flag, no_flags, vehicle}
 use Rattle.spec_live.specs.Chain.{follower}
-use Rattle.spec_live.specs.Objects.{Entry, dbref_of, index_at, index_of, same, is_exit, is_garbage, object_in, list_of, list_in, kind_in, flags_in, place_in, is_vehicle_in}
-pub use Rattle.spec_live.specs.Saving.{front}
+use Rattle.spec_live.specs.Objects.{Entry, dbref_of, index_at, index_of, same, is_exit, is_garbage, object_in, entry_list, list_in, kind_in, flags_in, place_in, is_vehicle_in}
+pub use Rattle.spec_live.specs.Saving.{first_of_list}
 use Rattle.spec_live.specs.Consistent.{StandsIn}
 use Rattle.spec_live.proofs.Readers.{kind_past}
 use Rattle.muck_codec.specs.declared.stored.Stored.{Stored}
-use Rattle.muck_store.specs.Forms.{link_of, first_of, next_in, stored_of, stored_from, persist, next_at}
-use Rattle.muck_store.specs.Whole.{kind_of, seats_in, stands_in, first_at}
+use Rattle.muck_store.specs.Forms.{link_to_number, first_in_list, next_in, stored_of, stored_from, persist, next_of_stored}
+use Rattle.muck_store.specs.Whole.{stored_kind, seats_in, record_stands_in, first_at}
 
 -- Records by number.
 
@@ -53,13 +54,9 @@ pub place_there : (es : List Entry) (k : ℕ) (e : Entry) → slice_get es k ≡
 unfolding place_in
 place_there es k e h = rw (object_at_entry es k e h) refl
 
-pub list_there : (es : List Entry) (v : Bool) (k : ℕ) (e : Entry) → slice_get es k ≡ Some e → list_in v es k ≡ list_of v e
+pub list_there : (es : List Entry) (v : Bool) (k : ℕ) (e : Entry) → slice_get es k ≡ Some e → list_in v es k ≡ entry_list v e
 unfolding list_in
 list_there es v k e h = rw h refl
-
-pub place_cases : (o : Option ℕ) → (o ≡ None) ⊎ ((p : ℕ) × (o ≡ Some p))
-place_cases None = inl refl
-place_cases (Some p) = inr (p, refl)
 
 pub alive_below : (es : List Entry) (d : ℕ) → is_garbage (kind_in es d) ≡ false → d < length es
 alive_below es d h = elim (cases_lt d (length es)) [
@@ -74,8 +71,8 @@ unfolding stored_of
 kind_by es k None = refl
 kind_by es k (Some e) = refl
 
-pub kind_persist : (es : List Entry) (k : ℕ) → kind_of (persist es) k ≡ kind_in es k
-unfolding kind_of kind_in object_in
+pub kind_persist : (es : List Entry) (k : ℕ) → stored_kind (persist es) k ≡ kind_in es k
+unfolding stored_kind kind_in object_in
 kind_persist es k = rw (get_persist es k) (kind_by es k (slice_get es k))
 
 seats_by : (es : List Entry) (k : ℕ) (o : Option Entry)
@@ -90,7 +87,7 @@ seats_persist es k = rw (get_persist es k) (seats_by es k (slice_get es k))
 
 -- What stands behind an object.
 
-index_link : (o : Option ℕ) → index_of (link_of o) ≡ o
+index_link : (o : Option ℕ) → index_of (link_to_number o) ≡ o
 index_link None = refl
 index_link (Some n) = refl
 
@@ -107,30 +104,30 @@ unfolding stored_of
 next_by es k None h = sym (no_next es k (no_place es k h))
 next_by es k (Some e) h = index_link (next_in es k)
 
-next_persist : (es : List Entry) (k : ℕ) → next_at (persist es) k ≡ next_in es k
-unfolding next_at
+next_persist : (es : List Entry) (k : ℕ) → next_of_stored (persist es) k ≡ next_in es k
+unfolding next_of_stored
 next_persist es k = rw (get_persist es k) (next_by es k (slice_get es k) refl)
 
 pub next_listed : (es : List Entry) (v : Bool) (p d : ℕ) → StandsIn es v p d → next_in es d ≡ follower d (list_in v es p)
 unfolding next_in
 next_listed es v p d s = rw s.place (ap (λ (b : Bool). follower d (list_in b es p)) s.kind)
 
-pub next_follows : (es : List Entry) (v : Bool) (p d : ℕ) → StandsIn es v p d → next_at (persist es) d ≡ follower d (list_in v es p)
+pub next_follows : (es : List Entry) (v : Bool) (p d : ℕ) → StandsIn es v p d → next_of_stored (persist es) d ≡ follower d (list_in v es p)
 next_follows es v p d s = next_persist es d ∙ next_listed es v p d s
 
 -- Where a list begins.
 
-pub index_first : (xs : List ℕ) → index_of (first_of xs) ≡ front xs
+pub index_first : (xs : List ℕ) → index_of (first_in_list xs) ≡ first_of_list xs
 index_first [] = refl
 index_first (x ∷ xs) = refl
 
-first_by : (es : List Entry) (k : ℕ) (v : Bool) (o : Option Entry) → option_and_then (λ (s : Stored). index_of (if v then s.first_exit else s.first_content)) (option_map (stored_of es k) o) ≡ front (option_map_or (list_of v) o [])
+first_by : (es : List Entry) (k : ℕ) (v : Bool) (o : Option Entry) → option_and_then (λ (s : Stored). index_of (if v then s.first_exit else s.first_content)) (option_map (stored_of es k) o) ≡ first_of_list (option_map_or (entry_list v) o [])
 unfolding stored_of
 first_by es k v None = refl
 first_by es k true (Some e) = index_first e.exits
 first_by es k false (Some e) = index_first e.contents
 
-pub first_persist : (es : List Entry) (v : Bool) (k : ℕ) → first_at v (persist es) k ≡ front (list_in v es k)
+pub first_persist : (es : List Entry) (v : Bool) (k : ℕ) → first_at v (persist es) k ≡ first_of_list (list_in v es k)
 unfolding list_in
 first_persist es v k = rw (get_persist es k) (first_by es k v (slice_get es k))
 
@@ -143,12 +140,6 @@ whole_number (negsuc m) n h = absurd (cc)
 pub number_is : (d : Dbref) (n : ℕ) → index_of d ≡ Some n → d ≡ dbref_of n
 number_is d n h = let make : ℤ → Dbref = λ z. record { 0 = z } in ap make (whole_number d.0 n h)
 
-exits_agree : (b v : Bool) → b ≡ v → (if b then v else not v) ≡ true
-exits_agree true true h = refl
-exits_agree true false h = absurd (false≢true (sym h))
-exits_agree false true h = absurd (false≢true h)
-exits_agree false false h = refl
-
 stands_by : (es : List Entry) (v : Bool) (p d : ℕ) (o : Option Entry) → option_and_then (λ (x : Object). index_of x.place) (option_map (λ (e : Entry). e.object) o) ≡ Some p
     → is_exit (option_map_or (λ (x : Object). x.kind) (option_map (λ (e : Entry). e.object) o) Garbage) ≡ v
     → option_map_or (λ (s : Stored). same s.place (dbref_of p) && (if is_exit s.kind then v else not v)) (option_map (stored_of es d) o) false ≡ true
@@ -157,6 +148,6 @@ stands_by es v p d None place kind = absurd (cc (place))
 stands_by es v p d (Some e) place kind =
     and_from (same e.object.place (dbref_of p)) (if is_exit e.object.kind then v else not v) (same_eq e.object.place (dbref_of p) (number_is e.object.place p place)) (exits_agree (is_exit e.object.kind) v kind)
 
-pub stands_persist : (es : List Entry) (v : Bool) (p d : ℕ) → StandsIn es v p d → stands_in (persist es) v p d ≡ true
+pub stands_persist : (es : List Entry) (v : Bool) (p d : ℕ) → StandsIn es v p d → record_stands_in (persist es) v p d ≡ true
 unfolding place_in kind_in object_in
 stands_persist es v p d s = rw (get_persist es d) (stands_by es v p d (slice_get es d) s.place s.kind)

@@ -5,16 +5,17 @@ use Rattle.std.proofs.lemmas.Option.{slice_get_past, slice_get_within}
 use Rattle.std.specs.Prelude.{not}
 use Rattle.std.specs.List.{slice_get, count_by}
 use Rattle.std.specs.Option.{option_and_then}
+use Rattle.muck_laws.proofs.Options.{or_none}
+use Rattle.muck_laws.proofs.Places.{get_front, some_at}
 use Rattle.spec_live.specs.Chain.{walk, IsChain, Ends, Member, IsApart}
 use Rattle.spec_live.specs.Objects.{Entry, is_exit, is_garbage, list_in, kind_in, place_in, is_vehicle_in, fits_in}
 use Rattle.spec_live.specs.Consistent.{IsOrdered, IsConsistent}
 use Rattle.spec_live.proofs.KindLaws.{standing_alive, place_alive}
-use Rattle.spec_live.proofs.Lists.{some_at}
 use Rattle.muck_codec.specs.declared.stored.Stored.{Stored}
 use Rattle.muck_store.specs.Forms.{persist}
 use Rattle.muck_store.specs.Whole.{held_met, all_met, is_tree}
-use Rattle.muck_store.proofs.MetLists.{member_left, member_right, member_split, apart_append, apart_at, get_front, apart_below}
-use Rattle.muck_store.proofs.StoredForms.{length_persist, place_cases, alive_below}
+use Rattle.muck_store.proofs.MetLists.{member_left, member_right, member_split, apart_append, apart_at, apart_below}
+use Rattle.muck_store.proofs.StoredForms.{length_persist, alive_below}
 use Rattle.muck_store.proofs.MetChains.{held_walked}
 use Rattle.muck_store.proofs.AliveCount.{alive_count}
 
@@ -149,7 +150,7 @@ climb es c met top closed n d (x ∷ xs) h alive =
     let Q : Option ℕ → Type 0 = λ t. IsChain n (place_in es) t xs in
     let M : ℕ → Type 0 = λ z. Member z met in
     let rest : IsChain n (place_in es) (place_in es d) xs = subst P same h.2 in
-    elim (place_cases (place_in es d)) [
+    elim (or_none (place_in es d)) [
       | inl none ↦ elim (c.placed d none) [
         | inl z ↦ subst M (sym z) top
         | inr g ↦ absurd (false≢true (sym alive ∙ ap (λ k. is_garbage k) g))

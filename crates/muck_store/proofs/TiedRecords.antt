@@ -6,6 +6,8 @@ use Rattle.std.proofs.lemmas.Option.{same_Some, none-some}
 use Rattle.std.proofs.lemmas.Slice.Eq.{bytes_eq-Decides}
 use Rattle.std.specs.List.{slice_get}
 use Rattle.std.specs.Option.{option_map_or}
+use Rattle.muck_laws.proofs.Lists.{no_items}
+use Rattle.muck_laws.proofs.Truths.{parts5, parts6}
 use Rattle.muck_model.specs.declared.dbref.Dbref.{Dbref}
 use Rattle.muck_model.specs.declared.dbref.Kind.{Kind}
 use Rattle.muck_model.specs.declared.dbref.Kind.TheVariants.{Thing, Player, Garbage}
@@ -16,8 +18,8 @@ use Rattle.spec_live.specs.Setting.{may_link, may_live}
 use Rattle.spec_live.specs.Consistent.{HasOwner, HasLink, HasHome, IsTied}
 use Rattle.spec_live.proofs.Checks.{index_only}
 use Rattle.spec_live.proofs.KindLaws.{only_garbage, only_exit}
-use Rattle.muck_store.specs.Forms.{object_of, loaded}
-use Rattle.muck_store.specs.Whole.{kind_of, leads_to, has_chains, has_owner, has_place, has_link, home_for, is_blank, is_tied, all_tied}
+use Rattle.muck_store.specs.Forms.{stored_object, loaded}
+use Rattle.muck_store.specs.Whole.{stored_kind, leads_to, has_chains, has_owner, has_place, record_has_link, home_for, is_blank_record, agrees_with_records, all_tied}
 use Rattle.muck_store.proofs.Loaded.{kind_loaded}
 
 -- the number behind a dbref passes
@@ -37,21 +39,21 @@ leads test d h = leads_by test d (index_of d) refl h
 
 pub record TiedAt (os : List Stored) (k : ℕ) (s : Stored) : Type 0 where
   pub number : same s.dbref (dbref_of k) ≡ true
-  pub tied : is_tied os k s ≡ true
+  pub tied : agrees_with_records os k s ≡ true
 
 pub tied_from : (os : List Stored) (k j n : ℕ) (rest : List Stored) (s : Stored) → k + j ≡ n → all_tied os k rest ≡ true → slice_get rest j ≡ Some s → TiedAt os n s
 unfolding all_tied
 tied_from os k j n [] s e h at = absurd (none-some s at)
 tied_from os k zero n (x ∷ xs) s e h at =
-    let both = and_parts (same x.dbref (dbref_of k) && is_tied os k x) (all_tied os (suc k) xs) h in
-    let each = and_parts (same x.dbref (dbref_of k)) (is_tied os k x) both.0 in
+    let both = and_parts (same x.dbref (dbref_of k) && agrees_with_records os k x) (all_tied os (suc k) xs) h in
+    let each = and_parts (same x.dbref (dbref_of k)) (agrees_with_records os k x) both.0 in
     let here : TiedAt os k x = record { number = each.0; tied = each.1 } in
     let k_is : k ≡ n = omega arith in
     let P : Stored → Type 0 = λ z. TiedAt os n z in
     let Q : ℕ → Type 0 = λ z. TiedAt os z x in
     subst P (same_Some x s at) (subst Q k_is here)
 tied_from os k (suc j) n (x ∷ xs) s e h at =
-    let both = and_parts (same x.dbref (dbref_of k) && is_tied os k x) (all_tied os (suc k) xs) h in
+    let both = and_parts (same x.dbref (dbref_of k) && agrees_with_records os k x) (all_tied os (suc k) xs) h in
     tied_from os (suc k) j n xs s (omega arith) both.1 at
 
 -- One that isn't garbage.
@@ -59,55 +61,47 @@ tied_from os k (suc j) n (x ∷ xs) s e h at =
 pub record AliveTied (os : List Stored) (k : ℕ) (s : Stored) : Type 0 where
   pub owner : has_owner os s ≡ true
   pub place : has_place os k s ≡ true
-  pub link : has_link os s ≡ true
+  pub link : record_has_link os s ≡ true
   pub home : home_for s.kind os s ≡ true
   pub chains : has_chains os s ≡ true
 
-parts5 : (a b c d e : Bool) → (a && b && c && d && e) ≡ true → (a ≡ true) × (b ≡ true) × (c ≡ true) × (d ≡ true) × (e ≡ true)
-parts5 a b c d e h =
-    let p = and_parts (a && b && c && d) e h in
-    let q = and_parts (a && b && c) d p.0 in
-    let r = and_parts (a && b) c q.0 in
-    let t = and_parts a b r.0 in
-    (t.0, t.1, r.1, q.1, p.1)
-
 pub alive_tied : (os : List Stored) (k : ℕ) (s : Stored) → TiedAt os k s → is_garbage s.kind ≡ false → AliveTied os k s
 alive_tied os k s t alive =
-    let all : (has_owner os s && has_place os k s && has_link os s && home_for s.kind os s && has_chains os s) ≡ true =
-    sym (cond-false (is_garbage s.kind) (is_blank s) (has_owner os s && has_place os k s && has_link os s && home_for s.kind os s && has_chains os s) alive) ∙ t.tied in
-    let p = parts5 (has_owner os s) (has_place os k s) (has_link os s) (home_for s.kind os s) (has_chains os s) all in
+    let all : (has_owner os s && has_place os k s && record_has_link os s && home_for s.kind os s && has_chains os s) ≡ true =
+    sym (cond-false (is_garbage s.kind) (is_blank_record s) (has_owner os s && has_place os k s && record_has_link os s && home_for s.kind os s && has_chains os s) alive) ∙ t.tied in
+    let p = parts5 (has_owner os s) (has_place os k s) (record_has_link os s) (home_for s.kind os s) (has_chains os s) all in
     record { owner = p.0; place = p.1; link = p.2; home = p.3; chains = p.4 }
 
-owner_tied : (os : List Stored) (s : Stored) → has_owner os s ≡ true → HasOwner (loaded os) (object_of s)
+owner_tied : (os : List Stored) (s : Stored) → has_owner os s ≡ true → HasOwner (loaded os) (stored_object s)
 owner_tied os s h =
-    let l : Leads (λ n. is_player (kind_of os n)) s.owner = leads (λ n. is_player (kind_of os n)) s.owner h in
+    let l : Leads (λ n. is_player (stored_kind os n)) s.owner = leads (λ n. is_player (stored_kind os n)) s.owner h in
     (l.number, l.is, ap (λ z. is_player z) (kind_loaded os l.number) ∙ l.holds)
 
-link_tied : (os : List Stored) (s : Stored) → has_link os s ≡ true → HasLink (loaded os) (object_of s)
+link_tied : (os : List Stored) (s : Stored) → record_has_link os s ≡ true → HasLink (loaded os) (stored_object s)
 link_tied os s h =
     let none : Bool = same s.link nothing in
     let homely : Bool = is_exit s.kind && same s.link home in
-    elim (or_cases (none || homely) (leads_to (λ n. may_link s.kind (kind_of os n)) s.link) h) [
+    elim (or_cases (none || homely) (leads_to (λ n. may_link s.kind (stored_kind os n)) s.link) h) [
       | inl q ↦ elim (or_cases none homely q) [
         | inl a ↦ inl (eq_same s.link nothing a)
         | inr b ↦ let k = and_parts (is_exit s.kind) (same s.link home) b in inr (inl (only_exit s.kind k.0, eq_same s.link home k.1))
       ]
       | inr q ↦
-          let l : Leads (λ n. may_link s.kind (kind_of os n)) s.link = leads (λ n. may_link s.kind (kind_of os n)) s.link q in
+          let l : Leads (λ n. may_link s.kind (stored_kind os n)) s.link = leads (λ n. may_link s.kind (stored_kind os n)) s.link q in
           inr (inr (l.number, l.is, ap (λ z. may_link s.kind z) (kind_loaded os l.number) ∙ l.holds))
     ]
 
-lives_tied : (os : List Stored) (s : Stored) (k : Kind) → s.kind ≡ k → leads_to (λ n. may_live s.kind (kind_of os n)) s.home ≡ true → (n : ℕ) × (s.home ≡ dbref_of n) × (may_live k (kind_in (loaded os) n) ≡ true)
+lives_tied : (os : List Stored) (s : Stored) (k : Kind) → s.kind ≡ k → leads_to (λ n. may_live s.kind (stored_kind os n)) s.home ≡ true → (n : ℕ) × (s.home ≡ dbref_of n) × (may_live k (kind_in (loaded os) n) ≡ true)
 lives_tied os s k e h =
-    let l : Leads (λ n. may_live s.kind (kind_of os n)) s.home = leads (λ n. may_live s.kind (kind_of os n)) s.home h in
-    (l.number, l.is, ap (λ z. may_live k z) (kind_loaded os l.number) ∙ ap (λ z. may_live z (kind_of os l.number)) (sym e) ∙ l.holds)
+    let l : Leads (λ n. may_live s.kind (stored_kind os n)) s.home = leads (λ n. may_live s.kind (stored_kind os n)) s.home h in
+    (l.number, l.is, ap (λ z. may_live k z) (kind_loaded os l.number) ∙ ap (λ z. may_live z (stored_kind os l.number)) (sym e) ∙ l.holds)
 
-home_tied : (os : List Stored) (s : Stored) (k : Kind) → s.kind ≡ k → home_for k os s ≡ true → HasHome (loaded os) (record (object_of s) { kind = k })
+home_tied : (os : List Stored) (s : Stored) (k : Kind) → s.kind ≡ k → home_for k os s ≡ true → HasHome (loaded os) (record (stored_object s) { kind = k })
 home_tied os s Thing e h = lives_tied os s Thing e h
 home_tied os s Player e h = lives_tied os s Player e h
 home_tied os s k e h = eq_same s.home nothing h
 
-pub ties_loaded : (os : List Stored) (k : ℕ) (s : Stored) → AliveTied os k s → IsTied (loaded os) (object_of s)
+pub ties_loaded : (os : List Stored) (k : ℕ) (s : Stored) → AliveTied os k s → IsTied (loaded os) (stored_object s)
 ties_loaded os k s t = record { owner = owner_tied os s t.owner; link = link_tied os s t.link; home = home_tied os s s.kind refl t.home }
 
 -- Garbage.
@@ -140,13 +134,7 @@ parts8 a b c d e f g h all =
     let r = and_parts (a && b && c && d && e) f q.0 in
     record { first = parts5 a b c d e r.0; sixth = r.1; seventh = q.1; eighth = p.1 }
 
-parts6 : (a b c d e f : Bool) → (a && b && c && d && e && f) ≡ true → (a ≡ true) × (b ≡ true) × (c ≡ true) × (d ≡ true) × (e ≡ true) × (f ≡ true)
-parts6 a b c d e f h =
-    let p = and_parts (a && b && c && d && e) f h in
-    let q = parts5 a b c d e p.0 in
-    (q.0, q.1, q.2, q.3, q.4, p.1)
-
-pub blank_parts : (s : Stored) → is_blank s ≡ true → Blank s
+pub blank_parts : (s : Stored) → is_blank_record s ≡ true → Blank s
 blank_parts s h =
     let all = parts6 (bytes_eq s.name (codes "<garbage>") && same s.owner (dbref_of 1) && same s.place nothing && same s.link nothing && same s.home nothing && same s.first_content nothing && same s.first_exit nothing && same s.next nothing)
     (eqb s.flags.0 0) (eqb s.level 0) (eqb (length s.props) 0) (eqb (length s.lines) 0) (eqb (length s.digest) 0) h in
@@ -169,13 +157,9 @@ blank_parts s h =
 
 pub blank_tied : (os : List Stored) (k : ℕ) (s : Stored) → TiedAt os k s → is_garbage s.kind ≡ true → Blank s
 blank_tied os k s t g =
-    blank_parts s (sym (cond-true (is_garbage s.kind) (is_blank s) (has_owner os s && has_place os k s && has_link os s && home_for s.kind os s && has_chains os s) g) ∙ t.tied)
+    blank_parts s (sym (cond-true (is_garbage s.kind) (is_blank_record s) (has_owner os s && has_place os k s && record_has_link os s && home_for s.kind os s && has_chains os s) g) ∙ t.tied)
 
-no_items : {X : Type 0} (xs : List X) → length xs ≡ 0 → xs ≡ []
-no_items [] h = refl
-no_items (x ∷ xs) h = absurd (omega arith)
-
-pub blank_object : (s : Stored) → Blank s → is_garbage s.kind ≡ true → object_of s ≡ garbage
+pub blank_object : (s : Stored) → Blank s → is_garbage s.kind ≡ true → stored_object s ≡ garbage
 unfolding garbage
 blank_object s b g =
     let kind : s.kind ≡ Garbage = only_garbage s.kind g in

@@ -8,9 +8,9 @@ use Rattle.spec_live.specs.Objects.{Entry, dbref_of, object_in, list_in}
 use Rattle.spec_live.specs.Saving.{Links, links_in, on_saving, all_saving, IsAsBefore, Marked}
 use Rattle.spec_live.proofs.Dues.{links_resaved}
 use Rattle.muck_codec.specs.declared.stored.Stored.{Stored}
-use Rattle.muck_store.specs.Forms.{properties_of, link_of, first_of, next_in, stored_of, stored_from, persist}
+use Rattle.muck_store.specs.Forms.{properties_of, link_to_number, first_in_list, next_in, stored_of, stored_from, persist}
 use Rattle.muck_store.specs.inner.Changes.{KeepsUndue}
-use Rattle.muck_store.proofs.StoredForms.{front, get_persist, list_there}
+use Rattle.muck_store.proofs.StoredForms.{first_of_list, get_persist, list_there}
 
 -- The stored form of an object is made of its fields and its links.
 
@@ -24,16 +24,16 @@ linked k l o = record {
   place = o.place;
   link = o.link;
   home = o.home;
-  first_content = link_of l.content;
-  first_exit = link_of l.exit;
-  next = link_of l.next;
+  first_content = link_to_number l.content;
+  first_exit = link_to_number l.exit;
+  next = link_to_number l.next;
   name = o.name;
   props = properties_of o.props;
   lines = o.lines;
   digest = o.digest;
 }
 
-first_link : (xs : List ℕ) → first_of xs ≡ link_of (front xs)
+first_link : (xs : List ℕ) → first_in_list xs ≡ link_to_number (first_of_list xs)
 first_link [] = refl
 first_link (x ∷ xs) = refl
 
@@ -42,9 +42,9 @@ unfolding stored_of links_in
 stored_linked es k e at =
     let make : Option ℕ → Option ℕ → Stored = λ x y. linked k (record { content = x; exit = y; next = next_in es k }) e.object in
     ap (λ d. record (stored_of es k e) { first_content = d }) (first_link e.contents)
-    ∙ ap (λ d. record (make (front e.contents) None) { first_exit = d }) (first_link e.exits)
-    ∙ ap (λ xs. make (front xs) (front e.exits)) (sym (list_there es false k e at))
-    ∙ ap (λ xs. make (front (list_in false es k)) (front xs)) (sym (list_there es true k e at))
+    ∙ ap (λ d. record (make (first_of_list e.contents) None) { first_exit = d }) (first_link e.exits)
+    ∙ ap (λ xs. make (first_of_list xs) (first_of_list e.exits)) (sym (list_there es false k e at))
+    ∙ ap (λ xs. make (first_of_list (list_in false es k)) (first_of_list xs)) (sym (list_there es true k e at))
 
 got_linked : (es : List Entry) (k : ℕ) → slice_get (persist es) k ≡ option_map (linked k (links_in es k)) (object_in es k)
 unfolding object_in
@@ -76,7 +76,7 @@ from_resaved : (f : Saving → Saving) (es : List Entry) (k : ℕ) (rest : List 
 unfolding stored_from stored_of
 from_resaved f es k [] = refl
 from_resaved f es k (e ∷ rest) =
-    ap (λ n. record (stored_of es k e) { next = link_of n } ∷ stored_from (all_saving f es) (suc k) (map (on_saving f) rest)) (next_resaved f es k)
+    ap (λ n. record (stored_of es k e) { next = link_to_number n } ∷ stored_from (all_saving f es) (suc k) (map (on_saving f) rest)) (next_resaved f es k)
     ∙ ap (λ l. stored_of es k e ∷ l) (from_resaved f es (suc k) rest)
 
 pub persist_resaved : (f : Saving → Saving) (es : List Entry) → persist (all_saving f es) ≡ persist es

@@ -3,32 +3,28 @@ use Rattle.std.proofs.Common.{◌≡◌, ℕ, ◌+◌, ◌-◌, ◌<◌, ◌≤�
 use Rattle.std.proofs.lemmas.Option.{slice_get-get_or, slice_get_past}
 use Rattle.std.specs.List.{slice_get, count_by}
 use Rattle.std.specs.Option.{option_and_then, option_map_or}
+use Rattle.muck_laws.proofs.Truths.{and_not}
 use Rattle.spec_live.specs.Chain.{has}
 use Rattle.spec_live.specs.Objects.{is_garbage}
 use Rattle.muck_codec.specs.declared.stored.Stored.{Stored}
-use Rattle.muck_store.specs.Forms.{next_at}
-use Rattle.muck_store.specs.Whole.{stands_in, chain_met, held_met, all_met, is_tree}
+use Rattle.muck_store.specs.Forms.{next_of_stored}
+use Rattle.muck_store.specs.Whole.{record_stands_in, chain_met, held_met, all_met, is_tree}
 
 -- One list.
 
-both : (a b : Bool) → a ≡ true → b ≡ false → (a && not b) ≡ true
-both true false p q = refl
-both true true p q = absurd (cc)
-both false b p q = absurd (cc)
-
 pub chain_more : (n : ℕ) (os : List Stored) (exits : Bool) (p d : ℕ) (at : Option ℕ) (met : List ℕ)
-    → at ≡ Some d → stands_in os exits p d ≡ true → has d met ≡ false → chain_met (suc n) os exits p at met ≡ chain_met n os exits p (next_at os d) (met ++ d ∷ [])
+    → at ≡ Some d → record_stands_in os exits p d ≡ true → has d met ≡ false → chain_met (suc n) os exits p at met ≡ chain_met n os exits p (next_of_stored os d) (met ++ d ∷ [])
 unfolding chain_met
 chain_more n os exits p d at met e stands fresh =
     ap (λ (o : Option ℕ). chain_met (suc n) os exits p o met) e
-    ∙ ap (λ (b : Bool). cond b (chain_met n os exits p (next_at os d) (met ++ d ∷ [])) None) (both (stands_in os exits p d) (has d met) stands fresh)
+    ∙ ap (λ (b : Bool). cond b (chain_met n os exits p (next_of_stored os d) (met ++ d ∷ [])) None) (and_not (record_stands_in os exits p d) (has d met) stands fresh)
 
 pub chain_stops : (n : ℕ) (os : List Stored) (exits : Bool) (p d : ℕ) (at : Option ℕ) (met : List ℕ)
-    → at ≡ Some d → (stands_in os exits p d && not (has d met)) ≡ false → chain_met (suc n) os exits p at met ≡ None
+    → at ≡ Some d → (record_stands_in os exits p d && not (has d met)) ≡ false → chain_met (suc n) os exits p at met ≡ None
 unfolding chain_met
 chain_stops n os exits p d at met e stop =
     ap (λ (o : Option ℕ). chain_met (suc n) os exits p o met) e
-    ∙ ap (λ (b : Bool). cond b (chain_met n os exits p (next_at os d) (met ++ d ∷ [])) None) stop
+    ∙ ap (λ (b : Bool). cond b (chain_met n os exits p (next_of_stored os d) (met ++ d ∷ [])) None) stop
 
 pub chain_ends : (n : ℕ) (os : List Stored) (exits : Bool) (p : ℕ) (at : Option ℕ) (met : List ℕ) → at ≡ None → chain_met (suc n) os exits p at met ≡ Some met
 unfolding chain_met
@@ -46,7 +42,7 @@ rest_first os exits p at met most =
     ap (λ (n : ℕ). chain_met (suc n) os exits p at met) e
 
 pub rest_more : (os : List Stored) (exits : Bool) (p d start : ℕ) (at next : Option ℕ) (met more : List ℕ)
-    → at ≡ Some d → stands_in os exits p d ≡ true → has d met ≡ false → next ≡ next_at os d → more ≡ met ++ d ∷ [] → length more ≤ length os
+    → at ≡ Some d → record_stands_in os exits p d ≡ true → has d met ≡ false → next ≡ next_of_stored os d → more ≡ met ++ d ∷ [] → length more ≤ length os
     → rest_met os exits p start at met ≡ rest_met os exits p start next more
 unfolding rest_met
 rest_more os exits p d start at next met more e stands fresh to put most =
@@ -59,7 +55,7 @@ rest_more os exits p d start at next met more e stands fresh to put most =
     ∙ ap (λ (l : List ℕ). chain_met (suc n) os exits p next l) (sym put)
 
 pub rest_stops : (os : List Stored) (exits : Bool) (p d start : ℕ) (at : Option ℕ) (met : List ℕ)
-    → at ≡ Some d → (stands_in os exits p d && not (has d met)) ≡ false → rest_met os exits p start at met ≡ None
+    → at ≡ Some d → (record_stands_in os exits p d && not (has d met)) ≡ false → rest_met os exits p start at met ≡ None
 unfolding rest_met
 rest_stops os exits p d start at met e stop = chain_stops (start + (length os - length met)) os exits p d at met e stop
 

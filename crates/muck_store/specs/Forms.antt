@@ -11,6 +11,7 @@ use Rattle.spec_live.specs.declared.saving.Saving.TheVariants.{Due}
 use Rattle.spec_live.specs.Chain.{walk}
 use Rattle.spec_live.specs.Objects.{Entry, dbref_of, index_of, nothing}
 unfoldable pub use Rattle.spec_live.specs.Saving.{next_in}
+use Rattle.spec_live.specs.Stood.{standing}
 use Rattle.muck_codec.specs.declared.stored.Stored.{Stored}
 use Rattle.muck_codec.specs.declared.stored.Property.{Property}
 use Rattle.muck_codec.specs.declared.stored.Batch.{Batch}
@@ -24,12 +25,12 @@ property_of e = record { path = e.0; value = e.1 }
 abbrev pub properties_of : PropMap → List Property
 properties_of m = map property_of (entries m)
 
-abbrev pub link_of : Option ℕ → Dbref
-link_of at = option_map_or dbref_of at nothing
+abbrev pub link_to_number : Option ℕ → Dbref
+link_to_number at = option_map_or dbref_of at nothing
 
-abbrev pub first_of : List ℕ → Dbref
-first_of [] = nothing
-first_of (x ∷ xs) = dbref_of x
+abbrev pub first_in_list : List ℕ → Dbref
+first_in_list [] = nothing
+first_in_list (x ∷ xs) = dbref_of x
 
 -- the stored form of the object of number k: its fields, and where its lists begin and go on
 unfoldable pub stored_of : List Entry → ℕ → Entry → Stored
@@ -42,9 +43,9 @@ stored_of es k e = record {
   place = e.object.place;
   link = e.object.link;
   home = e.object.home;
-  first_content = first_of e.contents;
-  first_exit = first_of e.exits;
-  next = link_of (next_in es k);
+  first_content = first_in_list e.contents;
+  first_exit = first_in_list e.exits;
+  next = link_to_number (next_in es k);
   name = e.object.name;
   props = properties_of e.object.props;
   lines = e.object.lines;
@@ -69,8 +70,8 @@ world_batch es tune = record { records = persist es; tune = tune }
 abbrev pub entry_at : Property → List (List ℕ) × PropValue
 entry_at p = (p.path, p.value)
 
-abbrev pub object_of : Stored → Object
-object_of s = record {
+abbrev pub stored_object : Stored → Object
+stored_object s = record {
   kind = s.kind;
   name = s.name;
   owner = s.owner;
@@ -85,19 +86,20 @@ object_of s = record {
 }
 
 -- what a record says to stand behind its object
-unfoldable pub next_at : List Stored → ℕ → Option ℕ
-next_at os k = option_and_then (λ s. index_of s.next) (slice_get os k)
+unfoldable pub next_of_stored : List Stored → ℕ → Option ℕ
+next_of_stored os k = option_and_then (λ s. index_of s.next) (slice_get os k)
 
--- an object with its lists, which are the chains that its record begins; it is due, until a dump was stored
-unfoldable pub entry_of : List Stored → Stored → Entry
-entry_of os s = record {
-  object = object_of s;
-  contents = walk (length os) (next_at os) (index_of s.first_content);
-  exits = walk (length os) (next_at os) (index_of s.first_exit);
+-- an object with its lists, which are the chains that its record begins; it is due, until a dump was stored, and hasn't moved
+unfoldable pub entry_of_stored : List Stored → Stored → Entry
+entry_of_stored os s = record {
+  object = stored_object s;
+  contents = walk (length os) (next_of_stored os) (index_of s.first_content);
+  exits = walk (length os) (next_of_stored os) (index_of s.first_exit);
   mark = None;
   saving = Due;
+  stood = standing (stored_object s);
 }
 
 -- the objects that records stand for
 unfoldable pub loaded : List Stored → List Entry
-loaded os = map (entry_of os) os
+loaded os = map (entry_of_stored os) os

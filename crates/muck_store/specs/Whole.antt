@@ -10,12 +10,12 @@ use Rattle.spec_live.specs.Chain.{has}
 use Rattle.spec_live.specs.Objects.{dbref_of, index_of, nothing, home, same, is_room, is_exit, is_player, is_garbage, may_stand}
 use Rattle.spec_live.specs.Setting.{may_link, may_live}
 use Rattle.muck_codec.specs.declared.stored.Stored.{Stored}
-use Rattle.muck_store.specs.Forms.{next_at}
+use Rattle.muck_store.specs.Forms.{next_of_stored}
 
 -- Readers. What isn't there is garbage.
 
-unfoldable pub kind_of : List Stored → ℕ → Kind
-kind_of os k = option_map_or (λ s. s.kind) (slice_get os k) Garbage
+unfoldable pub stored_kind : List Stored → ℕ → Kind
+stored_kind os k = option_map_or (λ s. s.kind) (slice_get os k) Garbage
 
 unfoldable pub seats_in : List Stored → ℕ → Bool
 seats_in os k = option_map_or (λ s. has_flag vehicle s.flags) (slice_get os k) false
@@ -35,19 +35,19 @@ abbrev pub has_chains : List Stored → Stored → Bool
 has_chains os s = may_name os s.first_content && may_name os s.first_exit && may_name os s.next
 
 abbrev pub has_owner : List Stored → Stored → Bool
-has_owner os s = leads_to (λ n. is_player (kind_of os n)) s.owner
+has_owner os s = leads_to (λ n. is_player (stored_kind os n)) s.owner
 
 -- only `#0`, a room, stands nowhere
 abbrev pub has_place : List Stored → ℕ → Stored → Bool
 has_place os zero s = is_room s.kind && not (leads_to (λ n. true) s.place) && same s.next nothing
-has_place os (suc k) s = leads_to (λ p. may_stand s.kind (kind_of os p) (seats_in os p)) s.place
+has_place os (suc k) s = leads_to (λ p. may_stand s.kind (stored_kind os p) (seats_in os p)) s.place
 
-abbrev pub has_link : List Stored → Stored → Bool
-has_link os s = same s.link nothing || (is_exit s.kind && same s.link home) || leads_to (λ n. may_link s.kind (kind_of os n)) s.link
+abbrev pub record_has_link : List Stored → Stored → Bool
+record_has_link os s = same s.link nothing || (is_exit s.kind && same s.link home) || leads_to (λ n. may_link s.kind (stored_kind os n)) s.link
 
 abbrev pub home_for : Kind → List Stored → Stored → Bool
-home_for Thing os s = leads_to (λ n. may_live s.kind (kind_of os n)) s.home
-home_for Player os s = leads_to (λ n. may_live s.kind (kind_of os n)) s.home
+home_for Thing os s = leads_to (λ n. may_live s.kind (stored_kind os n)) s.home
+home_for Player os s = leads_to (λ n. may_live s.kind (stored_kind os n)) s.home
 home_for kind os s = same s.home nothing
 
 -- named as garbage is, of `#1`, with no other object named, and in no list
@@ -57,29 +57,29 @@ is_loose s =
     && same s.first_content nothing && same s.first_exit nothing && same s.next nothing
 
 -- garbage is blank
-abbrev pub is_blank : Stored → Bool
-is_blank s = is_loose s && s.flags.0 == 0 && s.level == 0 && length s.props == 0 && length s.lines == 0 && length s.digest == 0
+abbrev pub is_blank_record : Stored → Bool
+is_blank_record s = is_loose s && s.flags.0 == 0 && s.level == 0 && length s.props == 0 && length s.lines == 0 && length s.digest == 0
 
-abbrev pub is_tied : List Stored → ℕ → Stored → Bool
-is_tied os k s = if is_garbage s.kind then is_blank s else has_owner os s && has_place os k s && has_link os s && home_for s.kind os s && has_chains os s
+abbrev pub agrees_with_records : List Stored → ℕ → Stored → Bool
+agrees_with_records os k s = if is_garbage s.kind then is_blank_record s else has_owner os s && has_place os k s && record_has_link os s && home_for s.kind os s && has_chains os s
 
 -- each record has the number of its place, and agrees with the kinds of what it names; the first is of number k
 unfoldable pub all_tied : List Stored → ℕ → List Stored → Bool
 all_tied os k [] = true
-all_tied os k (s ∷ rest) = same s.dbref (dbref_of k) && is_tied os k s && all_tied os (suc k) rest
+all_tied os k (s ∷ rest) = same s.dbref (dbref_of k) && agrees_with_records os k s && all_tied os (suc k) rest
 
 -- All lists together, from `#0` on down.
 
 -- d has its place there, and is an exit or not
-abbrev pub stands_in : List Stored → Bool → ℕ → ℕ → Bool
-stands_in os exits p d = option_map_or (λ s. same s.place (dbref_of p) && (if is_exit s.kind then exits else not exits)) (slice_get os d) false
+abbrev pub record_stands_in : List Stored → Bool → ℕ → ℕ → Bool
+record_stands_in os exits p d = option_map_or (λ s. same s.place (dbref_of p) && (if is_exit s.kind then exits else not exits)) (slice_get os d) false
 
 -- The numbers met so far, with those of the chain from there on behind them; none where one of these was met before, or doesn't stand
 -- there. The chain has fewer than n links.
 unfoldable pub chain_met : ℕ → List Stored → Bool → ℕ → Option ℕ → List ℕ → Option (List ℕ)
 chain_met zero os exits p at met = None
 chain_met (suc n) os exits p None met = Some met
-chain_met (suc n) os exits p (Some d) met = if stands_in os exits p d && not (has d met) then chain_met n os exits p (next_at os d) (met ++ d ∷ []) else None
+chain_met (suc n) os exits p (Some d) met = if record_stands_in os exits p d && not (has d met) then chain_met n os exits p (next_of_stored os d) (met ++ d ∷ []) else None
 
 abbrev pub first_at : Bool → List Stored → ℕ → Option ℕ
 first_at exits os p = option_and_then (λ s. index_of (if exits then s.first_exit else s.first_content)) (slice_get os p)
@@ -102,5 +102,5 @@ is_tree os = option_map_or (λ met. length met == count_by (λ s. not (is_garbag
 
 -- There are `#0` and `#1`, a player; each record agrees with the kinds of what it names; and each object but `#0` and garbage stands
 -- in the list of its place alone, once, and its places lead up to `#0`.
-unfoldable pub is_whole : List Stored → Bool
-is_whole os = is_player (kind_of os 1) && all_tied os 0 os && is_tree os
+unfoldable pub is_whole_store : List Stored → Bool
+is_whole_store os = is_player (stored_kind os 1) && all_tied os 0 os && is_tree os

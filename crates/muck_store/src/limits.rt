@@ -1,13 +1,13 @@
 // The limits of the values of a record.
 ghost use Rattle.std.specs.Prelude.{◌≡◌};
 ghost use Rattle.std.specs.List.{list_all};
-ghost use Rattle.muck_store.specs.Limits.{is_digit, is_digest, fits};
+ghost use Rattle.muck_store.specs.Limits.{is_hex_digit, is_digest, record_fits};
 
 use muck_codec::Stored;
 use muck_model::LINES_MOST;
 
 fn are_digits(bytes: &[u8]) -> bool
-    ensures { result ≡ list_all is_digit bytes.now }
+    ensures { result ≡ list_all is_hex_digit bytes.now }
 {
     bytes
         .iter()
@@ -22,9 +22,9 @@ fn is_digest(digest: &[u8]) -> bool
 }
 
 /// Whether every value of a record is within its limits.
-#[tactic(auto, unfolding(crate::specs::Limits::fits))]
+#[tactic(auto, unfolding(crate::specs::Limits::record_fits))]
 pub fn fits(record: &Stored) -> bool
-    ensures { result ≡ fits record.now }
+    ensures { result ≡ record_fits record.now }
 {
     let name = record.name.as_slice().len();
     name >= 1

@@ -1,8 +1,8 @@
 // What records say of an object, by its number. What isn't there is garbage.
 ghost use Rattle.std.specs.Prelude.{◌≡◌, ◌<◌, length, true, false};
 ghost use Rattle.spec_live.specs.Objects.{dbref_of, index_of, same, is_player};
-ghost use Rattle.muck_store.specs.Forms.{next_at};
-ghost use Rattle.muck_store.specs.Whole.{kind_of, seats_in, first_at};
+ghost use Rattle.muck_store.specs.Forms.{next_of_stored};
+ghost use Rattle.muck_store.specs.Whole.{stored_kind, seats_in, first_at};
 
 use muck_codec::Stored;
 use muck_model::{Dbref, Kind};
@@ -35,9 +35,9 @@ pub fn is_number(d: Dbref, k: u32) -> bool
     i64::from(d.0) == i64::from(k)
 }
 
-#[tactic(auto, unfolding(crate::specs::Whole::kind_of))]
+#[tactic(auto, unfolding(crate::specs::Whole::stored_kind))]
 pub fn kind_of(records: &[Stored], k: u32) -> Kind
-    ensures value { result ≡ kind_of records.now k }
+    ensures value { result ≡ stored_kind records.now k }
     ensures within { is_player result ≡ true → k < length records.now }
 {
     match records.get(k as usize) {
@@ -58,9 +58,9 @@ pub fn seats_in(records: &[Stored], k: u32) -> bool
 }
 
 // What stands behind it in its list.
-#[tactic(auto, unfolding(crate::specs::Forms::next_at))]
+#[tactic(auto, unfolding(crate::specs::Forms::next_of_stored))]
 pub fn next_at(records: &[Stored], k: u32) -> Option<u32>
-    ensures { result ≡ next_at records.now k }
+    ensures { result ≡ next_of_stored records.now k }
 {
     match records.get(k as usize) {
         Some(stored) => index_of(stored.next),

@@ -1,7 +1,7 @@
 // Each record by itself, with the kinds of what it names.
 ghost use Rattle.std.specs.Prelude.{◌≡◌, ◌≤◌, ◌&&◌, true, not, length};
 ghost use Rattle.spec_live.specs.Objects.{dbref_of, same};
-ghost use Rattle.muck_store.specs.Whole.{all_tied, has_chains, has_link, has_owner, has_place, home_for, is_blank, is_loose, is_tied, leads_to, may_name};
+ghost use Rattle.muck_store.specs.Whole.{all_tied, has_chains, record_has_link, has_owner, has_place, home_for, is_blank_record, is_loose, agrees_with_records, leads_to, may_name};
 
 use crate::kinds::{is_exit, is_garbage, is_player, is_room, may_link, may_live, may_stand};
 use crate::records::{HOME, NOTHING, index_of, is_number, kind_of, same, seats_in};
@@ -62,7 +62,7 @@ fn has_place(records: &[Stored], k: u32, stored: &Stored) -> bool
 
 // Whether it may lead where it says.
 fn has_link(records: &[Stored], stored: &Stored) -> bool
-    ensures { result ≡ has_link records.now stored.now }
+    ensures { result ≡ record_has_link records.now stored.now }
 {
     if same(stored.link, NOTHING) || is_exit(stored.kind) && same(stored.link, HOME) {
         return true;
@@ -102,7 +102,7 @@ fn is_loose(stored: &Stored) -> bool
 
 // Whether nothing is kept of it.
 fn is_blank(stored: &Stored) -> bool
-    ensures { result ≡ is_blank stored.now }
+    ensures { result ≡ is_blank_record stored.now }
 {
     is_loose(stored)
         && stored.flags.0 == 0
@@ -113,7 +113,7 @@ fn is_blank(stored: &Stored) -> bool
 }
 
 fn is_tied(records: &[Stored], k: u32, stored: &Stored) -> bool
-    ensures { result ≡ is_tied records.now k stored.now }
+    ensures { result ≡ agrees_with_records records.now k stored.now }
 {
     if is_garbage(stored.kind) {
         return is_blank(stored);
@@ -127,7 +127,7 @@ fn is_tied(records: &[Stored], k: u32, stored: &Stored) -> bool
 
 // Whether it has that number, and agrees with the kinds of what it names.
 fn is_right(records: &[Stored], k: u32, stored: &Stored) -> bool
-    ensures { result ≡ (same stored.now.dbref (dbref_of k) && is_tied records.now k stored.now) }
+    ensures { result ≡ (same stored.now.dbref (dbref_of k) && agrees_with_records records.now k stored.now) }
 {
     is_number(stored.dbref, k) && is_tied(records, k, stored)
 }

@@ -2,7 +2,7 @@
 ghost use Rattle.std.specs.Prelude.{◌≡◌, ◌<◌, ◌≤◌, length, true, not, None, Some, if◌then◌else◌, IfOk};
 ghost use Rattle.std.specs.List.{count_by};
 ghost use Rattle.spec_live.specs.Objects.{is_garbage};
-ghost use Rattle.muck_store.specs.Whole.{all_met, held_met, is_tree, list_met, stands_in};
+ghost use Rattle.muck_store.specs.Whole.{all_met, held_met, is_tree, list_met, record_stands_in};
 
 use crate::kinds::{is_exit, is_garbage};
 use crate::met::Met;
@@ -13,7 +13,7 @@ use std::alloc::Global;
 
 // Whether d has its place there, and is an exit or not.
 fn stands_in(records: &[Stored], exits: bool, p: u32, d: u32) -> bool
-    ensures value { result ≡ stands_in records.now exits p d }
+    ensures value { result ≡ record_stands_in records.now exits p d }
     ensures within { result ≡ true → d < length records.now }
 {
     match records.get(d as usize) {

@@ -1,3 +1,5 @@
+pub mod Hooks
+pub mod Speaking
 pub mod Outcomes
 pub mod Turns
 pub mod Settling

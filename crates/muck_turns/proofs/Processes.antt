@@ -10,7 +10,7 @@ use Rattle.muf_model.specs.Answer.{stack_most}
 use Rattle.muf_model.specs.Datum.{Datum, int}
 use Rattle.muf_model.specs.inner.View.{view}
 use Rattle.muf_model.specs.inner.Flat.{Flat}
-use Rattle.muf_model.specs.Source.{Source, handed, locked_of, passed, passed_at}
+use Rattle.muf_model.specs.Source.{Source, handed, locked_of, item_passed, passed_at}
 use Rattle.muf_model.specs.Tree.{Block, word}
 use Rattle.muf_frame.specs.declared.fault.PrimFault.{PrimFault}
 use Rattle.muf_frame.specs.declared.fault.PrimFault.TheVariants.{Fault as FrameFault}
@@ -23,15 +23,15 @@ use Rattle.spec_rights.specs.declared.act.Actor.{Actor}
 use Rattle.muck_queue.specs.declared.process.Process.{Process}
 use Rattle.muck_queue.specs.Queues.{Queue as Table, process}
 use Rattle.spec_processes.specs.declared.place.Place.{Place}
-use Rattle.spec_processes.specs.ProcessRows.{Effect, gives, waits, forks, enters, starts, refuses, processed, Doing, process_row, done_in}
+use Rattle.spec_processes.specs.ProcessRows.{Effect, gives, waits, forks, enters, starts, refuses, processed, ProcessDoing, process_row, done_in}
 use Rattle.prim_proc.specs.inner.Applied.{HasStack, IsLeft, called_items}
 use Rattle.prim_proc.specs.declared.after.After.{After}
 use Rattle.prim_proc.specs.declared.after.After.TheVariants.{Go, Wait, Fork, Call, Queue}
 use Rattle.spec_events.specs.declared.starting.Agent.{Agent}
 use Rattle.spec_events.specs.declared.starting.Call.{Call as Started}
-use Rattle.spec_events.specs.Starting.{joined}
+use Rattle.spec_events.specs.Starting.{process_joined}
 use Rattle.spec_events.specs.World.{World}
-use Rattle.spec_events.specs.Slices.{Deed, does, rests, fails, acting, behind, child_joined, child_of, effected, form_called, forked, nearest, place_in, process_done, program_called, queued, with_number}
+use Rattle.spec_events.specs.Slices.{SharedEffect, does, rests, fails, acting, state_behind, child_joined, child_of, effected, form_called, forked, nearest, place_of_use, process_done, program_called, queued, with_number}
 use Rattle.muck_turns.specs.declared.state.deeds.Done.{Done}
 use Rattle.muck_turns.specs.declared.state.deeds.Done.TheVariants.{Does as DoneDoes, Rests as DoneRests, Fails as DoneFails}
 use Rattle.muck_turns.specs.declared.state.deeds.DeedFault.{DeedFault}
@@ -45,15 +45,15 @@ handed_more : (x : Datum) (stack : List Datum) (s : Source) (b : Block) → leng
 handed_more x stack s (word line w next) l = ap (λ (y : List Datum). record s { stack = y; now = next }) (cond-true _ _ _ (lt-ltb (length stack) stack_most l))
 handed_more x stack s _ l = ap (λ (y : List Datum). record s { stack = y }) (cond-true _ _ _ (lt-ltb (length stack) stack_most l))
 
-pub handed_behind : (x : Datum) (stack : List Datum) (s : Source) → length stack < stack_most → handed x (behind stack s) ≡ behind (x ∷ stack) s
+pub handed_behind : (x : Datum) (stack : List Datum) (s : Source) → length stack < stack_most → handed x (state_behind stack s) ≡ state_behind (x ∷ stack) s
 handed_behind x stack s l = handed_more x stack s s.now l
 
 -- the parent of a child gets its number
-pub numbered_so : (stack : List Datum) (s : Source) (r : World × Result ℤ MufFault) (v : World) (n : ℤ) (t : Source) → length stack < stack_most → v ≡ r.0 → n ≡ child_number r → t ≡ handed (int n) (behind stack s) → with_number stack s r ≡ does t v
+pub numbered_so : (stack : List Datum) (s : Source) (r : World × Result ℤ MufFault) (v : World) (n : ℤ) (t : Source) → length stack < stack_most → v ≡ r.0 → n ≡ child_number r → t ≡ handed (int n) (state_behind stack s) → with_number stack s r ≡ does t v
 numbered_so stack s (w, Ok m) v n t room is same at =
-    ap (λ k. does (behind (int k ∷ stack) s) w) (sym same) ∙ ap (does (behind (int n ∷ stack) s)) (sym is) ∙ ap (λ y. does y v) (sym (at ∙ handed_behind (int n) stack s room))
+    ap (λ k. does (state_behind (int k ∷ stack) s) w) (sym same) ∙ ap (does (state_behind (int n ∷ stack) s)) (sym is) ∙ ap (λ y. does y v) (sym (at ∙ handed_behind (int n) stack s room))
 numbered_so stack s (w, Err f) v n t room is same at =
-    ap (λ k. does (behind (int k ∷ stack) s) w) (sym same) ∙ ap (does (behind (int n ∷ stack) s)) (sym is) ∙ ap (λ y. does y v) (sym (at ∙ handed_behind (int n) stack s room))
+    ap (λ k. does (state_behind (int k ∷ stack) s) w) (sym same) ∙ ap (does (state_behind (int n ∷ stack) s)) (sym is) ∙ ap (λ y. does y v) (sym (at ∙ handed_behind (int n) stack s room))
 
 -- the program that called the running one is the first of them
 pub first_nearest : (ds : List Dbref) → slice_get ds 0 ≡ nearest ds
@@ -65,40 +65,36 @@ pub if_done : {E : Type 0} (r : Result Done E) (P Q : Done → Type 0) → ((d :
 if_done (Ok d) P Q k h = k d h
 if_done (Err e) P Q k h = h
 
--- what holds of a value holds of the same one
-pub moved : {A : Type 0} (P : A → Type 0) (x y : A) → P x → x ≡ y → P y
-moved P x y h e = subst P e h
-
 -- FORK is done where a child joined, or there was no room for it
 pub child_joins : (pid : ℤ) (running t : Source) (w v : World) (n : ℤ) (o : Option Process) → process pid w.queue ≡ o → Bears o running w v n → t ≡ handed (int n) running →
-    (s : Source) (stack : List Datum) → running ≡ behind stack s → length stack < 1024 → forked pid stack s w ≡ does t v
+    (s : Source) (stack : List Datum) → running ≡ state_behind stack s → length stack < 1024 → forked pid stack s w ≡ does t v
 unfolding forked
 child_joins pid running t w v n None there h so s stack at room = absurd h
 child_joins pid running t w v n (Some p) there h so s stack at room =
     ap (λ o. child_joined o stack s w) there
-    ∙ numbered_so stack s (joined (child_of w.moment (handed (int (pos 0)) (behind stack s)) p) w) v n t room
-    (h.1 ∙ ap (λ y. (joined (child_of w.moment (handed (int (pos 0)) y) p) w).0) at)
-    (h.0 ∙ ap (λ y. child_number (joined (child_of w.moment (handed (int (pos 0)) y) p) w)) at)
+    ∙ numbered_so stack s (process_joined (child_of w.moment (handed (int (pos 0)) (state_behind stack s)) p) w) v n t room
+    (h.1 ∙ ap (λ y. (process_joined (child_of w.moment (handed (int (pos 0)) y) p) w).0) at)
+    (h.0 ∙ ap (λ y. child_number (process_joined (child_of w.moment (handed (int (pos 0)) y) p) w)) at)
     (so ∙ ap (handed (int n)) at)
 
 -- a primitive of processes isn't used where its process isn't there
-there_in : (own : Option Process) (doing : Option Doing) (p : Name) (x : Place) (a : Actor) (locked : ℕ) (stack : List Datum) (w : Live) (q : Table) (rest : List Datum) → done_in own doing p x a locked stack w q ≡ forks rest → is_some own ≡ true
+there_in : (own : Option Process) (doing : Option ProcessDoing) (p : Name) (x : Place) (a : Actor) (locked : ℕ) (stack : List Datum) (w : Live) (q : Table) (rest : List Datum) → done_in own doing p x a locked stack w q ≡ forks rest → is_some own ≡ true
 there_in (Some own) doing p x a locked stack w q rest e = refl
 there_in None None p x a locked stack w q rest e = absurd cc
 there_in None (Some doing) p x a locked stack w q rest e = absurd cc
 
-module _ (pid : ℤ) (x : Agent) (p : Name) (a : Actor) (place : Place) (es : List Entered) (f g : Shown) (w v : World) (s : Source) (r : Result After PrimFault) (actor : a ≡ acting x s w.live.objects) (here : place ≡ place_in pid s w)
+module _ (pid : ℤ) (x : Agent) (p : Name) (a : Actor) (place : Place) (es : List Entered) (f g : Shown) (w v : World) (s : Source) (r : Result After PrimFault) (actor : a ≡ acting x s w.live.objects) (here : place ≡ place_of_use pid s w)
     (apart : Apart es (flat f) s) (shows : Shows (flat f) s) (applied : ProcessAppliedTo (processed p place a (locked_by (flat f).marks) (flat f).stack w.live w.queue) f g w v r) where
   -- what it does, as it is seen by the process
   abbrev effect : Effect
-  effect = processed p (place_in pid s w) (acting x s w.live.objects) (locked_of s.marks) s.stack w.live w.queue
+  effect = processed p (place_of_use pid s w) (acting x s w.live.objects) (locked_of s.marks) s.stack w.live w.queue
 
   seen : processed p place a (locked_by (flat f).marks) (flat f).stack w.live w.queue ≡ effect
   seen =
       ap (λ y. processed p y a (locked_by (flat f).marks) (flat f).stack w.live w.queue) here
-      ∙ ap (λ y. processed p (place_in pid s w) y (locked_by (flat f).marks) (flat f).stack w.live w.queue) actor
-      ∙ ap (λ y. processed p (place_in pid s w) (acting x s w.live.objects) y (flat f).stack w.live w.queue) shows.locked
-      ∙ ap (λ y. processed p (place_in pid s w) (acting x s w.live.objects) (locked_of s.marks) y w.live w.queue) shows.stack
+      ∙ ap (λ y. processed p (place_of_use pid s w) y (locked_by (flat f).marks) (flat f).stack w.live w.queue) actor
+      ∙ ap (λ y. processed p (place_of_use pid s w) (acting x s w.live.objects) y (flat f).stack w.live w.queue) shows.locked
+      ∙ ap (λ y. processed p (place_of_use pid s w) (acting x s w.live.objects) (locked_of s.marks) y w.live w.queue) shows.stack
 
   applied_as : (q : Result After PrimFault) → r ≡ q → ProcessAppliedTo effect f g w v q
   applied_as q e = subst (λ y. ProcessAppliedTo y f g w v q) seen (subst (λ y. ProcessAppliedTo (processed p place a (locked_by (flat f).marks) (flat f).stack w.live w.queue) f g w v y) e applied)
@@ -106,13 +102,13 @@ module _ (pid : ℤ) (x : Agent) (p : Name) (a : Actor) (place : Place) (es : Li
   -- behind it
 
   abbrev IsBehind : Source → Type 0
-  IsBehind t = (e : Flat) (q : Source) → Apart es e q → Differs e (flat g) → t ≡ passed (with_frame (flat g) q)
+  IsBehind t = (e : Flat) (q : Source) → Apart es e q → Differs e (flat g) → t ≡ item_passed (with_frame (flat g) q)
 
-  behind_with : (stack : List Datum) (t : Source) → HasStack stack f g → IsBehind t → t ≡ behind stack s
+  behind_with : (stack : List Datum) (t : Source) → HasStack stack f g → IsBehind t → t ≡ state_behind stack s
   behind_with stack t h so = so (flat f) s apart (stack_differs stack f g h) ∙ sym (stack_behind stack f g s shows h)
 
   go_by : (e : Effect) (t : Source) → ProcessAppliedTo e f g w v (Ok Go) → IsBehind t → effected pid x s w e ≡ does t v
-  go_by (gives stack live queue) t h so = ap (does (behind stack s)) (sym h.1) ∙ ap (λ y. does y v) (sym (behind_with stack t h.0 so))
+  go_by (gives stack live queue) t h so = ap (does (state_behind stack s)) (sym h.1) ∙ ap (λ y. does y v) (sym (behind_with stack t h.0 so))
   go_by _ t h so = absurd h
 
   pub go_done : (t : Source) → r ≡ Ok Go → IsBehind t → process_done pid x p s w ≡ does t v
@@ -120,7 +116,7 @@ module _ (pid : ℤ) (x : Agent) (p : Name) (a : Actor) (place : Place) (es : Li
   go_done t e so = go_by effect t (applied_as (Ok Go) e) so
 
   wait_by : (e : Effect) (t : Source) → ProcessAppliedTo e f g w v (Ok Wait) → IsBehind t → effected pid x s w e ≡ rests t v
-  wait_by (waits n stack queue) t h so = ap (rests (behind stack s)) (sym h.1) ∙ ap (λ y. rests y v) (sym (behind_with stack t h.0 so))
+  wait_by (waits n stack queue) t h so = ap (rests (state_behind stack s)) (sym h.1) ∙ ap (λ y. rests y v) (sym (behind_with stack t h.0 so))
   wait_by _ t h so = absurd h
 
   pub wait_done : (t : Source) → r ≡ Ok Wait → IsBehind t → process_done pid x p s w ≡ rests t v
@@ -131,20 +127,20 @@ module _ (pid : ℤ) (x : Agent) (p : Name) (a : Actor) (place : Place) (es : Li
 
   fork_there_by : (e : Effect) → effect ≡ e → ProcessAppliedTo e f g w v (Ok Fork) → is_some (process pid v.queue) ≡ true
   unfolding processed
-  fork_there_by (forks stack) e h = ap (λ (y : World). is_some (process pid y.queue)) h.2 ∙ there_in (process pid w.queue) (process_row p) p (place_in pid s w) (acting x s w.live.objects) (locked_of s.marks) s.stack w.live w.queue stack e
+  fork_there_by (forks stack) e h = ap (λ (y : World). is_some (process pid y.queue)) h.2 ∙ there_in (process pid w.queue) (process_row p) p (place_of_use pid s w) (acting x s w.live.objects) (locked_of s.marks) s.stack w.live w.queue stack e
   fork_there_by _ e h = absurd h
 
   pub fork_there : r ≡ Ok Fork → is_some (process pid v.queue) ≡ true
   fork_there e = fork_there_by effect refl (applied_as (Ok Fork) e)
 
-  fork_by : (e : Effect) (t n : Source) (u : World) → ProcessAppliedTo e f g w v (Ok Fork) → IsBehind t → ((q : Source) (stack : List Datum) → t ≡ behind stack q → length stack < 1024 → forked pid stack q v ≡ does n u) → effected pid x s w e ≡ does n u
+  fork_by : (e : Effect) (t n : Source) (u : World) → ProcessAppliedTo e f g w v (Ok Fork) → IsBehind t → ((q : Source) (stack : List Datum) → t ≡ state_behind stack q → length stack < 1024 → forked pid stack q v ≡ does n u) → effected pid x s w e ≡ does n u
   fork_by (forks stack) t n u (stack_is, room, is) so k = ap (forked pid stack s) (sym is) ∙ k s stack (behind_with stack t stack_is so) room
   fork_by _ t n u h so k = absurd h
 
-  pub fork_done : (m : ℤ) (t n : Source) (u : World) → m ≡ pid → r ≡ Ok Fork → IsBehind t → ((q : Source) (stack : List Datum) → t ≡ behind stack q → length stack < 1024 → forked m stack q v ≡ does n u) → process_done pid x p s w ≡ does n u
+  pub fork_done : (m : ℤ) (t n : Source) (u : World) → m ≡ pid → r ≡ Ok Fork → IsBehind t → ((q : Source) (stack : List Datum) → t ≡ state_behind stack q → length stack < 1024 → forked m stack q v ≡ does n u) → process_done pid x p s w ≡ does n u
   unfolding process_done
   fork_done m t n u same e so k =
-      fork_by effect t n u (applied_as (Ok Fork) e) so (subst (λ y. (q : Source) (stack : List Datum) → t ≡ behind stack q → length stack < 1024 → forked y stack q v ≡ does n u) same k)
+      fork_by effect t n u (applied_as (Ok Fork) e) so (subst (λ y. (q : Source) (stack : List Datum) → t ≡ state_behind stack q → length stack < 1024 → forked y stack q v ≡ does n u) same k)
 
   -- where the process stands at it still
 
@@ -183,24 +179,24 @@ module _ (pid : ℤ) (x : Agent) (p : Name) (a : Actor) (place : Place) (es : Li
   pub call_items : (program : Dbref) (name : Option (List ℕ)) (t : Source) → r ≡ Ok (Call program name) → IsAtIt t → called_items name ≤ length t.stack
   call_items program name t e so = call_items_by effect program name t (at_with t (call_frame program name e) so) (applied_as (Ok (Call program name)) e)
 
-  call_by : (e : Effect) (program : Dbref) (name : Option (List ℕ)) (t : Source) → t ≡ s → ProcessAppliedTo e f g w v (Ok (Call program name)) → effected pid x s w e ≡ program_called a (behind (drop (called_items name) t.stack) t) program.0 name v
+  call_by : (e : Effect) (program : Dbref) (name : Option (List ℕ)) (t : Source) → t ≡ s → ProcessAppliedTo e f g w v (Ok (Call program name)) → effected pid x s w e ≡ program_called a (state_behind (drop (called_items name) t.stack) t) program.0 name v
   call_by (enters stack d called) program name t at (frame, is, program_is, name_is, left) =
-      ap (λ y. program_called y (behind stack s) d called w) (sym actor)
-      ∙ ap (λ y. program_called a (behind stack s) y called w) (sym program_is)
-      ∙ ap (λ y. program_called a (behind y s) program.0 called w) (items_with (called_items called) stack t at left).1
-      ∙ ap (λ y. program_called a (behind (drop (called_items called) t.stack) y) program.0 called w) (sym at)
-      ∙ ap (λ y. program_called a (behind (drop (called_items y) t.stack) t) program.0 y w) (sym name_is)
-      ∙ ap (program_called a (behind (drop (called_items name) t.stack) t) program.0 name) (sym is)
+      ap (λ y. program_called y (state_behind stack s) d called w) (sym actor)
+      ∙ ap (λ y. program_called a (state_behind stack s) y called w) (sym program_is)
+      ∙ ap (λ y. program_called a (state_behind y s) program.0 called w) (items_with (called_items called) stack t at left).1
+      ∙ ap (λ y. program_called a (state_behind (drop (called_items called) t.stack) y) program.0 called w) (sym at)
+      ∙ ap (λ y. program_called a (state_behind (drop (called_items y) t.stack) t) program.0 y w) (sym name_is)
+      ∙ ap (program_called a (state_behind (drop (called_items name) t.stack) t) program.0 name) (sym is)
   call_by _ program name t at h = absurd h
 
   -- an answer of what is to follow is one of the primitive
-  follows : (d e : Deed World) (t : Source) (u : World) (done : Done) → t ≡ s → d ≡ e → DoneAs e t u done → DoneAs d s u done
+  follows : (d e : SharedEffect World) (t : Source) (u : World) (done : Done) → t ≡ s → d ≡ e → DoneAs e t u done → DoneAs d s u done
   follows d e t u (DoneDoes n) at same h = same ∙ h
   follows d e t u (DoneRests n) at same h = same ∙ h
   follows d e t u (DoneFails n k) at same h = (h.0 ∙ at, same ∙ h.1)
 
   pub call_done : (program : Dbref) (name : Option (List ℕ)) (t : Source) (u : World) (done : Done) → r ≡ Ok (Call program name) → IsAtIt t →
-      DoneAs (program_called a (behind (drop (called_items name) t.stack) t) program.0 name v) t u done → DoneAs (process_done pid x p s w) s u done
+      DoneAs (program_called a (state_behind (drop (called_items name) t.stack) t) program.0 name v) t u done → DoneAs (process_done pid x p s w) s u done
   unfolding process_done
   call_done program name t u done e so h =
       let at = at_with t (call_frame program name e) so in
@@ -264,8 +260,8 @@ module _ (pid : ℤ) (x : Agent) (p : Name) (a : Actor) (place : Place) (es : Li
 
 -- CALL, by how many items it takes
 pub called_so : (a : Actor) (s : Source) (program : Dbref) (name : Option (List ℕ)) (items : ℕ) (w v : World) (r : Result Entrance DeedFault) → items ≡ called_items name →
-    Enters (form_called a (behind (drop items s.stack) s) program.0 name (formed w.live.objects program w.library) w) s v r →
-    Enters (program_called a (behind (drop (called_items name) s.stack) s) program.0 name w) s v r
+    Enters (form_called a (state_behind (drop items s.stack) s) program.0 name (formed w.live.objects program w.library) w) s v r →
+    Enters (program_called a (state_behind (drop (called_items name) s.stack) s) program.0 name w) s v r
 unfolding program_called
 called_so a s program name items w v r e h =
-    subst (λ n. Enters (form_called a (behind (drop n s.stack) s) program.0 name (formed w.live.objects program w.library) w) s v r) e h
+    subst (λ n. Enters (form_called a (state_behind (drop n s.stack) s) program.0 name (formed w.live.objects program w.library) w) s v r) e h

@@ -8,10 +8,10 @@ use Rattle.spec_live.specs.declared.mark.Mark.TheVariants.{Lines, Gone}
 use Rattle.spec_live.specs.declared.mark.Changed.{Changed}
 use Rattle.spec_live.specs.declared.mark.Changed.TheVariants.{Lines as ChangedLines, Gone as ChangedGone}
 use Rattle.spec_live.specs.Objects.{Entry, dbref_of, changed_at}
-use Rattle.spec_live.specs.Marks.{unmarked, marked_from, told_of, next_change, change_told}
+use Rattle.spec_live.specs.Marks.{entry_unmarked, marked_from, told_of, next_change, change_told}
 use Rattle.spec_live.specs.Lives.{on_objects}
 use Rattle.spec_events.specs.World.{World, on_live}
-use Rattle.spec_events.specs.Following.{followed, swept, settled}
+use Rattle.spec_events.specs.Following.{mark_followed, swept, settled}
 use Rattle.spec_events.proofs.Quietly.{quietly_swept}
 use Rattle.muck_turns.specs.inner.Followed.{followed_change}
 
@@ -27,17 +27,17 @@ marks (e ∷ es) = mark_count e.mark + marks es
 -- without the first mark
 abbrev cleared_at : Option Mark → Entry → List Entry → List Entry → List Entry
 cleared_at None e es rest = e ∷ rest
-cleared_at (Some m) e es rest = unmarked e ∷ es
+cleared_at (Some m) e es rest = entry_unmarked e ∷ es
 
 abbrev cleared : List Entry → List Entry
 cleared [] = []
 cleared (e ∷ es) = cleared_at e.mark e es (cleared es)
 
-changed_later : (k : ℕ) (e : Entry) (es : List Entry) → changed_at (suc k) unmarked (e ∷ es) ≡ e ∷ changed_at k unmarked es
+changed_later : (k : ℕ) (e : Entry) (es : List Entry) → changed_at (suc k) entry_unmarked (e ∷ es) ≡ e ∷ changed_at k entry_unmarked es
 unfolding changed_at
 changed_later k e es = at (slice_get es k)
   where
-    at : (o : Option Entry) → option_map_or (λ x. slice_set (e ∷ es) (suc k) (unmarked x)) o (e ∷ es) ≡ e ∷ option_map_or (λ x. slice_set es k (unmarked x)) o es
+    at : (o : Option Entry) → option_map_or (λ x. slice_set (e ∷ es) (suc k) (entry_unmarked x)) o (e ∷ es) ≡ e ∷ option_map_or (λ x. slice_set es k (entry_unmarked x)) o es
     at None = refl
     at (Some x) = refl
 
@@ -47,16 +47,16 @@ changed_later k e es = at (slice_get es k)
 record First (n : ℕ) (es : List Entry) (k : ℕ) (m : Mark) : Type 0 where
   far : ℕ
   number : k ≡ far + n
-  clears : changed_at far unmarked es ≡ cleared es
-  sweeps : (w : World) → swept n es w ≡ swept n (cleared es) (followed m (dbref_of k) w)
+  clears : changed_at far entry_unmarked es ≡ cleared es
+  sweeps : (w : World) → swept n es w ≡ swept n (cleared es) (mark_followed m (dbref_of k) w)
   fewer : suc (marks (cleared es)) ≡ marks es
 
-at_head : (e : Entry) (es : List Entry) → changed_at 0 unmarked (e ∷ es) ≡ unmarked e ∷ es
+at_head : (e : Entry) (es : List Entry) → changed_at 0 entry_unmarked (e ∷ es) ≡ entry_unmarked e ∷ es
 unfolding changed_at
 at_head e es = refl
 
 abbrev swept_one : ℕ → Option Mark → World → World
-swept_one n o w = option_map_or (λ m. followed m (dbref_of n) w) o w
+swept_one n o w = option_map_or (λ m. mark_followed m (dbref_of n) w) o w
 
 clears_as : (e : Entry) (es : List Entry) (o : Option Mark) → e.mark ≡ o → cleared_at o e es (cleared es) ≡ cleared (e ∷ es)
 clears_as e es o h = ap (λ x. cleared_at x e es (cleared es)) (sym h)
@@ -79,13 +79,13 @@ mark_head n e es x k m h number kind = record {
   clears = at_head e es ∙ clears_as e es (Some x) h;
   sweeps = λ w.
       sym (swept_as n e es (Some x) w h)
-      ∙ swept_as n (unmarked e) es None (followed x (dbref_of n) w) refl
-      ∙ ap (λ q. swept n (unmarked e ∷ es) (followed x (dbref_of q) w)) number
-      ∙ ap (λ y. swept n (unmarked e ∷ es) (followed y (dbref_of k) w)) kind
-      ∙ ap (λ ys. swept n ys (followed m (dbref_of k) w)) (clears_as e es (Some x) h);
+      ∙ swept_as n (entry_unmarked e) es None (mark_followed x (dbref_of n) w) refl
+      ∙ ap (λ q. swept n (entry_unmarked e ∷ es) (mark_followed x (dbref_of q) w)) number
+      ∙ ap (λ y. swept n (entry_unmarked e ∷ es) (mark_followed y (dbref_of k) w)) kind
+      ∙ ap (λ ys. swept n ys (mark_followed m (dbref_of k) w)) (clears_as e es (Some x) h);
   fewer =
-      let less : marks (unmarked e ∷ es) ≡ marks (cleared (e ∷ es)) = ap marks (clears_as e es (Some x) h) in
-      omega (arith, less, marks_as (unmarked e) es None refl, marks_as e es (Some x) h);
+      let less : marks (entry_unmarked e ∷ es) ≡ marks (cleared (e ∷ es)) = ap marks (clears_as e es (Some x) h) in
+      omega (arith, less, marks_as (entry_unmarked e) es None refl, marks_as e es (Some x) h);
 }
 
 mark_behind : (n : ℕ) (e : Entry) (es : List Entry) (k : ℕ) (m : Mark) → e.mark ≡ None → First (suc n) es k m → First n (e ∷ es) k m
@@ -95,8 +95,8 @@ mark_behind n e es k m h rest = record {
   clears = changed_later rest.far e es ∙ ap (λ ys. e ∷ ys) rest.clears ∙ clears_as e es None h;
   sweeps = λ w.
       sym (swept_as n e es None w h) ∙ rest.sweeps w
-      ∙ swept_as n e (cleared es) None (followed m (dbref_of k) w) h
-      ∙ ap (λ ys. swept n ys (followed m (dbref_of k) w)) (clears_as e es None h);
+      ∙ swept_as n e (cleared es) None (mark_followed m (dbref_of k) w) h
+      ∙ ap (λ ys. swept n ys (mark_followed m (dbref_of k) w)) (clears_as e es None h);
   fewer =
       let less : marks (e ∷ cleared es) ≡ marks (cleared (e ∷ es)) = ap marks (clears_as e es None h) in
       omega (arith, less, marks_as e (cleared es) None h, marks_as e es None h, rest.fewer);
@@ -122,33 +122,33 @@ no_mark n (x ∷ es) w e = at x.mark refl (λ f. no_mark (suc n) es w f)
     at None h rest = sym (swept_as n x es None w h) ∙ rest (marked_as n x es None h ∙ e)
     at (Some y) h rest = let f : ◌≡◌ {A = Option (ℕ × Mark)} (Some (n, y)) None = marked_as n x es (Some y) h ∙ e in absurd (cc)
 
-no_mark_map : (n : ℕ) (es : List Entry) → marked_from n es ≡ None → map unmarked es ≡ es
+no_mark_map : (n : ℕ) (es : List Entry) → marked_from n es ≡ None → map entry_unmarked es ≡ es
 unfolding marked_from
 no_mark_map n [] e = refl
 no_mark_map n (x ∷ es) e = at x.mark refl (λ f. no_mark_map (suc n) es f)
   where
-    at : (o : Option Mark) → x.mark ≡ o → (marked_from (suc n) es ≡ None → map unmarked es ≡ es) → map unmarked (x ∷ es) ≡ x ∷ es
-    at None h rest = ap (λ (o : Option Mark). record x { mark = o } ∷ map unmarked es) (sym h) ∙ ap (λ ys. x ∷ ys) (rest (marked_as n x es None h ∙ e))
+    at : (o : Option Mark) → x.mark ≡ o → (marked_from (suc n) es ≡ None → map entry_unmarked es ≡ es) → map entry_unmarked (x ∷ es) ≡ x ∷ es
+    at None h rest = ap (λ (o : Option Mark). record x { mark = o } ∷ map entry_unmarked es) (sym h) ∙ ap (λ ys. x ∷ ys) (rest (marked_as n x es None h ∙ e))
     at (Some y) h rest = let f : ◌≡◌ {A = Option (ℕ × Mark)} (Some (n, y)) None = marked_as n x es (Some y) h ∙ e in absurd (cc)
 
-unmarked_twice : (es : List Entry) → map unmarked (cleared es) ≡ map unmarked es
+unmarked_twice : (es : List Entry) → map entry_unmarked (cleared es) ≡ map entry_unmarked es
 unmarked_twice [] = refl
 unmarked_twice (x ∷ es) = at x.mark refl (unmarked_twice es)
   where
-    at : (o : Option Mark) → x.mark ≡ o → map unmarked (cleared es) ≡ map unmarked es → map unmarked (cleared (x ∷ es)) ≡ map unmarked (x ∷ es)
-    at None h rest = ap (map unmarked) (sym (clears_as x es None h)) ∙ ap (λ ys. unmarked x ∷ ys) rest
-    at (Some y) h rest = ap (map unmarked) (sym (clears_as x es (Some y) h))
+    at : (o : Option Mark) → x.mark ≡ o → map entry_unmarked (cleared es) ≡ map entry_unmarked es → map entry_unmarked (cleared (x ∷ es)) ≡ map entry_unmarked (x ∷ es)
+    at None h rest = ap (map entry_unmarked) (sym (clears_as x es None h)) ∙ ap (λ ys. entry_unmarked x ∷ ys) rest
+    at (Some y) h rest = ap (map entry_unmarked) (sym (clears_as x es (Some y) h))
 
 -- What follows doesn't look at objects.
 
 abbrev with_objects : List Entry → World → World
 with_objects es w = on_live (on_objects (λ _. es)) w
 
-followed_objects : (m : Mark) (d : Dbref) (os : List Entry) (w : World) → followed m d (with_objects os w) ≡ with_objects os (followed m d w)
+followed_objects : (m : Mark) (d : Dbref) (os : List Entry) (w : World) → mark_followed m d (with_objects os w) ≡ with_objects os (mark_followed m d w)
 followed_objects Lines d os w = refl
 followed_objects Gone d os w = refl
 
-marked_objects : (o : Option Mark) (d : Dbref) (os : List Entry) (w : World) → option_map_or (λ m. followed m d (with_objects os w)) o (with_objects os w) ≡ with_objects os (option_map_or (λ m. followed m d w) o w)
+marked_objects : (o : Option Mark) (d : Dbref) (os : List Entry) (w : World) → option_map_or (λ m. mark_followed m d (with_objects os w)) o (with_objects os w) ≡ with_objects os (option_map_or (λ m. mark_followed m d w) o w)
 marked_objects None d os w = refl
 marked_objects (Some m) d os w = followed_objects m d os w
 
@@ -159,9 +159,9 @@ swept_objects n (e ∷ es) os w = ap (swept (suc n) es) (marked_objects e.mark (
 
 -- Settling.
 
-settled_as : (w : World) → settled w ≡ with_objects (map unmarked w.live.objects) (swept 0 w.live.objects w)
+settled_as : (w : World) → settled w ≡ with_objects (map entry_unmarked w.live.objects) (swept 0 w.live.objects w)
 unfolding settled
-settled_as w = ap (λ os. with_objects (map unmarked os) (swept 0 w.live.objects w)) (quietly_swept 0 w.live.objects w).objects
+settled_as w = ap (λ os. with_objects (map entry_unmarked os) (swept 0 w.live.objects w)) (quietly_swept 0 w.live.objects w).objects
 
 pub settled_none : (w : World) → next_change w.live.objects ≡ None → w ≡ settled w
 unfolding next_change
@@ -173,15 +173,15 @@ settled_none w e =
     unmapped None e = refl
     unmapped (Some p) e = cc
 
-mark_settled : (w : World) (k : ℕ) (m : Mark) → First 0 w.live.objects k m → settled (followed m (dbref_of k) (with_objects (cleared w.live.objects) w)) ≡ settled w
+mark_settled : (w : World) (k : ℕ) (m : Mark) → First 0 w.live.objects k m → settled (mark_followed m (dbref_of k) (with_objects (cleared w.live.objects) w)) ≡ settled w
 mark_settled w k m f =
     let es = w.live.objects in
     let os = cleared es in
     let d = dbref_of k in
     ap settled (followed_objects m d os w)
-    ∙ settled_as (with_objects os (followed m d w))
-    ∙ ap (with_objects (map unmarked os)) (swept_objects 0 os os (followed m d w))
-    ∙ ap (λ v. with_objects (map unmarked os) v) (sym (f.sweeps w))
+    ∙ settled_as (with_objects os (mark_followed m d w))
+    ∙ ap (with_objects (map entry_unmarked os)) (swept_objects 0 os os (mark_followed m d w))
+    ∙ ap (λ v. with_objects (map entry_unmarked os) v) (sym (f.sweeps w))
     ∙ ap (λ ys. with_objects ys (swept 0 es w)) (unmarked_twice es)
     ∙ sym (settled_as w)
 
@@ -193,7 +193,7 @@ unfolding change_told
 told_cleared es k m e =
     let f = first_mark 0 es k m e in
     let far : k ≡ f.far = omega (arith, f.number) in
-    ap (λ (o : Option (ℕ × Mark)). option_map_or (λ p. changed_at p.0 unmarked es) o es) e ∙ ap (λ n. changed_at n unmarked es) far ∙ f.clears
+    ap (λ (o : Option (ℕ × Mark)). option_map_or (λ p. changed_at p.0 entry_unmarked es) o es) e ∙ ap (λ n. changed_at n entry_unmarked es) far ∙ f.clears
 
 -- after a change is told, with what follows from it, what is left leads to the same world, and there is less
 pub record Tells (w : World) (c : Changed) : Type 0 where
@@ -226,7 +226,7 @@ pub told_none : (es : List Entry) → next_change es ≡ None → change_told es
 unfolding next_change change_told
 told_none es e = at (marked_from 0 es) e
   where
-    at : (o : Option (ℕ × Mark)) → option_map told_of o ≡ None → option_map_or (λ p. changed_at p.0 unmarked es) o es ≡ es
+    at : (o : Option (ℕ × Mark)) → option_map told_of o ≡ None → option_map_or (λ p. changed_at p.0 entry_unmarked es) o es ≡ es
     at None e = refl
     at (Some p) e = absurd (cc)
 

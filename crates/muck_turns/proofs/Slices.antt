@@ -1,5 +1,5 @@
 -- The units of a slice, many at once.
-use Rattle.std.proofs.Common.{◌≡◌, ℕ, zero, suc, ◌-◌, ◌<◌, ◌≤◌, min, List, Bool, true, false, Option, Some, None, refl, sym, ap, ◌∙◌, subst, arith, inl, inr, Result, Ok, Err, IfOk}
+use Rattle.std.proofs.Common.{◌≡◌, ℕ, zero, suc, ◌-◌, ◌<◌, ◌≤◌, min, List, Bool, true, false, Option, Some, None, refl, sym, ap, ◌∙◌, subst, arith, inl, inr}
 use Rattle.std.specs.Prelude.{ℤ}
 use Rattle.std.specs.Option.{option_map, option_and_then}
 use Rattle.std.proofs.Math.Nat.{min-le_left}
@@ -8,14 +8,14 @@ use Rattle.muck_model.specs.declared.tune.Tune.{Tune}
 use Rattle.muf_model.specs.declared.fault.MufFault.{MufFault}
 use Rattle.muf_model.specs.declared.prims.Primitive.{Primitive as Name}
 use Rattle.muf_model.specs.Source.{Source}
-use Rattle.muf_model.specs.Unit.{Outcome, goes, ended, faulted, asks, stuck, unit, units, and_then, fault}
+use Rattle.muf_model.specs.Unit.{Outcome, goes, ended, faulted, asks, stuck, unit, units, and_then, fault_met}
 use Rattle.muf_model.specs.Chains.{count, taken, programs_of, Keeps}
 use Rattle.muf_model.proofs.Chains.{taken_most, taken_some, units_keep}
 use Rattle.muf_running.specs.declared.stint.Ran.{Ran}
 use Rattle.muf_running.specs.declared.stint.Ran.TheVariants.{Going, Asking, Ended, Faulted}
 use Rattle.muf_running.specs.inner.Stints.{RanAlike, Raised}
 use Rattle.muck_queue.specs.declared.process.Process.{Process}
-use Rattle.muck_queue.specs.Queues.{Queue, process, counted, released}
+use Rattle.muck_queue.specs.Queues.{Queue, process, units_counted, released}
 use Rattle.muck_queue.proofs.Standing.{none_standing}
 use Rattle.muck_queue.proofs.Changed.{without_changed}
 use Rattle.spec_events.specs.declared.starting.Agent.{Agent}
@@ -24,7 +24,7 @@ use Rattle.spec_events.specs.Following.{settled}
 use Rattle.spec_live.specs.Lives.{tell_player}
 use Rattle.spec_live.specs.Objects.{Entry}
 use Rattle.spec_rights.specs.declared.act.Actor.{Actor}
-use Rattle.spec_events.specs.Slices.{Deed, acting, deed, program_error, stands_at, ended_one, broken, out, went, after_deed, Turn, on, rest, over, agent_of, seat_of, seat, is_through, limit_fault, slice_most, run_of, last_world, awake, sliced}
+use Rattle.spec_events.specs.Slices.{SharedEffect, acting, deed, program_error, process_stands_at, ended_one, broken, out, unit_went, after_deed, Went, on, rest, over, agent_of, seat_of, seat, is_through, limit_fault, slice_most, units_run, last_world, process_awake, sliced}
 use Rattle.spec_events.specs.Steps.{happened}
 use Rattle.muck_model.specs.declared.event.Event.TheVariants.{Slice}
 use Rattle.spec_events.specs.inner.Stints.{many_counted, unbroken, unspent, allowed}
@@ -85,11 +85,11 @@ ran_left tune level left m k x s some most is =
 
 module _ (pid : ℤ) (x : Agent) (program : ℤ) where
   -- how a run that ended so left the world, where n units were counted
-  abbrev left_so : ℕ → Outcome → World → Turn
+  abbrev left_so : ℕ → Outcome → World → Went
   left_so n o w = ran pid x n program o w
 
-  going_by : (n : ℕ) (t : Source) (w : World) (o : Outcome) → RanAlike (Going t) o → LeadsTo true (stands_at pid t (many_counted n pid w)) (left_so n o w) × (ran_units n o ≡ n)
-  going_by n t w (goes k u) h = (record { goes = refl; world = ap (λ y. stands_at pid y (many_counted n pid w)) (sym h) }, refl)
+  going_by : (n : ℕ) (t : Source) (w : World) (o : Outcome) → RanAlike (Going t) o → LeadsTo true (process_stands_at pid t (many_counted n pid w)) (left_so n o w) × (ran_units n o ≡ n)
+  going_by n t w (goes k u) h = (record { goes = refl; world = ap (λ y. process_stands_at pid y (many_counted n pid w)) (sym h) }, refl)
   going_by n t w _ h = absurd h
 
   asking_by : (n : ℕ) (p : Name) (t : Source) (w v : World) (b : Bool) (o : Outcome) → RanAlike (Asking p t) o → LeadsTo b v (after_deed pid x.player t (deed pid x p t (many_counted (suc n) pid w))) → LeadsTo b v (left_so n o w) × (ran_units n o ≡ suc n)
@@ -101,13 +101,13 @@ module _ (pid : ℤ) (x : Agent) (program : ℤ) where
   asking_by n p t w v b _ h k = absurd h
 
   ended_by : (n : ℕ) (w : World) (o : Outcome) → RanAlike Ended o → LeadsTo false (ended_one pid w) (left_so n o w)
-  ended_by n w ended h = record { goes = refl; world = ap (λ (q : Queue). record w { queue = q }) (without_changed pid (counted n) (λ p. refl) w.queue) }
+  ended_by n w ended h = record { goes = refl; world = ap (λ (q : Queue). record w { queue = q }) (without_changed pid (units_counted n) (λ p. refl) w.queue) }
   ended_by n w _ h = absurd h
 
   faulted_by : (n : ℕ) (f : MufFault) (w : World) (o : Outcome) → RanAlike (Faulted f) o → LeadsTo false (broken pid x.player program f w) (left_so n o w)
   faulted_by n f w (faulted g) h = record {
     goes = refl;
-    world = ap (λ v. on_live (tell_player x.player (program_error program g)) v) (ap (λ (q : Queue). record w { queue = q }) (without_changed pid (counted n) (λ p. refl) w.queue))
+    world = ap (λ v. on_live (tell_player x.player (program_error program g)) v) (ap (λ (q : Queue). record w { queue = q }) (without_changed pid (units_counted n) (λ p. refl) w.queue))
         ∙ ap (λ y. broken pid x.player program y w) (sym h);
   }
   faulted_by n f w _ h = absurd h
@@ -116,10 +116,10 @@ module _ (pid : ℤ) (x : Agent) (m u : ℕ) (s : Source) (w v : World) (ran : R
   alike_as : (r : Ran) → ran ≡ r → RanAlike r (units m s)
   alike_as r e = subst (λ y. RanAlike y (units m s)) e alike
 
-  pub going_so : (t : Source) (k : ℕ) → ran ≡ Going t → v ≡ stands_at pid t (many_counted u pid w) → k ≡ u → Runs pid x m s w v (Some k)
+  pub going_so : (t : Source) (k : ℕ) → ran ≡ Going t → v ≡ process_stands_at pid t (many_counted u pid w) → k ≡ u → Runs pid x m s w v (Some k)
   going_so t k e is c =
       let known = going_by pid x s.program.number (taken m s) t w (units m s) (alike_as (Going t) e) in
-      (c ∙ units_are ∙ sym known.1, subst (λ y. LeadsTo true y (left_so pid x s.program.number (taken m s) (units m s) w)) (ap (λ n. stands_at pid t (many_counted n pid w)) (sym units_are) ∙ sym is) known.0)
+      (c ∙ units_are ∙ sym known.1, subst (λ y. LeadsTo true y (left_so pid x s.program.number (taken m s) (units m s) w)) (ap (λ n. process_stands_at pid t (many_counted n pid w)) (sym units_are) ∙ sym is) known.0)
 
   asking_known : (p : Name) (t : Source) (b : Bool) (n : ℕ) (z : World) → ran ≡ Asking p t → n ≡ suc u → z ≡ many_counted n pid w → LeadsTo b v (after_deed pid x.player t (deed pid x p t z)) →
       LeadsTo b v (left_so pid x s.program.number (taken m s) (units m s) w) × (ran_units (taken m s) (units m s) ≡ suc (taken m s))
@@ -154,12 +154,12 @@ module _ (pid : ℤ) (x : Agent) (m u : ℕ) (s : Source) (w v : World) (ran : R
 -- What a run makes of the slice.
 
 module _ (tune : Tune) (pid : ℤ) where
-  after_on : (n : ℕ) (v : World) (t : Turn) → LeadsTo true v t → after_turn tune n pid t ≡ finish tune n pid v
+  after_on : (n : ℕ) (v : World) (t : Went) → LeadsTo true v t → after_turn tune n pid t ≡ finish tune n pid v
   after_on n v (on w) h = ap (finish tune n pid) h.world
   after_on n v (rest w) h = absurd (let e : false ≡ true = h.goes in cc)
   after_on n v (over w) h = absurd (let e : false ≡ true = h.goes in cc)
 
-  after_off : (n : ℕ) (v : World) (t : Turn) → LeadsTo false v t → after_turn tune n pid t ≡ v
+  after_off : (n : ℕ) (v : World) (t : Went) → LeadsTo false v t → after_turn tune n pid t ≡ v
   after_off n v (on w) h = absurd (let e : true ≡ false = h.goes in cc)
   after_off n v (rest w) h = h.world
   after_off n v (over w) h = h.world
@@ -200,7 +200,7 @@ module _ (tune : Tune) (pid : ℤ) (x : Agent) where
     through_by (inr e) = finish_through tune pid n x s w at e
 
     -- the slice is through, and it stands where it stood
-    pub through_so : a ≡ Through → v ≡ stands_at pid s (out pid w) → Stops tune pid n w v None
+    pub through_so : a ≡ Through → v ≡ process_stands_at pid s (out pid w) → Stops tune pid n w v None
     through_so e is = through_by (allowed_as Through e) ∙ sym (is ∙ stands_moved pid None s w ∙ stands_same pid x s w at)
 
     spent_by : (m : ℕ) (f : MufFault) → m ≡ n → 0 < n → is_through tune n x ≡ false → limit_fault tune (acting x s w.live.objects).level x ≡ Some f → finish tune m pid w ≡ broken pid x.player s.program.number f w
@@ -239,38 +239,33 @@ module _ (tune : Tune) (pid : ℤ) (x : Agent) where
         ∙ after_off tune pid (n - ran_units (taken m s) (units m s)) v _ h
 
 -- The whole of it: the process wakes, takes its units, and then nobody claims it.
-pub slice_so : (pid : ℤ) (tune : Tune) (most : ℕ) (w u v : World) → tune ≡ w.live.board.tune → most ≡ slice_most tune → u ≡ awake pid w → v ≡ last_world u (run_of tune most pid u) → on_queue (released pid) v ≡ happened w 0 (Slice pid)
+pub slice_so : (pid : ℤ) (tune : Tune) (most : ℕ) (w u v : World) → tune ≡ w.live.board.tune → most ≡ slice_most tune → u ≡ process_awake pid w → v ≡ last_world u (units_run tune most pid u) → on_queue (released pid) v ≡ happened w 0 (Slice pid)
 unfolding sliced
 slice_so pid tune most w u v tuned count woke is =
     ap (on_queue (released pid))
-    (is ∙ ap (λ n. last_world u (run_of tune n pid u)) count ∙ ap (λ t. last_world u (run_of t (slice_most t) pid u)) tuned
-    ∙ ap (λ y. last_world y (run_of w.live.board.tune (slice_most w.live.board.tune) pid y)) woke)
+    (is ∙ ap (λ n. last_world u (units_run tune n pid u)) count ∙ ap (λ t. last_world u (units_run t (slice_most t) pid u)) tuned
+    ∙ ap (λ y. last_world y (units_run w.live.board.tune (slice_most w.live.board.tune) pid y)) woke)
 
 -- A shared primitive.
 
 module _ (pid : ℤ) (player : Dbref) where
   -- a fault is caught, or not
-  pub caught_so : (program : ℤ) (f : MufFault) (s r : Source) (w v : World) → Raised f s (Some r) → v ≡ stands_at pid r w → LeadsTo true v (went pid player program (fault f s) w)
+  pub caught_so : (program : ℤ) (f : MufFault) (s r : Source) (w v : World) → Raised f s (Some r) → v ≡ process_stands_at pid r w → LeadsTo true v (unit_went pid player program (fault_met f s) w)
   caught_so program f s r w v h is =
-      subst (λ o. LeadsTo true v (went pid player program o w)) (sym h.1) (record { goes = refl; world = sym is })
+      subst (λ o. LeadsTo true v (unit_went pid player program o w)) (sym h.1) (record { goes = refl; world = sym is })
 
-  pub uncaught_so : (program : ℤ) (f : MufFault) (s : Source) (w v : World) → Raised f s None → v ≡ broken pid player program f w → LeadsTo false v (went pid player program (fault f s) w)
+  pub uncaught_so : (program : ℤ) (f : MufFault) (s : Source) (w v : World) → Raised f s None → v ≡ broken pid player program f w → LeadsTo false v (unit_went pid player program (fault_met f s) w)
   uncaught_so program f s w v h is =
-      subst (λ o. LeadsTo false v (went pid player program o w)) (sym h) (record { goes = refl; world = sym is })
+      subst (λ o. LeadsTo false v (unit_went pid player program o w)) (sym h) (record { goes = refl; world = sym is })
 
   -- it was done, and the process goes on or waits; or it was refused
-  pub done_so : (d : Deed World) (s t : Source) (u v : World) → DoneAs d s u (DoneDoes t) → v ≡ settled (stands_at pid t u) → LeadsTo true v (after_deed pid player s d)
+  pub done_so : (d : SharedEffect World) (s t : Source) (u v : World) → DoneAs d s u (DoneDoes t) → v ≡ settled (process_stands_at pid t u) → LeadsTo true v (after_deed pid player s d)
   done_so d s t u v h is = subst (λ y. LeadsTo true v (after_deed pid player s y)) (sym h) (record { goes = refl; world = sym is })
 
-  pub rested_so : (d : Deed World) (s t : Source) (u v : World) → DoneAs d s u (DoneRests t) → v ≡ settled (stands_at pid t u) → LeadsTo false v (after_deed pid player s d)
+  pub rested_so : (d : SharedEffect World) (s t : Source) (u v : World) → DoneAs d s u (DoneRests t) → v ≡ settled (process_stands_at pid t u) → LeadsTo false v (after_deed pid player s d)
   rested_so d s t u v h is = subst (λ y. LeadsTo false v (after_deed pid player s y)) (sym h) (record { goes = refl; world = sym is })
 
-  pub failed_so : (d : Deed World) (s t : Source) (f : MufFault) (u v : World) (b : Bool) → DoneAs d s u (DoneFails t f) → LeadsTo b v (went pid player t.program.number (fault f t) u) → LeadsTo b v (after_deed pid player s d)
+  pub failed_so : (d : SharedEffect World) (s t : Source) (f : MufFault) (u v : World) (b : Bool) → DoneAs d s u (DoneFails t f) → LeadsTo b v (unit_went pid player t.program.number (fault_met f t) u) → LeadsTo b v (after_deed pid player s d)
   failed_so d s t f u v b h is =
       subst (λ y. LeadsTo b v (after_deed pid player s y)) (sym h.1)
-      (subst (λ y. LeadsTo b v (went pid player y.program.number (fault f y) u)) h.0 is)
-
--- what holds of an answer, so does what follows from it
-pub if_ok_as : {X E : Type 0} (r : Result X E) (A B : X → Type 0) → ((x : X) → A x → B x) → IfOk r A → IfOk r B
-if_ok_as (Ok x) A B f h = f x h
-if_ok_as (Err e) A B f h = h
+      (subst (λ y. LeadsTo b v (unit_went pid player y.program.number (fault_met f y) u)) h.0 is)

@@ -1,4 +1,5 @@
 pub mod Followed
 pub mod Deeds
+pub mod Hooks
 pub mod Limits
 pub mod Seeing

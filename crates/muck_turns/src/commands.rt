@@ -3,7 +3,7 @@ ghost use Rattle.std.specs.Prelude.{◌≡◌, OnOk};
 ghost use Rattle.spec_commands.specs.Finding.{actor_of};
 ghost use Rattle.spec_commands.specs.Commands.{commanded, begins_with_sign, played};
 ghost use Rattle.spec_admin.specs.Lines.{after_line};
-ghost use Rattle.spec_events.specs.Lines.{by_keeper, typed, left_by};
+ghost use Rattle.spec_events.specs.Lines.{by_keeper, typed, processes_after_line};
 ghost use Rattle.muck_perm.specs.inner.Guards.{world_of};
 ghost use Rattle.cmd_common.specs.inner.Plays.{Plays};
 
@@ -29,10 +29,10 @@ pub fn actor_of(db: &Db, player: Dbref) -> Actor
 
 /// Does a line of a player: one of players or builders, or else one of keepers, which may end a process; what is none of
 /// these is told so.
-#[tactic(auto, unfolding(spec_events::specs::Lines::typed, spec_events::specs::Lines::left_by, spec_commands::specs::Commands::or_else), using(crate::proofs::Outcomes::or_next_mine, crate::proofs::Outcomes::ended_behind_mine))]
+#[tactic(auto, unfolding(spec_events::specs::Lines::typed, spec_events::specs::Lines::processes_after_line, spec_commands::specs::Commands::play_or_else), using(crate::proofs::Outcomes::or_next_mine, crate::proofs::Outcomes::ended_behind_mine))]
 pub fn play(guard: &mut Guard, queue: &mut Queue, d: u32, line: &Line) -> Result<Outcome, NoMemory>
     ensures plays { Plays (typed queue.old d guard.old.actor line.now) guard.old guard.new result }
-    ensures queue { OnOk result (queue.new ≡ left_by d guard.old.actor line.now (world_of guard.old) queue.old) }
+    ensures queue { OnOk result (queue.new ≡ processes_after_line d guard.old.actor line.now (world_of guard.old) queue.old) }
 {
     match by_player(guard, queue, d, line)? {
         Outcome::NotMine => by_keeper(guard, queue, d, line),
@@ -41,7 +41,7 @@ pub fn play(guard: &mut Guard, queue: &mut Queue, d: u32, line: &Line) -> Result
 }
 
 // Does a line that is neither a player's nor a builder's.
-#[tactic(auto, unfolding(spec_events::specs::Lines::by_keeper, spec_commands::specs::Commands::or_else, spec_commands::specs::Going::ended, spec_commands::specs::Replies::huh), using(crate::proofs::Outcomes::or_next_mine))]
+#[tactic(auto, unfolding(spec_events::specs::Lines::by_keeper, spec_commands::specs::Commands::play_or_else, spec_commands::specs::Going::ended, spec_commands::specs::Replies::huh), using(crate::proofs::Outcomes::or_next_mine))]
 fn by_keeper(guard: &mut Guard, queue: &mut Queue, d: u32, line: &Line) -> Result<Outcome, NoMemory>
     ensures plays { Plays (by_keeper queue.old d guard.old.actor line.now) guard.old guard.new result }
     ensures queue { OnOk result (queue.new ≡ after_line guard.old.actor line.now (world_of guard.old) queue.old) }
@@ -80,7 +80,7 @@ fn begins_with_sign(line: &Line) -> bool
 }
 
 // Does a line that no exit takes.
-#[tactic(auto, unfolding(spec_commands::specs::Commands::commanded, spec_commands::specs::Commands::or_else), using(crate::proofs::Outcomes::or_next_mine))]
+#[tactic(auto, unfolding(spec_commands::specs::Commands::commanded, spec_commands::specs::Commands::play_or_else), using(crate::proofs::Outcomes::or_next_mine))]
 fn command(guard: &mut Guard, queue: &mut Queue, d: u32, line: &Line) -> Result<Outcome, NoMemory>
     ensures plays { Plays (commanded d guard.old.actor line.now) guard.old guard.new result }
     ensures queue { queue.new ≡ queue.old }

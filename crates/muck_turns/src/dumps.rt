@@ -2,7 +2,7 @@
 ghost use Rattle.std.specs.Prelude.{◌≡◌, ◌+◌, ◌||◌, [], is_some, nat_le, not, ◌==◌, OnOk};
 ghost use Rattle.std.specs.List.{filter};
 ghost use Rattle.std.specs.Option.{option_map_or};
-ghost use Rattle.spec_events.specs.World.{no_dumps, others_than, asked_by, unasked, begun, over, askers_of};
+ghost use Rattle.spec_events.specs.World.{no_dumps, others_than, asked_by, unasked, dump_begun, dump_over, askers_of};
 
 use muck_model::NoMemory;
 use std::alloc::Global;
@@ -70,7 +70,7 @@ impl Dumps {
 
     /// The dump of this number begins at that second, for those that ask now. It takes no memory.
     pub fn begin(&mut self, alloc: Global, number: u64, moment: u64)
-        ensures { self.new ≡ begun number moment self.old }
+        ensures { self.new ≡ dump_begun number moment self.old }
     {
         let askers = self.asked.take().unwrap_or(Vec::new(alloc));
         self.running = Some(Dump { number, askers });
@@ -80,7 +80,7 @@ impl Dumps {
     /// The dump that runs is over: who asked for it, where one runs. It takes no memory.
     pub fn end(&mut self) -> Option<Vec<u32>>
         ensures askers { option_map_or (λ v. v.items) result [] ≡ askers_of self.old }
-        ensures state { self.new ≡ over self.old }
+        ensures state { self.new ≡ dump_over self.old }
     {
         let dump = self.running.take()?;
         Some(dump.askers)

@@ -1,6 +1,6 @@
 // How a world began, kept for contracts alone.
 ghost use Rattle.std.specs.Prelude.{◌≡◌, IfOk};
-ghost use Rattle.spec_events.specs.World.{booted};
+ghost use Rattle.spec_events.specs.World.{world_booted};
 
 use atomic_table::{Table, TableRule};
 use muck_db::Db;
@@ -33,7 +33,7 @@ pub struct Origin {
 }
 
 impl Model for Origin {
-    ghost use Rattle.spec_events.specs.World.{World, booted};
+    ghost use Rattle.spec_events.specs.World.{World, world_booted};
     ghost use Rattle.std.specs.Coded.{codes};
     ghost use Rattle.muck_prop.specs.contracts.props.Props as props;
     ghost use Rattle.muck_model.specs.contracts.lock.Lock as lock;
@@ -43,13 +43,13 @@ impl Model for Origin {
 
     ghost coded = { Prim.hlevel (codes, props.the_row.coded, lock.the_row.coded, datum_code, block_code, end_code) };
 
-    ghost view = { λ o. booted o.word.shared.key.db o.word.shared.key.tune o.word.shared.key.moment o.word.shared.key.start };
+    ghost view = { λ o. world_booted o.word.shared.key.db o.word.shared.key.tune o.word.shared.key.moment o.word.shared.key.start };
 }
 
 impl Origin {
     /// The world that begins so.
     pub fn new(alloc: Global, begun: &Begun) -> Result<Origin, NoMemory>
-        ensures { IfOk result (λ o. o ≡ booted begun.now.db begun.now.tune begun.now.moment begun.now.start) }
+        ensures { IfOk result (λ o. o ≡ world_booted begun.now.db begun.now.tune begun.now.moment begun.now.start) }
     {
         let (word, _) = Table::of_words(alloc, &[0], begun)?;
         Ok(Origin { word })

@@ -11,6 +11,7 @@ mod dumping;
 mod editing;
 mod following;
 mod going;
+mod hook;
 mod limits;
 mod lines;
 mod login;

@@ -7,21 +7,21 @@ use Rattle.muck_io.specs.Faults.{Rose}
 use Rattle.muck_model.specs.declared.event.Entry.{Entry}
 use Rattle.muck_model.specs.declared.event.Event.TheVariants.{Died}
 use Rattle.muck_model.specs.declared.note.Note.{Note}
-use Rattle.muck_log.specs.Store.{Chosen, LogState, stored}
+use Rattle.muck_log.specs.Store.{Chosen, LogState, store_of}
 use Rattle.muck_log.specs.World.{IsFine}
 use Rattle.muck_log.specs.inner.Mount.{IsMountedAs}
 use Rattle.spec_dumps.specs.Fronts.{file_most}
 use Rattle.spec_events.specs.World.{World}
 use Rattle.spec_events.specs.Histories.{History, now, after, Longer, by_porter}
 use Rattle.spec_events.proofs.Runs.{now-longer}
-use Rattle.muck_script.specs.Story.{Dumped, outcome, outcomes_of, text_of, lines_story, dumping, story}
+use Rattle.muck_script.specs.Story.{Dumped, outcome, outcomes_of, transcript_of, lines_story, dump_part, story}
 use Rattle.muf_debug.specs.Shown.{Tracer, new_tracer}
 use Rattle.muck_debugging.specs.declared.act.DebugAct.{DebugAct}
-use Rattle.muck_debugging.specs.Seen.{Piece, text_of_all, units_of_all, plain_acts, debug_pieces}
+use Rattle.muck_debugging.specs.Seen.{SeenPiece, text_of_all, units_of_all, plain_acts, debug_pieces}
 use Rattle.muck_debugging.specs.Laws.{are_texts}
 use Rattle.muck_debugging.proofs.Apart.{shows_apart}
 use Rattle.muck_run.specs.Outcome.{halted, IsUnbegun, IsUntouched, EndsAs, EndsFull}
-use Rattle.muck_watching.specs.Debugged.{IsFirstOutside, IsInGrammar, WroteWhole, WroteFront, HasRead, WritesTo, HasWritten, HasDebugged, DebugDone}
+use Rattle.muck_watching.specs.Debugged.{IsFirstOutsideDebug, IsDebugScriptLeft, WroteWhole, WroteFront, HasReadDebugScript, WritesTo, HasWrittenSeen, HasDebugged, DebugDone}
 use Rattle.muck_run.specs.declared.playing.RunFault.{RunFault}
 use Rattle.muck_why.specs.declared.why.Why.{Why}
 use Rattle.muck_why.specs.declared.why.Why.TheVariants.{Usage, BadScript, NoMemory, ReadFault, WriteFault, DiskFault, Damaged, StoreFull}
@@ -49,7 +49,7 @@ plain_breaks acts ending t h k a b p = record {
   whole = p.whole;
   history = p.history;
   told = [];
-  untold = text_of (now h) p.front;
+  untold = transcript_of (now h) p.front;
   text = refl;
   appended = tt;
   alive = p.alive;
@@ -74,7 +74,7 @@ module _ (w : World) (note : Note) (acts : List DebugAct) (t : Tracer) (fresh : 
   story_here : (os : List Dumped) → story (plain_acts acts) os (now h) ≡ story (plain_acts acts) os w
   story_here os = ap (story (plain_acts acts) os) here
 
-  pub wrote_whole : (k m : History) (a b : Option (List ℕ)) (tale : List Entry) → PlaysLines acts t h k a b → Plays dumping k m None None → tale ≡ m.entries → WroteWhole w acts a b tale
+  pub wrote_whole : (k m : History) (a b : Option (List ℕ)) (tale : List Entry) → PlaysLines acts t h k a b → Plays dump_part k m None None → tale ≡ m.entries → WroteWhole w acts a b tale
   wrote_whole k m a b tale p d end =
       let all : tale ≡ p.entries ++ d.entries = end ∙ d.history.entries ∙ ap (λ (es : List Entry). es ++ d.entries) (all_entries k p.entries p.history) in
       let os : outcomes_of tale ≡ outcomes_of p.entries ++ outcomes_of d.entries = ap outcomes_of all ∙ flat_map-append (λ (e : Entry). outcome e.event) p.entries d.entries in
@@ -83,14 +83,14 @@ module _ (w : World) (note : Note) (acts : List DebugAct) (t : Tracer) (fresh : 
       record {
         history = (played_whole w note (plain_acts acts) h is k m None None tale (plain_plays acts t h k a b p) d end).history;
         text = appends_as a b _ _ (ap text_of_all pieces) p.text;
-        apart = shows_apart acts (outcomes_of tale) w new_tracer (sym (ap (λ (ps : List Piece). are_texts (units_of_all ps)) pieces) ∙ p.texts);
+        apart = shows_apart acts (outcomes_of tale) w new_tracer (sym (ap (λ (ps : List SeenPiece). are_texts (units_of_all ps)) pieces) ∙ p.texts);
       }
 
   -- what the story of the lines begins with, that of the script with its last dump begins with
   story_whole : (front rest : List Entry) (os : List Dumped) → front ++ rest ≡ lines_story (plain_acts acts) os (now h) → (more : List Entry) × (front ++ more ≡ story (plain_acts acts) os w)
   story_whole front rest os e =
       let es = lines_story (plain_acts acts) os (now h) in
-      let others = dumping (drop (length (outcomes_of es)) os) (after (now h) es) in
+      let others = dump_part (drop (length (outcomes_of es)) os) (after (now h) es) in
       (rest ++ others, sym (append_assoc front rest others) ∙ ap (λ (xs : List Entry). xs ++ others) e ∙ story_here os)
 
   -- memory was wanted
@@ -105,12 +105,12 @@ module _ (w : World) (note : Note) (acts : List DebugAct) (t : Tracer) (fresh : 
     history = end ∙ all_entries k _ p.history;
     told = p.told;
     untold = p.untold;
-    text = λ later. let os : List Dumped = outcomes_of p.front ++ (p.pending ++ later) in p.text later ∙ ap (λ (ps : List Piece). text_of_all (take (length p.front) ps)) (pieces_here os);
+    text = λ later. let os : List Dumped = outcomes_of p.front ++ (p.pending ++ later) in p.text later ∙ ap (λ (ps : List SeenPiece). text_of_all (take (length p.front) ps)) (pieces_here os);
     appended = p.appended;
   }
 
   -- it was wanted for the last dump
-  pub wrote_dying : (k m : History) (a b : Option (List ℕ)) (tale : List Entry) → PlaysLines acts t h k a b → Breaks dumping (by_porter Died ∷ []) k m None None → tale ≡ m.entries → WroteFront w NoMemory acts a b tale
+  pub wrote_dying : (k m : History) (a b : Option (List ℕ)) (tale : List Entry) → PlaysLines acts t h k a b → Breaks dump_part (by_porter Died ∷ []) k m None None → tale ≡ m.entries → WroteFront w NoMemory acts a b tale
   wrote_dying k m a b tale p d end =
       let next : now k ≡ after (now h) p.entries = now-longer h k _ p.history in
       record {
@@ -121,7 +121,7 @@ module _ (w : World) (note : Note) (acts : List DebugAct) (t : Tracer) (fresh : 
             let part = d.whole later in (
               part.0,
               append_assoc p.entries d.front part.0 ∙ ap (λ es. p.entries ++ es) part.1
-                  ∙ sym (goes_second (lines_story (plain_acts acts)) dumping (now h) (now k) p.entries d.front (d.pending ++ later) next p.said)
+                  ∙ sym (goes_second (lines_story (plain_acts acts)) dump_part (now h) (now k) p.entries d.front (d.pending ++ later) next p.said)
                   ∙ story_here (outcomes_of (p.entries ++ d.front) ++ (d.pending ++ later)),
             );
         ending = by_porter Died ∷ [];
@@ -137,7 +137,7 @@ module _ (w : World) (note : Note) (acts : List DebugAct) (t : Tracer) (fresh : 
             let made : debug_pieces acts (outcomes_of (p.entries ++ d.front) ++ (d.pending ++ later)) w new_tracer ≡ p.pieces =
             sym (pieces_here (outcomes_of (p.entries ++ d.front) ++ (d.pending ++ later))) ∙ ap (λ xs. debug_pieces acts xs (now h) t) os ∙ p.made left in
             let count : length p.pieces ≡ length p.entries =
-            sym (ap (λ (ps : List Piece). length ps) (p.made left)) ∙ length-debug acts (outcomes_of p.entries ++ left) (now h) t ∙ ap (λ (es : List Entry). length es) (p.said left) in
+            sym (ap (λ (ps : List SeenPiece). length ps) (p.made left)) ∙ length-debug acts (outcomes_of p.entries ++ left) (now h) t ∙ ap (λ (es : List Entry). length es) (p.said left) in
             let few : length p.pieces ≤ length (p.entries ++ d.front) = omega (arith, count, length-append p.entries d.front) in
             append-nil (text_of_all p.pieces)
             ∙ sym (ap text_of_all (ap (take (length (p.entries ++ d.front))) made ∙ take_all (length (p.entries ++ d.front)) p.pieces few));
@@ -161,7 +161,7 @@ module _ (w : World) (note : Note) (acts : List DebugAct) (t : Tracer) (fresh : 
             ∙ append_assoc p.front (halted (after w p.front)) dump.0;
         told = p.told;
         untold = p.untold;
-        text = λ later. let os : List Dumped = outcomes_of p.front ++ (p.pending ++ later) in p.text later ∙ ap (λ (ps : List Piece). text_of_all (take (length p.front) ps)) (pieces_here os);
+        text = λ later. let os : List Dumped = outcomes_of p.front ++ (p.pending ++ later) in p.text later ∙ ap (λ (ps : List SeenPiece). text_of_all (take (length p.front) ps)) (pieces_here os);
         appended = p.appended;
       }
 
@@ -172,7 +172,7 @@ module _ (w : World) (note : Note) (acts : List DebugAct) (t : Tracer) (fresh : 
   writes_to Ending.died k m a b tale may p d entries = wrote_dying k m a b tale p (d None) entries
   writes_to end k m a b tale may p d entries = absurd may
 
-  pub wrote_by : (tells : Bool) (why : Why) (k m : History) (a b : Option (List ℕ)) (tale : List Entry) → MayEndDump tells why → PlaysLines acts t h k a b → ((o : Option (List ℕ)) → EndsPlay k m o why) → tale ≡ m.entries → HasWritten w why acts a b tale
+  pub wrote_by : (tells : Bool) (why : Why) (k m : History) (a b : Option (List ℕ)) (tale : List Entry) → MayEndDump tells why → PlaysLines acts t h k a b → ((o : Option (List ℕ)) → EndsPlay k m o why) → tale ≡ m.entries → HasWrittenSeen w why acts a b tale
   wrote_by tells why k m a b tale may p d entries = writes_to (end_of why) k m a b tale (dump_ends tells why may) p d entries
 
 -- What a call answers.
@@ -184,7 +184,7 @@ unread_ends left NoMemory U B is u = inl u
 unread_ends left ReadFault U B is u = u
 unread_ends left why U B is u = absurd is
 
-grammar_stands : (left : Option (List ℕ)) (line : ℕ) → IsInGrammar left → IsFirstOutside left line → ⊥
+grammar_stands : (left : Option (List ℕ)) (line : ℕ) → IsDebugScriptLeft left → IsFirstOutsideDebug left line → ⊥
 grammar_stands None line is outside = is
 grammar_stands (Some bytes) line is outside = let both = sym is.1 ∙ outside in cc
 
@@ -194,9 +194,9 @@ module _ {S K D : Type 0} (left : S → Option (List ℕ)) (faults : S → ℕ) 
   pub has_debugged : (tells ≡ true → IsMountedAs seen moment images file_most log first' second') → IsFine log.chosen.held.world
       → (tells ≡ true → attached first' ≡ Some (store ++ codes ".a")) → (tells ≡ true → attached second' ≡ Some (store ++ codes ".b"))
       → attached first'' ≡ attached first' → attached second'' ≡ attached second'
-      → (tells ≡ true → IsUntouched seen moment images first first') → (tells ≡ true → IsUntouched seen moment images second second') → fails first ≤ fails first' → fails second ≤ fails second' → HasRead left faults s t acts
+      → (tells ≡ true → IsUntouched seen moment images first first') → (tells ≡ true → IsUntouched seen moment images second second') → fails first ≤ fails first' → fails second ≤ fails second' → HasReadDebugScript left faults s t acts
       → HasPlayed (λ _. None) breaks tells seen moment images fails log why (plain_acts acts) k l first' second' first'' second'' tale notes
-      → HasWritten (booted_from log.chosen.held.world) why acts (written k) (written l) tale
+      → HasWrittenSeen (booted_from log.chosen.held.world) why acts (written k) (written l) tale
       → HasDebugged left faults written breaks tells attached seen moment images fails store why s t k l first second first'' second'' tale notes
   unfolding has_begun
   has_debugged mounted fine name_a name_b still_a still_b a b later_a later_b read p wrote = record {
@@ -220,15 +220,15 @@ module _ {S K D : Type 0} (left : S → Option (List ℕ)) (faults : S → ℕ) 
 
   pub debug_done : EndsAs why (IsUnbegun tells seen moment images k l first second first' second' tale) Debugged
       → (why ≡ Usage → ⊥)
-      → ((line : ℕ) → why ≡ BadScript line → IsFirstOutside (left s) line)
+      → ((line : ℕ) → why ≡ BadScript line → IsFirstOutsideDebug (left s) line)
       → (why ≡ ReadFault → Rose (faults s) (faults t))
       → (why ≡ WriteFault → Rose (breaks k) (breaks l))
       → (why ≡ DiskFault → Rose (fails first) (fails first') ⊎ Rose (fails second) (fails second'))
-      → ((file : Bool) (at : ℕ) → tells ≡ true → why ≡ Damaged file at → stored (seen first) (seen second) ≡ Err (record { second = file; at = at }))
+      → ((file : Bool) (at : ℕ) → tells ≡ true → why ≡ Damaged file at → store_of (seen first) (seen second) ≡ Err (record { second = file; at = at }))
       → ((why ≡ ReadFault → ⊥) → faults t ≡ faults s)
       → ((why ≡ WriteFault → ⊥) → breaks l ≡ breaks k)
       → ((file : Bool) (at : ℕ) → tells ≡ true → why ≡ Damaged file at → t ≡ s)
-      → (tells ≡ true → (why ≡ ReadFault) ⊎ ((line : ℕ) × (why ≡ BadScript line)) → (chosen : Chosen) × (stored (seen first) (seen second) ≡ Ok chosen))
+      → (tells ≡ true → (why ≡ ReadFault) ⊎ ((line : ℕ) × (why ≡ BadScript line)) → (chosen : Chosen) × (store_of (seen first) (seen second) ≡ Ok chosen))
       → DebugDone left faults written breaks tells attached seen moment images fails store why s t k l first second first' second' tale notes
   debug_done ends usage bad_script read_fault write_fault disk_fault damaged source_stands sink_stands unread loads = record {
     ends = ends;

@@ -10,12 +10,12 @@ use Rattle.spec_events.specs.World.{World}
 use Rattle.spec_events.specs.Histories.{History, now, after, entered, by_porter}
 use Rattle.spec_events.proofs.Runs.{longer_nothing, longer_one, longer_on, longer_as, now-longer}
 use Rattle.muck_script.specs.declared.act.Act.{Act}
-use Rattle.muck_script.specs.Story.{Dumped, outcomes_of, Part, both, line_story, lines_story, halting, told}
+use Rattle.muck_script.specs.Story.{Dumped, outcomes_of, Part, both_parts, line_story, lines_story, halting, event_told}
 use Rattle.muf_debug.specs.declared.places.Spot.{Spot}
 use Rattle.muf_debug.specs.Shown.{Tracer, can_break, with_break, without_break}
 use Rattle.muck_debugging.specs.declared.act.DebugAct.{DebugAct}
 use Rattle.muck_debugging.specs.declared.act.DebugAct.TheVariants.{Plain, Break, Clear, Trace}
-use Rattle.muck_debugging.specs.Seen.{views_in, passed, Piece, pieces_of, text_of_all, units_of_all, plain_acts, Pieces, then_pieces, debug_pieces}
+use Rattle.muck_debugging.specs.Seen.{views_in, views_passed, SeenPiece, pieces_of, text_of_all, units_of_all, plain_acts, Pieces, then_seen_pieces, debug_pieces}
 use Rattle.muck_debugging.specs.Laws.{are_texts}
 use Rattle.muck_debugging.proofs.Pieces.{pieces-append, length-pieces, text-append, units-append, text_unseen, units_unseen, passed_unseen}
 use Rattle.muck_run.specs.inner.Plays.{Says}
@@ -27,19 +27,19 @@ use Rattle.muck_run.proofs.Towards.{stopped}
 -- A line and the lines behind it.
 
 -- its story, and the story of those
-pub story_first : (act : DebugAct) (acts : List DebugAct) (os : List Dumped) (w : World) → w.stopping ≡ false → both (act_part (plain_of act)) (lines_story (plain_acts acts)) os w ≡ lines_story (plain_acts (act ∷ acts)) os w
+pub story_first : (act : DebugAct) (acts : List DebugAct) (os : List Dumped) (w : World) → w.stopping ≡ false → both_parts (act_part (plain_of act)) (lines_story (plain_acts acts)) os w ≡ lines_story (plain_acts (act ∷ acts)) os w
 story_first (Plain act) acts os w e = sym (cond-false _ _ _ e)
 story_first (Break program line) acts os w e = refl
 story_first (Clear program line) acts os w e = refl
 story_first (Trace on) acts os w e = refl
 
 -- the pieces of a line of which nothing happens are those behind it
-pieces_none : (acts : List DebugAct) (later : List Dumped) (w v : World) (t u : Tracer) (es fs : List Entry) → [] ≡ es → v ≡ after w es → u ≡ passed (views_in w es) t →
+pieces_none : (acts : List DebugAct) (later : List Dumped) (w v : World) (t u : Tracer) (es fs : List Entry) → [] ≡ es → v ≡ after w es → u ≡ views_passed (views_in w es) t →
     debug_pieces acts (outcomes_of (es ++ fs) ++ later) w t ≡ pieces_of t w es ++ debug_pieces acts (outcomes_of fs ++ later) v u
 pieces_none acts later w v t u es fs none there behind =
     let empty : es ≡ [] = sym none in
     let world : v ≡ w = there ∙ ap (after w) empty in
-    let tracer : u ≡ t = behind ∙ ap (λ (xs : List Entry). passed (views_in w xs) t) empty ∙ passed_unseen [] w t refl in
+    let tracer : u ≡ t = behind ∙ ap (λ (xs : List Entry). views_passed (views_in w xs) t) empty ∙ passed_unseen [] w t refl in
     ap (λ (xs : List Entry). debug_pieces acts (outcomes_of (xs ++ fs) ++ later) w t) empty
     ∙ sym (
     ap (λ (xs : List Entry). pieces_of t w xs ++ debug_pieces acts (outcomes_of fs ++ later) v u) empty
@@ -48,19 +48,19 @@ pieces_none acts later w v t u es fs none there behind =
     )
 
 -- those of a line that `run` knows too
-pieces_line : (act : Act) (acts : List DebugAct) (later : List Dumped) (w v : World) (t u : Tracer) (es fs : List Entry) → w.stopping ≡ false → Says (line_story act) w es → v ≡ after w es → u ≡ passed (views_in w es) t →
+pieces_line : (act : Act) (acts : List DebugAct) (later : List Dumped) (w v : World) (t u : Tracer) (es fs : List Entry) → w.stopping ≡ false → Says (line_story act) w es → v ≡ after w es → u ≡ views_passed (views_in w es) t →
     debug_pieces (Plain act ∷ acts) (outcomes_of (es ++ fs) ++ later) w t ≡ pieces_of t w es ++ debug_pieces acts (outcomes_of fs ++ later) v u
 pieces_line act acts later w v t u es fs e said there behind =
     let left : List Dumped = outcomes_of fs ++ later in
     ap (λ os. debug_pieces (Plain act ∷ acts) os w t) (outcomes-append es fs later)
     ∙ cond-false _ _ _ e
-    ∙ ap (then_pieces (debug_pieces acts) (outcomes_of es ++ left) w t) (said left)
-    ∙ ap (λ os. pieces_of t w es ++ debug_pieces acts os (after w es) (passed (views_in w es) t)) (drop-append_seam (outcomes_of es) left)
-    ∙ ap (λ (x : World). pieces_of t w es ++ debug_pieces acts left x (passed (views_in w es) t)) (sym there)
+    ∙ ap (then_seen_pieces (debug_pieces acts) (outcomes_of es ++ left) w t) (said left)
+    ∙ ap (λ os. pieces_of t w es ++ debug_pieces acts os (after w es) (views_passed (views_in w es) t)) (drop-append_seam (outcomes_of es) left)
+    ∙ ap (λ (x : World). pieces_of t w es ++ debug_pieces acts left x (views_passed (views_in w es) t)) (sym there)
     ∙ ap (λ (x : Tracer). pieces_of t w es ++ debug_pieces acts left v x) (sym behind)
 
 -- the pieces of a line, and those of the lines behind it
-pieces_first : (act : DebugAct) (acts : List DebugAct) (later : List Dumped) (w v : World) (t u : Tracer) (es fs : List Entry) → w.stopping ≡ false → Says (act_part (plain_of act)) w es → v ≡ after w es → u ≡ passed (views_in w es) (commanded act t) →
+pieces_first : (act : DebugAct) (acts : List DebugAct) (later : List Dumped) (w v : World) (t u : Tracer) (es fs : List Entry) → w.stopping ≡ false → Says (act_part (plain_of act)) w es → v ≡ after w es → u ≡ views_passed (views_in w es) (commanded act t) →
     debug_pieces (act ∷ acts) (outcomes_of (es ++ fs) ++ later) w t ≡ pieces_of (commanded act t) w es ++ debug_pieces acts (outcomes_of fs ++ later) v u
 pieces_first (Plain act) acts later w v t u es fs e said there behind = pieces_line act acts later w v t u es fs e said there behind
 pieces_first (Break program line) acts later w v t u es fs e said there behind = pieces_none acts later w v (with_break (record { program = program; line = line }) t) u es fs (said []) there behind
@@ -80,19 +80,19 @@ lines_then act acts t u h k m a b c e p q =
           ∙ ap (λ es. p.entries ++ es) (q.said later);
       history = longer_on h k m _ _ p.history q.history;
       pieces = first ++ q.pieces;
-      made = λ later. pieces_first act acts later (now h) (now k) t u p.entries q.entries e p.said next p.tracer ∙ ap (λ (ps : List Piece). first ++ ps) (q.made later);
+      made = λ later. pieces_first act acts later (now h) (now k) t u p.entries q.entries e p.said next p.tracer ∙ ap (λ (ps : List SeenPiece). first ++ ps) (q.made later);
       text = appends_as a c _ _ (sym (text-append first q.pieces)) (appends_twice a b c _ _ p.text q.text);
       texts = ap are_texts (units-append first q.pieces) ∙ texts_both (units_of_all first) (units_of_all q.pieces) p.texts q.texts;
       alive = q.alive;
     }
 
-take_behind : (ps qs : List Piece) (n : ℕ) → take (length ps + n) (ps ++ qs) ≡ ps ++ take n qs
-take_behind [] qs n = let e : length (let none : List Piece = [] in none) + n ≡ n = omega arith in ap (λ k. take k qs) e
+take_behind : (ps qs : List SeenPiece) (n : ℕ) → take (length ps + n) (ps ++ qs) ≡ ps ++ take n qs
+take_behind [] qs n = let e : length (let none : List SeenPiece = [] in none) + n ≡ n = omega arith in ap (λ k. take k qs) e
 take_behind (p ∷ ps) qs n =
     let e : length (p ∷ ps) + n ≡ suc (length ps + n) = omega arith in
-    ap (λ k. take k (p ∷ (ps ++ qs))) e ∙ ap (λ (xs : List Piece). p ∷ xs) (take_behind ps qs n)
+    ap (λ k. take k (p ∷ (ps ++ qs))) e ∙ ap (λ (xs : List SeenPiece). p ∷ xs) (take_behind ps qs n)
 
-take_front : (ps qs : List Piece) → take (length ps) (ps ++ qs) ≡ ps
+take_front : (ps qs : List SeenPiece) → take (length ps) (ps ++ qs) ≡ ps
 take_front ps qs =
     let e : length ps ≡ length ps + 0 = omega arith in
     ap (λ k. take k (ps ++ qs)) e ∙ take_behind ps qs 0 ∙ append-nil ps
@@ -145,11 +145,11 @@ front_first : (act : DebugAct) (acts : List DebugAct) (os : List Dumped) (w : Wo
     take (length front) (debug_pieces (act ∷ acts) os w t) ≡ pieces_of (commanded act t) w front
 front_first (Plain act) acts os w t front rest e is =
     let ps = pieces_of t w front in
-    let qs = pieces_of (passed (views_in w front) t) (after w front) rest in
-    let more = debug_pieces acts (drop (length (outcomes_of (line_story act os w))) os) (after w (line_story act os w)) (passed (views_in w (line_story act os w)) t) in
+    let qs = pieces_of (views_passed (views_in w front) t) (after w front) rest in
+    let more = debug_pieces acts (drop (length (outcomes_of (line_story act os w))) os) (after w (line_story act os w)) (views_passed (views_in w (line_story act os w)) t) in
     ap (take (length front)) (
     cond-false _ _ _ e ∙ ap (λ (es : List Entry). pieces_of t w es ++ more) (sym is)
-    ∙ ap (λ (xs : List Piece). xs ++ more) (pieces-append front rest w t) ∙ append_assoc ps qs more
+    ∙ ap (λ (xs : List SeenPiece). xs ++ more) (pieces-append front rest w t) ∙ append_assoc ps qs more
     )
     ∙ ap (λ n. take n (ps ++ (qs ++ more))) (sym (length-pieces front w t)) ∙ take_front ps (qs ++ more)
 front_first (Break program line) acts os w t front rest e is = front_none acts os w (with_break (record { program = program; line = line }) t) front rest is
@@ -200,7 +200,7 @@ lines_stopped acts t h o e alive = record {
 }
 
 halt_text : (t : Tracer) (w : World) → text_of_all (pieces_of t w (by_porter Halt ∷ [])) ≡ []
-unfolding told
+unfolding event_told
 halt_text t w = text_unseen (by_porter Halt ∷ []) w t refl
 
 -- the run is halted behind the last line
@@ -269,17 +269,17 @@ lines_halt acts at t u h k l a b over e is w = w.finish l b (subst (λ (xs : Lis
 
 -- so many pieces as entries, where so many follow
 length_then : (f : Part) (more : Pieces) (others : Part) (os : List Dumped) (w : World) (t : Tracer) →
-    length (more (drop (length (outcomes_of (f os w))) os) (after w (f os w)) (passed (views_in w (f os w)) t)) ≡ length (others (drop (length (outcomes_of (f os w))) os) (after w (f os w)))
-    → length (then_pieces more os w t (f os w)) ≡ length (both f others os w)
+    length (more (drop (length (outcomes_of (f os w))) os) (after w (f os w)) (views_passed (views_in w (f os w)) t)) ≡ length (others (drop (length (outcomes_of (f os w))) os) (after w (f os w)))
+    → length (then_seen_pieces more os w t (f os w)) ≡ length (both_parts f others os w)
 length_then f more others os w t e =
     let es = f os w in
     let left : List Dumped = drop (length (outcomes_of es)) os in
-    length-append (pieces_of t w es) (more left (after w es) (passed (views_in w es) t))
-    ∙ ap (λ n. n + length (more left (after w es) (passed (views_in w es) t))) (length-pieces es w t)
+    length-append (pieces_of t w es) (more left (after w es) (views_passed (views_in w es) t))
+    ∙ ap (λ n. n + length (more left (after w es) (views_passed (views_in w es) t))) (length-pieces es w t)
     ∙ ap (λ n. length es + n) e
     ∙ sym (length-append es (others left (after w es)))
 
-either_length : (b : Bool) (ps : List Piece) (es : List Entry) → length ps ≡ length es → length (cond b (let none : List Piece = [] in none) ps) ≡ length (cond b (let none : List Entry = [] in none) es)
+either_length : (b : Bool) (ps : List SeenPiece) (es : List Entry) → length ps ≡ length es → length (cond b (let none : List SeenPiece = [] in none) ps) ≡ length (cond b (let none : List Entry = [] in none) es)
 either_length true ps es e = refl
 either_length false ps es e = e
 
@@ -287,7 +287,7 @@ pub length-debug : (acts : List DebugAct) (os : List Dumped) (w : World) (t : Tr
 length-debug [] os w t = length-pieces (halting w) w t
 length-debug (Plain act ∷ acts) os w t =
     let es : List Entry = line_story act os w in
-    let more = length-debug acts (drop (length (outcomes_of es)) os) (after w es) (passed (views_in w es) t) in
+    let more = length-debug acts (drop (length (outcomes_of es)) os) (after w es) (views_passed (views_in w es) t) in
     either_length w.stopping _ _ (length_then (line_story act) (debug_pieces acts) (lines_story (plain_acts acts)) os w t more)
 length-debug (Break program line ∷ acts) os w t = length-debug acts os w (with_break (record { program = program; line = line }) t)
 length-debug (Clear program line ∷ acts) os w t = length-debug acts os w (without_break (record { program = program; line = line }) t)

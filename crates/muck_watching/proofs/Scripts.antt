@@ -10,10 +10,10 @@ use Rattle.muck_script.specs.declared.script.ScriptFault.{ScriptFault}
 use Rattle.muck_script.specs.declared.script.ScriptFault.TheVariants.{BadScript as BadLine}
 use Rattle.muck_debugging.proofs.Cuts.{script_long}
 use Rattle.muck_debugging.specs.declared.act.DebugAct.{DebugAct}
-use Rattle.muck_debugging.specs.Grammar.{debug_acts_of, refused_at, debug_script_of}
+use Rattle.muck_debugging.specs.Grammar.{debug_acts_of, debug_refused_at, debug_script_of}
 use Rattle.muck_debugging.specs.inner.Reading.{IsReading}
 use Rattle.muck_run.specs.Outcome.{IsReadOut}
-use Rattle.muck_watching.specs.Debugged.{IsScriptIn, IsFirstOutside}
+use Rattle.muck_watching.specs.Debugged.{IsDebugScriptIn, IsFirstOutsideDebug}
 
 short : (left : List ℕ) → length left ≤ script_most → debug_script_of (read_part left) ≡ debug_script_of left
 short left h = let all : length left ≤ script_most + 1 = omega (arith, h) in ap debug_script_of (take_all (script_most + 1) left all)
@@ -26,7 +26,7 @@ read_twice left h =
 long : (left : List ℕ) → script_most < length left → debug_script_of (read_part left) ≡ debug_script_of left
 long left h =
     let some : script_most < length (read_part left) = omega (arith, length-take (script_most + 1) left, h) in
-    script_long (read_part left) some ∙ ap (λ bytes. refused_at (length (lines_of bytes)) (debug_acts_of bytes)) (read_twice left h) ∙ sym (script_long left h)
+    script_long (read_part left) some ∙ ap (λ bytes. debug_refused_at (length (lines_of bytes)) (debug_acts_of bytes)) (read_twice left h) ∙ sym (script_long left h)
 
 same_script : (left : List ℕ) → debug_script_of (read_part left) ≡ debug_script_of left
 same_script left = decide (nat_lt script_most (length left)) refl where
@@ -34,7 +34,7 @@ same_script left = decide (nat_lt script_most (length left)) refl where
   decide true e = long left (ltb-true _ _ e)
   decide false e = short left (ltb-false _ _ e)
 
-not_ok : (n : ℕ) (r : Result (List DebugAct) ℕ) (acts : List DebugAct) → refused_at n r ≡ Ok acts → ⊥
+not_ok : (n : ℕ) (r : Result (List DebugAct) ℕ) (acts : List DebugAct) → debug_refused_at n r ≡ Ok acts → ⊥
 not_ok n (Ok x) acts e = cc
 not_ok n (Err m) acts e = cc
 
@@ -45,11 +45,11 @@ within bytes acts e = decide (nat_lt script_most (length bytes)) refl where
   decide true h = absurd (not_ok (length (lines_of (read_part bytes))) (debug_acts_of (read_part bytes)) acts (sym (script_long bytes (ltb-true _ _ h)) ∙ e))
   decide false h = ltb-false _ _ h
 
-pub script_in : (left now : Option (List ℕ)) (most : ℕ) (bytes : List ℕ) (acts : List DebugAct) → most ≡ script_most + 1 → HasReadAll left now most bytes → debug_script_of bytes ≡ Ok acts → IsScriptIn left acts
+pub script_in : (left now : Option (List ℕ)) (most : ℕ) (bytes : List ℕ) (acts : List DebugAct) → most ≡ script_most + 1 → HasReadAll left now most bytes → debug_script_of bytes ≡ Ok acts → IsDebugScriptIn left acts
 script_in None now most bytes acts m h e = tt
 script_in (Some left) now most bytes acts m h e = sym (same_script left) ∙ ap (λ n. debug_script_of (take n left)) (sym m) ∙ ap debug_script_of (sym h.0) ∙ e
 
-pub first_outside : (left now : Option (List ℕ)) (most : ℕ) (bytes : List ℕ) (line : ℕ) → most ≡ script_most + 1 → HasReadAll left now most bytes → debug_script_of bytes ≡ Err line → IsFirstOutside left line
+pub first_outside : (left now : Option (List ℕ)) (most : ℕ) (bytes : List ℕ) (line : ℕ) → most ≡ script_most + 1 → HasReadAll left now most bytes → debug_script_of bytes ≡ Err line → IsFirstOutsideDebug left line
 first_outside None now most bytes line m h e = tt
 first_outside (Some left) now most bytes line m h e = sym (same_script left) ∙ ap (λ n. debug_script_of (take n left)) (sym m) ∙ ap debug_script_of (sym h.0) ∙ e
 

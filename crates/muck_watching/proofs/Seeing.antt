@@ -3,6 +3,8 @@ use Rattle.std.proofs.Common.{◌≡◌, inl, inr, ℕ, zero, suc, ◌+◌, Bool
 use Rattle.std.specs.Prelude.{OnOk, is_some, is_none, nat_lt}
 use Rattle.std.specs.List.{flat_map}
 use Rattle.std.proofs.lemmas.List.Folds.{list_all-append}
+use Rattle.muck_laws.proofs.Lists.{no_ending}
+use Rattle.muck_laws.proofs.Truths.{opposed}
 use Rattle.muck_io.specs.Sink.{Appends}
 use Rattle.muck_io.proofs.Appended.{appends_twice}
 use Rattle.muck_model.specs.Bytes.{text_fault}
@@ -16,15 +18,15 @@ use Rattle.spec_events.specs.Histories.{History, now, after, entered, Longer, by
 use Rattle.spec_events.proofs.Runs.{longer_one, longer_on, longer_as, now-longer}
 use Rattle.muck_script.specs.declared.act.Act.{Act}
 use Rattle.muck_script.specs.declared.act.Act.TheVariants.{Nothing, Open, Send, Close, Wait, Dump}
-use Rattle.muck_script.specs.Story.{Dumped, stored, failed, Part, outcomes_of, plain, both, acted, later, turns, taken, parted, served, next_outcome, dump_entries, dumping, asks_dump, asked_dump, line_story}
+use Rattle.muck_script.specs.Story.{Dumped, stored, failed, Part, outcomes_of, plain_part, both_parts, acted, moment_later, turns, queue_taken, connection_parted, served, next_outcome, dump_entries, dump_part, asks_dump, asked_dump, line_story}
 use Rattle.spec_live.specs.Connections.{connections_most}
 use Rattle.muf_debug.specs.declared.view.View.{View}
-use Rattle.muf_debug.specs.Shown.{Tracer, new_tracer, told_all, handed_out, TellsSo}
+use Rattle.muf_debug.specs.Shown.{Tracer, new_tracer, views_told, handed_out, TellsSo}
 use Rattle.muf_debug.specs.Watching.{SeesAll}
 use Rattle.muf_debug.proofs.Keeping.{keeps_shown}
 use Rattle.muck_debugging.specs.declared.act.DebugAct.{DebugAct}
 use Rattle.muck_debugging.specs.declared.act.DebugAct.TheVariants.{Plain, Break, Clear, Trace}
-use Rattle.muck_debugging.specs.Seen.{views_in, shown_of, passed, pieces_of, ended, text_of_all, units_of_all}
+use Rattle.muck_debugging.specs.Seen.{views_in, shown_of, views_passed, pieces_of, line_ended, text_of_all, units_of_all}
 use Rattle.muck_debugging.specs.Laws.{are_texts}
 use Rattle.muck_debugging.proofs.Watched.{views-append}
 use Rattle.muck_debugging.proofs.Pieces.{passed-append, refused_passed, kept_shown, handed_passed, pieces-append, text-append, units-append, units-seen, text_units, text_unseen, units_unseen, passed_unseen, front_unseen}
@@ -33,7 +35,7 @@ use Rattle.muck_run.specs.declared.playing.RunFault.TheVariants.{NoMemory, Write
 use Rattle.muck_run.specs.inner.Opens.{Opens}
 use Rattle.muck_run.specs.inner.Plays.{Plays, Breaks, PlaysOrBreaks, ending_of}
 use Rattle.muck_watching.specs.inner.Seen.{IsReady, HandsOut, CutsOff, Shows, PlaysSeen, BreaksSeen, PlaysOrBreaksSeen, plain_of, nothing, act_part, commanded}
-use Rattle.muck_run.proofs.Parts.{appends_nothing, appends_as, goes_second, pending_behind, no_ending}
+use Rattle.muck_run.proofs.Parts.{appends_nothing, appends_as, goes_second, pending_behind}
 use Rattle.muck_run.proofs.Opening.{opens_plays}
 use Rattle.muck_run.proofs.Turns.{turned_silent}
 use Rattle.muck_run.proofs.Lining.{first_turns, then_asked}
@@ -43,13 +45,13 @@ use Rattle.muck_run.proofs.Lining.{first_turns, then_asked}
 abbrev pub IsUnseen : Part → Type 0
 IsUnseen f = (os : List Dumped) (w : World) → views_in w (f os w) ≡ []
 
-both_unseen : (f g : Part) → IsUnseen f → IsUnseen g → IsUnseen (both f g)
+both_unseen : (f g : Part) → IsUnseen f → IsUnseen g → IsUnseen (both_parts f g)
 both_unseen f g a b os w =
     let es = f os w in
     let fs = g (drop (length (outcomes_of es)) os) (after w es) in
     views-append es fs w ∙ ap (λ (vs : List View). vs ++ views_in (after w es) fs) (a os w) ∙ b (drop (length (outcomes_of es)) os) (after w es)
 
-pub acted_unseen : (act : Act) → IsUnseen (plain (acted act))
+pub acted_unseen : (act : Act) → IsUnseen (plain_part (acted act))
 acted_unseen Nothing os w = refl
 acted_unseen (Open d) os w = by (is_lawful w (by_porter (Opened d))) where
   by : (t : Bool) → views_in w (cond t (by_porter (Opened d) ∷ []) []) ≡ []
@@ -63,8 +65,8 @@ acted_unseen (Close d) os w = by (is_lawful w (by_porter (Closed d))) where
   by : (t : Bool) → views_in w (cond t (by_porter (Closed d) ∷ []) []) ≡ []
   by true = refl
   by false = refl
-acted_unseen (Wait seconds) os w = by (is_lawful w (by_porter (Moment (later seconds w)))) where
-  by : (t : Bool) → views_in w (cond t (by_porter (Moment (later seconds w)) ∷ []) []) ≡ []
+acted_unseen (Wait seconds) os w = by (is_lawful w (by_porter (Moment (moment_later seconds w)))) where
+  by : (t : Bool) → views_in w (cond t (by_porter (Moment (moment_later seconds w)) ∷ []) []) ≡ []
   by true = refl
   by false = refl
 acted_unseen Dump os w = refl
@@ -76,17 +78,17 @@ dump_unseen (failed k) w = refl
 pub asked_unseen : (act : Act) → IsUnseen (asked_dump act)
 unfolding asked_dump
 asked_unseen act os w = by (asks_dump act || is_some w.dumps.asked) where
-  by : (t : Bool) → views_in w (cond t (dumping os w) []) ≡ []
+  by : (t : Bool) → views_in w (cond t (dump_part os w) []) ≡ []
   by true = dump_unseen (next_outcome os) w
   by false = refl
 
-taken_unseen : (d : ℕ) → IsUnseen (plain (taken d))
+taken_unseen : (d : ℕ) → IsUnseen (plain_part (queue_taken d))
 taken_unseen d os w = by (nat_lt 0 (length (queue_of d w))) where
   by : (t : Bool) → views_in w (cond t (by_porter (Take d (length (queue_of d w))) ∷ []) []) ≡ []
   by true = refl
   by false = refl
 
-parted_unseen : (d : ℕ) → IsUnseen (plain (parted d))
+parted_unseen : (d : ℕ) → IsUnseen (plain_part (connection_parted d))
 parted_unseen d os w = by (is_leaving d w) where
   by : (t : Bool) → views_in w (cond t (by_porter (Closed d) ∷ []) []) ≡ []
   by true = refl
@@ -96,7 +98,7 @@ pub served_unseen : (n d : ℕ) → IsUnseen (served n d)
 unfolding served
 served_unseen zero d os w = refl
 served_unseen (suc n) d os w =
-    both_unseen (both (plain (taken d)) (plain (parted d))) (served n (d + 1)) (both_unseen (plain (taken d)) (plain (parted d)) (taken_unseen d) (parted_unseen d)) (served_unseen n (d + 1)) os w
+    both_unseen (both_parts (plain_part (queue_taken d)) (plain_part (connection_parted d))) (served n (d + 1)) (both_unseen (plain_part (queue_taken d)) (plain_part (connection_parted d)) (taken_unseen d) (parted_unseen d)) (served_unseen n (d + 1)) os w
 
 -- what a run writes of such a part is all that is written
 pub plays_unseen : (f : Part) (t : Tracer) (h k : History) (a b : Option (List ℕ)) → IsUnseen f → Plays f h k a b → PlaysSeen f t t h k a b
@@ -139,13 +141,13 @@ pub texts_both : (xs ys : List (List ℕ)) → are_texts xs ≡ true → are_tex
 texts_both xs ys e f = list_all-append (λ line. is_none (text_fault line)) xs ys ∙ ap (λ (t : Bool). t && are_texts ys) e ∙ f
 
 -- the pieces of what follows are those behind the tracer and the world that were left
-pub pieces_next : (h k : History) (t u : Tracer) (es fs : List Entry) → Longer h k es → u ≡ passed (views_in (now h) es) t → pieces_of t (now h) (es ++ fs) ≡ pieces_of t (now h) es ++ pieces_of u (now k) fs
+pub pieces_next : (h k : History) (t u : Tracer) (es fs : List Entry) → Longer h k es → u ≡ views_passed (views_in (now h) es) t → pieces_of t (now h) (es ++ fs) ≡ pieces_of t (now h) es ++ pieces_of u (now k) fs
 pieces_next h k t u es fs l e =
     pieces-append es fs (now h) t
     ∙ ap (λ (x : Tracer). pieces_of t (now h) es ++ pieces_of x (after (now h) es) fs) (sym e)
     ∙ ap (λ (w : World). pieces_of t (now h) es ++ pieces_of u w fs) (sym (now-longer h k es l))
 
-pub plays_both_seen : (f g : Part) (t u v : Tracer) (h k m : History) (a b c : Option (List ℕ)) → PlaysSeen f t u h k a b → PlaysSeen g u v k m b c → PlaysSeen (both f g) t v h m a c
+pub plays_both_seen : (f g : Part) (t u v : Tracer) (h k m : History) (a b c : Option (List ℕ)) → PlaysSeen f t u h k a b → PlaysSeen g u v k m b c → PlaysSeen (both_parts f g) t v h m a c
 plays_both_seen f g t u v h k m a b c p q =
     let next : now k ≡ after (now h) p.entries = now-longer h k _ p.history in
     let split = pieces_next h k t u p.entries q.entries p.history p.tracer in
@@ -157,14 +159,14 @@ plays_both_seen f g t u v h k m a b c p q =
       texts = ap are_texts (ap units_of_all split ∙ units-append (pieces_of t (now h) p.entries) (pieces_of u (now k) q.entries))
           ∙ texts_both (units_of_all (pieces_of t (now h) p.entries)) (units_of_all (pieces_of u (now k) q.entries)) p.texts q.texts;
       tracer =
-          q.tracer ∙ ap (λ (x : Tracer). passed (views_in (now k) q.entries) x) p.tracer
+          q.tracer ∙ ap (λ (x : Tracer). views_passed (views_in (now k) q.entries) x) p.tracer
           ∙ passed-append (views_in (now h) p.entries) (views_in (now k) q.entries) t
-          ∙ ap (λ (w : World). passed (views_in (now h) p.entries ++ views_in w q.entries) t) next
-          ∙ ap (λ (vs : List View). passed vs t) (sym (views-append p.entries q.entries (now h)));
+          ∙ ap (λ (w : World). views_passed (views_in (now h) p.entries ++ views_in w q.entries) t) next
+          ∙ ap (λ (vs : List View). views_passed vs t) (sym (views-append p.entries q.entries (now h)));
       alive = q.alive;
     }
 
-pub breaks_first_seen : (f g : Part) (ending : List Entry) (t : Tracer) (h k : History) (a b : Option (List ℕ)) → BreaksSeen f ending t h k a b → BreaksSeen (both f g) ending t h k a b
+pub breaks_first_seen : (f g : Part) (ending : List Entry) (t : Tracer) (h k : History) (a b : Option (List ℕ)) → BreaksSeen f ending t h k a b → BreaksSeen (both_parts f g) ending t h k a b
 breaks_first_seen f g ending t h k a b p = record {
   front = p.front;
   pending = p.pending;
@@ -182,7 +184,7 @@ breaks_first_seen f g ending t h k a b p = record {
   alive = p.alive;
 }
 
-pub breaks_second_seen : (f g : Part) (ending : List Entry) (t u : Tracer) (h k m : History) (a b c : Option (List ℕ)) → PlaysSeen f t u h k a b → BreaksSeen g ending u k m b c → BreaksSeen (both f g) ending t h m a c
+pub breaks_second_seen : (f g : Part) (ending : List Entry) (t u : Tracer) (h k m : History) (a b c : Option (List ℕ)) → PlaysSeen f t u h k a b → BreaksSeen g ending u k m b c → BreaksSeen (both_parts f g) ending t h m a c
 breaks_second_seen f g ending t u h k m a b c p q =
     let next : now k ≡ after (now h) p.entries = now-longer h k _ p.history in
     let first = text_of_all (pieces_of t (now h) p.entries) in
@@ -204,7 +206,7 @@ breaks_second_seen f g ending t u h k m a b c p q =
     }
 
 -- the first part was played, and the second answers
-pub second_seen : {T : Type 0} (f g : Part) (t u v : Tracer) (h k m : History) (a b c : Option (List ℕ)) (r : Result T RunFault) → PlaysSeen f t u h k a b → PlaysOrBreaksSeen g u v k m b c r → PlaysOrBreaksSeen (both f g) t v h m a c r
+pub second_seen : {T : Type 0} (f g : Part) (t u v : Tracer) (h k m : History) (a b c : Option (List ℕ)) (r : Result T RunFault) → PlaysSeen f t u h k a b → PlaysOrBreaksSeen g u v k m b c r → PlaysOrBreaksSeen (both_parts f g) t v h m a c r
 second_seen f g t u v h k m a b c (Ok x) p q = plays_both_seen f g t u v h k m a b c p q
 second_seen f g t u v h k m a b c (Err fault) p q = breaks_second_seen f g (ending_of fault) t u h k m a b c p q
 
@@ -221,41 +223,38 @@ ready_new t e = record { empty = ap (λ (x : Tracer). x.kept) e; whole = ap (λ 
 
 -- The turns, and what is shown of them.
 
-opposed : (b : Bool) → b ≡ true → b ≡ false → ⊥
-opposed b e f = cc
-
 -- the tracer kept what is shown of them
-kept_of : (vs : List View) (t u : Tracer) → SeesAll TellsSo vs t u → u.refused ≡ false → u ≡ told_all vs t
+kept_of : (vs : List View) (t u : Tracer) → SeesAll TellsSo vs t u → u.refused ≡ false → u ≡ views_told vs t
 kept_of vs t u sees whole = elim (keeps_shown vs t u sees) [
   | inl e ↦ absurd (opposed u.refused e whole)
   | inr e ↦ e
 ]
 
 -- this was written of the turns
-turns_text : (n : ℕ) (w : World) (t : Tracer) → flat_map ended (shown_of (views_in w (turns n w)) t) ≡ text_of_all (pieces_of t w (turns n w))
-turns_text n w t = ap (flat_map ended) (sym (units-seen (turns n w) w t)) ∙ sym (text_units (turns n w) w t (turned_silent n w))
+turns_text : (n : ℕ) (w : World) (t : Tracer) → flat_map line_ended (shown_of (views_in w (turns n w)) t) ≡ text_of_all (pieces_of t w (turns n w))
+turns_text n w t = ap (flat_map line_ended) (sym (units-seen (turns n w) w t)) ∙ sym (text_units (turns n w) w t (turned_silent n w))
 
-module _ (n : ℕ) (t u v : Tracer) (h k m : History) (a b : Option (List ℕ)) (ready : IsReady t) (p : Plays (plain (turns n)) h k None None) (sees : SeesAll TellsSo (views_in (now h) (turns n (now h))) t u) where
+module _ (n : ℕ) (t u v : Tracer) (h k m : History) (a b : Option (List ℕ)) (ready : IsReady t) (p : Plays (plain_part (turns n)) h k None None) (sees : SeesAll TellsSo (views_in (now h) (turns n (now h))) t u) where
   ends : Longer h k (turns n (now h))
   ends = longer_as h k p.entries _ (sym (p.said [])) p.history
 
   lines : u.refused ≡ false → u.kept ≡ shown_of (views_in (now h) (turns n (now h))) t
   lines whole = ap (λ (x : Tracer). x.kept) (kept_of _ t u sees whole) ∙ kept_shown _ t ready.empty
 
-  shown_whole : HandsOut u v k m a b → PlaysSeen (plain (turns n)) t v h m a b
+  shown_whole : HandsOut u v k m a b → PlaysSeen (plain_part (turns n)) t v h m a b
   shown_whole s = record {
     entries = turns n (now h);
     said = λ others. refl;
     history = subst (λ (x : History). Longer h x (turns n (now h))) (sym s.still) ends;
-    text = appends_as a b _ _ (ap (flat_map ended) (lines s.whole) ∙ turns_text n (now h) t) s.text;
+    text = appends_as a b _ _ (ap (flat_map line_ended) (lines s.whole) ∙ turns_text n (now h) t) s.text;
     texts = ap are_texts (units-seen (turns n (now h)) (now h) t ∙ sym (lines s.whole)) ∙ s.texts;
     tracer = s.handed ∙ ap handed_out (kept_of _ t u sees s.whole) ∙ handed_passed _ t ready.empty;
     alive = ap (λ (x : History). (now x).dead) s.still ∙ p.alive;
   }
 
-  shown_front : CutsOff u k m a b → BreaksSeen (plain (turns n)) [] t h m a b
+  shown_front : CutsOff u k m a b → BreaksSeen (plain_part (turns n)) [] t h m a b
   shown_front s =
-      let text : List ℕ = flat_map ended u.kept in
+      let text : List ℕ = flat_map line_ended u.kept in
       record {
         front = turns n (now h);
         pending = [];
@@ -264,12 +263,12 @@ module _ (n : ℕ) (t u v : Tracer) (h k m : History) (a b : Option (List ℕ)) 
         history = longer_as h m _ _ (sym (append-nil (turns n (now h)))) (subst (λ (x : History). Longer h x (turns n (now h))) (sym s.still) ends);
         told = take s.text.0 text;
         untold = drop s.text.0 text;
-        text = take-append-drop s.text.0 text ∙ ap (flat_map ended) (lines s.whole) ∙ turns_text n (now h) t;
+        text = take-append-drop s.text.0 text ∙ ap (flat_map line_ended) (lines s.whole) ∙ turns_text n (now h) t;
         appended = s.text.1;
         alive = λ e. ap (λ (x : History). (now x).dead) s.still ∙ p.alive;
       }
 
-  shown_died : (m ≡ entered k (by_porter Died)) × (b ≡ a) → BreaksSeen (plain (turns n)) (by_porter Died ∷ []) t h m a b
+  shown_died : (m ≡ entered k (by_porter Died)) × (b ≡ a) → BreaksSeen (plain_part (turns n)) (by_porter Died ∷ []) t h m a b
   shown_died s = record {
     front = turns n (now h);
     pending = [];
@@ -283,7 +282,7 @@ module _ (n : ℕ) (t u v : Tracer) (h k m : History) (a b : Option (List ℕ)) 
     alive = λ e. no_ending e;
   }
 
-  pub shown_turns : {T : Type 0} (r : Result T RunFault) → Shows u v k m a b r → PlaysOrBreaksSeen (plain (turns n)) t v h m a b r
+  pub shown_turns : {T : Type 0} (r : Result T RunFault) → Shows u v k m a b r → PlaysOrBreaksSeen (plain_part (turns n)) t v h m a b r
   shown_turns (Ok x) s = shown_whole s
   shown_turns (Err NoMemory) s = shown_died s
   shown_turns (Err WriteFault) s = shown_front s

@@ -4,7 +4,7 @@ use Rattle.muck_io.specs.Sink.{Appends}
 use Rattle.muck_io.specs.Faults.{Rose}
 use Rattle.muck_model.specs.declared.event.Entry.{Entry}
 use Rattle.muck_model.specs.declared.note.Note.{Note}
-use Rattle.muck_log.specs.Store.{Chosen, stored as stored_in}
+use Rattle.muck_log.specs.Store.{Chosen, store_of as stored_in}
 use Rattle.spec_events.specs.World.{World}
 use Rattle.muck_script.specs.Story.{Dumped, outcomes_of, story}
 use Rattle.muf_debug.specs.Shown.{new_tracer}
@@ -18,23 +18,23 @@ use Rattle.muck_why.specs.declared.why.Why.TheVariants.{Fine, Usage, BadScript, 
 use Rattle.muck_why.specs.Causes.{Ending, end_of}
 
 -- what was left in the source is this script of `debug`, where the source tells its bytes
-abbrev pub IsScriptIn : Option (List ℕ) → List DebugAct → Type 0
-IsScriptIn None acts = Unit {0}
-IsScriptIn (Some bytes) acts = debug_script_of bytes ≡ Ok acts
+abbrev pub IsDebugScriptIn : Option (List ℕ) → List DebugAct → Type 0
+IsDebugScriptIn None acts = Unit {0}
+IsDebugScriptIn (Some bytes) acts = debug_script_of bytes ≡ Ok acts
 
 -- the line of this number is the first that is outside the grammar of `debug`
-abbrev pub IsFirstOutside : Option (List ℕ) → ℕ → Type 0
-IsFirstOutside None line = Unit {0}
-IsFirstOutside (Some bytes) line = debug_script_of bytes ≡ Err line
+abbrev pub IsFirstOutsideDebug : Option (List ℕ) → ℕ → Type 0
+IsFirstOutsideDebug None line = Unit {0}
+IsFirstOutsideDebug (Some bytes) line = debug_script_of bytes ≡ Err line
 
 -- what was left in the source is a script of `debug`, and the source tells so
-abbrev pub IsInGrammar : Option (List ℕ) → Type 0
-IsInGrammar None = ⊥
-IsInGrammar (Some bytes) = (acts : List DebugAct) × (debug_script_of bytes ≡ Ok acts)
+abbrev pub IsDebugScriptLeft : Option (List ℕ) → Type 0
+IsDebugScriptLeft None = ⊥
+IsDebugScriptLeft (Some bytes) = (acts : List DebugAct) × (debug_script_of bytes ≡ Ok acts)
 
 -- what a call that has read its script says of the source
-pub record HasRead {S : Type 0} (left : S → Option (List ℕ)) (faults : S → ℕ) (before now : S) (acts : List DebugAct) : Type 0 where
-  pub script : IsScriptIn (left before) acts
+pub record HasReadDebugScript {S : Type 0} (left : S → Option (List ℕ)) (faults : S → ℕ) (before now : S) (acts : List DebugAct) : Type 0 where
+  pub script : IsDebugScriptIn (left before) acts
   pub read : IsReadOut (left before) (left now)
   pub fine : faults now ≡ faults before
 
@@ -68,8 +68,8 @@ WritesTo w Ending.died acts before written tale = WroteFront w NoMemory acts bef
 WritesTo w end acts before written tale = ⊥
 
 -- that by the answer
-abbrev pub HasWritten : World → Why → List DebugAct → Option (List ℕ) → Option (List ℕ) → List Entry → Type 0
-HasWritten w why acts before written tale = WritesTo w (end_of why) acts before written tale
+abbrev pub HasWrittenSeen : World → Why → List DebugAct → Option (List ℕ) → Option (List ℕ) → List Entry → Type 0
+HasWrittenSeen w why acts before written tale = WritesTo w (end_of why) acts before written tale
 
 -- A run of `debug` that began. All is so as after a run of `run` on the script without the four lines, on a source and to a sink that tell nothing; what the source held and
 -- what was written are said apart.
@@ -78,9 +78,9 @@ pub record HasDebugged {S K D : Type 0} (left : S → Option (List ℕ)) (faults
     (s t : S) (k l : K) (first second first' second' : D) (tale : List Entry) (notes : List Note) : Type 0 where
   pub run : HasBegun (λ _. None) faults (λ _. None) breaks tells attached seen moment images fails store why s t k l first second first' second' tale notes
   pub acts : List DebugAct
-  pub read : HasRead left faults s t acts
+  pub read : HasReadDebugScript left faults s t acts
   pub plain : run.happened.acts ≡ plain_acts acts
-  pub wrote : HasWritten run.start why acts (written k) (written l) tale
+  pub wrote : HasWrittenSeen run.start why acts (written k) (written l) tale
 
 -- A call for `debug`, by its answer.
 pub record DebugDone {S K D : Type 0} (left : S → Option (List ℕ)) (faults : S → ℕ) (written : K → Option (List ℕ)) (breaks : K → ℕ)
@@ -91,7 +91,7 @@ pub record DebugDone {S K D : Type 0} (left : S → Option (List ℕ)) (faults :
       (HasDebugged left faults written breaks tells attached seen moment images fails store why s t k l first second first' second' tale notes)
   -- each answer but `Fine` and want of memory has its cause
   pub usage : why ≡ Usage → ⊥
-  pub bad_script : (line : ℕ) → why ≡ BadScript line → IsFirstOutside (left s) line
+  pub bad_script : (line : ℕ) → why ≡ BadScript line → IsFirstOutsideDebug (left s) line
   pub read_fault : why ≡ ReadFault → Rose (faults s) (faults t)
   pub write_fault : why ≡ WriteFault → Rose (breaks k) (breaks l)
   pub disk_fault : why ≡ DiskFault → Rose (fails first) (fails first') ⊎ Rose (fails second) (fails second')
@@ -102,6 +102,6 @@ pub record DebugDone {S K D : Type 0} (left : S → Option (List ℕ)) (faults :
   pub unread : (file : Bool) (at : ℕ) → tells ≡ true → why ≡ Damaged file at → t ≡ s
   pub loads : tells ≡ true → (why ≡ ReadFault) ⊎ ((line : ℕ) × (why ≡ BadScript line)) → (chosen : Chosen) × (stored_in (seen first) (seen second) ≡ Ok chosen)
   -- where a store loads, the script is inside the grammar and no count rose, the work was done, or memory was wanted, or the last dump would pass what a file may have, on what the files hold
-  pub complete : (chosen : Chosen) → tells ≡ true → stored_in (seen first) (seen second) ≡ Ok chosen → IsInGrammar (left s) → (Rose (faults s) (faults t) → ⊥) → (Rose (breaks k) (breaks l) → ⊥)
+  pub complete : (chosen : Chosen) → tells ≡ true → stored_in (seen first) (seen second) ≡ Ok chosen → IsDebugScriptLeft (left s) → (Rose (faults s) (faults t) → ⊥) → (Rose (breaks k) (breaks l) → ⊥)
       → (Rose (fails first) (fails first') → ⊥) → (Rose (fails second) (fails second') → ⊥)
       → (why ≡ Fine) ⊎ ((why ≡ NoMemory) ⊎ ((end more : ℕ) × (why ≡ StoreFull end more) × EndsFull tells seen 0 first second first' second' tale notes end more))

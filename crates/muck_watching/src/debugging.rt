@@ -7,16 +7,15 @@ ghost use Rattle.spec_dumps.specs.Fronts.{file_most};
 ghost use Rattle.muck_debugging.specs.Seen.{plain_acts};
 ghost use Rattle.muck_run.specs.inner.Ends.{MayEnd, booted_from, HasPlayed, NeverPlayed};
 ghost use Rattle.muck_watching.specs.inner.Seen.{IsDebugWhy};
-ghost use Rattle.muck_watching.specs.Debugged.{HasRead, HasWritten, DebugDone};
+ghost use Rattle.muck_watching.specs.Debugged.{HasReadDebugScript, HasWrittenSeen, DebugDone};
 
 use crate::watching::play_seen;
 use muck_debugging::{DebugAct, DebugScript, read_debug};
 use muck_disk::Disk;
-use muck_dumping::Store;
 use muck_io::{ReadFault, Sink, Source, read_all};
 use muck_log::Log;
 use muck_model::Tale;
-use muck_run::{RunFault, begin, last_dump, mount, stop};
+use muck_run::{RunFault, Store, begin, last_dump, mount, stop};
 use muck_script::{SCRIPT_MOST, ScriptFault};
 use muck_why::Why;
 use muf_debug::Tracer;
@@ -24,7 +23,7 @@ use std::alloc::Global;
 
 // Reads the script whole.
 fn read_script<S: Source>(alloc: Global, script: &mut S) -> Result<DebugScript, Why>
-    ensures read { IfOk result (λ acts. HasRead S.left S.faults script.old script.new acts) }
+    ensures read { IfOk result (λ acts. HasReadDebugScript S.left S.faults script.old script.new acts) }
     ensures why { IfErr result (IsDebugWhy (S.left script.old)) }
     ensures cause { IsErrOf result Why.ReadFault → Rose (S.faults script.old) (S.faults script.new) }
     ensures stands { (IsErrOf result Why.ReadFault → ⊥) → S.faults script.new ≡ S.faults script.old }
@@ -78,7 +77,7 @@ fn debug_acts<K: Sink, D: Disk>(
     requires fine { IsFine log.chosen.held.world }
     ensures ends { NeverPlayed result.0 out.old out.new first.old second.old first.new second.new result.1.entries
         ⊎ (HasPlayed (λ _. None) K.faults D.tells D.seen D.moment D.images D.faults log result.0 (plain_acts acts.now) out.old out.new first.old second.old first.new second.new result.1.entries result.1.notes
-        × HasWritten (booted_from log.chosen.held.world) result.0 acts.now (K.written out.old) (K.written out.new) result.1.entries) }
+        × HasWrittenSeen (booted_from log.chosen.held.world) result.0 acts.now (K.written out.old) (K.written out.new) result.1.entries) }
     ensures why { MayEnd D.tells result.0 }
     ensures write { result.0 ≡ Why.WriteFault → Rose (K.faults out.old) (K.faults out.new) }
     ensures stands { (result.0 ≡ Why.WriteFault → ⊥) → K.faults out.new ≡ K.faults out.old }

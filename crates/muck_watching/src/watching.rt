@@ -2,9 +2,9 @@
 ghost use Rattle.std.specs.Prelude.{◌≡◌, ◌≤◌, OnOk, IfSome, IsErrOf, OnErr, length, option_copied, true, false, Option, None, Err, List, ℕ};
 ghost use Rattle.muck_io.specs.Faults.{Rose};
 ghost use Rattle.spec_events.specs.Histories.{now};
-ghost use Rattle.muck_script.specs.Story.{acted, turns, turns_most, plain, both, line_story};
+ghost use Rattle.muck_script.specs.Story.{acted, turns, turns_most, plain_part, both_parts, line_story};
 ghost use Rattle.spec_dumps.specs.inner.Holding.{Quietly, Rests};
-ghost use Rattle.muck_dumping.specs.inner.Between.{Knows};
+ghost use Rattle.muck_run.specs.inner.Between.{Knows};
 ghost use Rattle.muf_debug.specs.Shown.{TellsSo};
 ghost use Rattle.muf_debug.specs.Watching.{SeesAll};
 ghost use Rattle.muck_debugging.specs.Seen.{views_in};
@@ -15,11 +15,9 @@ ghost use Rattle.muck_watching.specs.inner.Seen.{IsReady, Shows, PlaysOrBreaksSe
 
 use muck_debugging::{DebugAct, settle_seen, units_text};
 use muck_disk::Disk;
-use muck_dumping::Store;
 use muck_io::{Sink, WriteFailed, write_all};
-use muck_machine::World;
 use muck_model::NoMemory;
-use muck_run::{RunFault, act, greatest, make_asked, serve_all};
+use muck_run::{RunFault, Store, World, act, greatest, make_asked, serve_all};
 use muck_script::Act;
 use muf_debug::Tracer;
 use std::alloc::Global;
@@ -27,7 +25,7 @@ use std::alloc::Global;
 // Takes the turns of lines and processes, of whose units the tracer is told; nothing is written of it.
 fn turn(world: &mut World, tracer: &mut Tracer) -> Result<(), RunFault>
     requires { (now world.old).dead ≡ false }
-    ensures plays { (o : Option (List ℕ)) → PlaysOrBreaks (plain (turns turns_most)) world.old world.new o o result }
+    ensures plays { (o : Option (List ℕ)) → PlaysOrBreaks (plain_part (turns turns_most)) world.old world.new o o result }
     ensures seen { OnOk result (SeesAll TellsSo (views_in (now world.old) (turns turns_most (now world.old))) tracer.old tracer.new) }
     ensures quiet { Quietly world.old world.new }
     ensures memory { OnErr result (result ≡ Err RunFault.NoMemory) }
@@ -74,7 +72,7 @@ fn turn_and_show<K: Sink>(
 ) -> Result<(), RunFault>
     requires alive { (now world.old).dead ≡ false }
     requires ready { IsReady tracer.old }
-    ensures plays { PlaysOrBreaksSeen (plain (turns turns_most)) tracer.old tracer.new world.old world.new (K.written out.old) (K.written out.new) result }
+    ensures plays { PlaysOrBreaksSeen (plain_part (turns turns_most)) tracer.old tracer.new world.old world.new (K.written out.old) (K.written out.new) result }
     ensures quiet { Quietly world.old world.new }
     ensures fine { OnOk result (K.faults out.new ≡ K.faults out.old) }
     ensures later { K.faults out.old ≤ K.faults out.new }
@@ -97,7 +95,7 @@ fn act_and_turn<K: Sink>(
 ) -> Result<(), RunFault>
     requires alive { (now world.old).dead ≡ false }
     requires ready { IsReady tracer.old }
-    ensures plays { PlaysOrBreaksSeen (both (plain (acted asked.now)) (plain (turns turns_most))) tracer.old tracer.new world.old world.new (K.written out.old) (K.written out.new) result }
+    ensures plays { PlaysOrBreaksSeen (both_parts (plain_part (acted asked.now)) (plain_part (turns turns_most))) tracer.old tracer.new world.old world.new (K.written out.old) (K.written out.new) result }
     ensures quiet { Quietly world.old world.new }
     ensures fine { OnOk result (K.faults out.new ≡ K.faults out.old) }
     ensures later { K.faults out.old ≤ K.faults out.new }

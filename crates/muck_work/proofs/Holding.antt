@@ -1,7 +1,7 @@
 -- What a party may give back, and what it has claimed.
 use Rattle.std.proofs.Common.{◌≡◌, ℕ, ℤ, Bool, true, false, ◌==◌, List, [], ◌∷◌, ◌++◌, refl, sym, ◌∙◌, ap, subst, arith, append_assoc}
 use Rattle.std.proofs.lemmas.Bool.Decides.{nat_tests}
-use Rattle.turn_lock.specs.Histories.{kept, own_of}
+use Rattle.turn_lock.specs.Histories.{entry_kept, own_of}
 use Rattle.turn_lock.specs.declared.view.Place.TheVariants.{Idle}
 use Rattle.muck_model.specs.declared.event.Entry.{Entry}
 use Rattle.muck_model.specs.declared.event.Event.{Event}
@@ -64,7 +64,7 @@ others_are p (l ∷ ls) none = from (l.entry.party == p) refl none (others_are p
     other : (a b : ℕ) → (a == b) ≡ false → ¬ (a ≡ b)
     other a b is = λ same. grind (arith, nat_tests)
 
-    from : (t : Bool) → (l.entry.party == p) ≡ t → kept t l (own_of logged_by p ls) ≡ [] → (own_of logged_by p ls ≡ [] → AreOthers p (entries_of ls)) → (¬ (l.entry.party ≡ p)) × AreOthers p (entries_of ls)
+    from : (t : Bool) → (l.entry.party == p) ≡ t → entry_kept t l (own_of logged_by p ls) ≡ [] → (own_of logged_by p ls ≡ [] → AreOthers p (entries_of ls)) → (¬ (l.entry.party ≡ p)) × AreOthers p (entries_of ls)
     from true is e rest = absurd (none_or_more l (own_of logged_by p ls) e)
     from false is e rest = (other l.entry.party p is, rest e)
 

@@ -1,61 +1,35 @@
 -- A party idles where there is nothing for it to do.
-use Rattle.std.proofs.Common.{◌≡◌, ℕ, ◌<◌, Bool, true, false, not, ◌&&◌, ◌||◌, ◌==◌, cond, List, [], ◌∷◌, refl, sym, ◌∙◌, ap, Option, Some, None}
+use Rattle.std.proofs.Common.{◌≡◌, ℕ, ◌<◌, true, false, not, ◌&&◌, ◌||◌, ◌==◌, cond, sym, ◌∙◌, ap, None}
 use Rattle.std.specs.Prelude.{find}
-use Rattle.std.specs.List.{filter, reduce, list_any}
+use Rattle.std.specs.List.{list_any}
 use Rattle.std.specs.Option.{option_map}
 use Rattle.std.proofs.lemmas.Bool.{cond-false, lt-ltb}
+use Rattle.muck_laws.proofs.Mapped.{reduced_none}
+use Rattle.muck_laws.proofs.Options.{mapped_none}
+use Rattle.muck_laws.proofs.Tests.{found_none, none_passes_idling}
+use Rattle.muck_laws.proofs.Truths.{none_going}
 use Rattle.muck_model.specs.declared.event.Event.TheVariants.{Idle}
 use Rattle.spec_live.specs.Connections.{Connection}
 use Rattle.muck_queue.specs.declared.process.Process.{Process}
-use Rattle.muck_queue.specs.Queues.{is_due, earlier, earliest, next_due}
+use Rattle.muck_queue.specs.Queues.{is_process_due, earlier, earliest, next_due}
 use Rattle.spec_events.specs.World.{World}
-use Rattle.spec_events.specs.Steps.{is_free, has_line, has_due, is_dump_due, is_lawful, next_ready, next_process}
+use Rattle.spec_events.specs.Steps.{has_line_to_do, has_line, has_due, is_dump_due, is_lawful, next_ready, next_process}
 use Rattle.muck_work.specs.inner.Jobs.{by}
-
-found_none : {X : Type 0} (test : X → Bool) (xs : List X) → find test xs ≡ None → list_any test xs ≡ false
-found_none test [] e = refl
-found_none test (x ∷ xs) e = at (test x) e (found_none test xs)
-  where
-    at : (b : Bool) → cond b (Some x) (find test xs) ≡ None → (find test xs ≡ None → list_any test xs ≡ false) → (b || list_any test xs) ≡ false
-    at true e f = cc
-    at false e f = f e
-
-none_passes : {X : Type 0} (test : X → Bool) (xs : List X) → filter test xs ≡ [] → list_any test xs ≡ false
-none_passes test [] e = refl
-none_passes test (x ∷ xs) e = at (test x) e (none_passes test xs)
-  where
-    at : (b : Bool) → cond b (x ∷ filter test xs) (filter test xs) ≡ [] → (filter test xs ≡ [] → list_any test xs ≡ false) → (b || list_any test xs) ≡ false
-    at true e f = cc
-    at false e f = f e
-
-mapped_none : {X Y : Type 0} (f : X → Y) (o : Option X) → option_map f o ≡ None → o ≡ None
-mapped_none f None e = refl
-mapped_none f (Some x) e = cc
-
-reduced_none : {X : Type 0} (f : X → X → X) (xs : List X) → reduce f xs ≡ None → xs ≡ []
-reduced_none f [] e = refl
-reduced_none f (x ∷ xs) e = cc
-
-none_going : (a stop : Bool) → (stop ≡ false → a ≡ false) → (a && not stop) ≡ false
-none_going true true f = refl
-none_going false true f = refl
-none_going true false f = f refl
-none_going false false f = refl
 
 -- where no line is found that may be done
 no_line : (w : World) → w.dead ≡ false → next_ready w ≡ None → has_line w ≡ false
 unfolding next_ready
 no_line w alive none =
-    none_going (list_any (is_free w) w.live.board.connections) w.stopping
-    (λ going. found_none (is_free w) w.live.board.connections (mapped_none (λ (c : Connection). c.number) _ (sym (ap (λ b. cond (b || w.stopping) None (option_map (λ (c : Connection). c.number) (find (is_free w) w.live.board.connections))) alive
-    ∙ ap (λ b. cond b None (option_map (λ (c : Connection). c.number) (find (is_free w) w.live.board.connections))) going) ∙ none)))
+    none_going (list_any (has_line_to_do w) w.live.board.connections) w.stopping
+    (λ going. found_none (has_line_to_do w) w.live.board.connections (mapped_none (λ (c : Connection). c.number) _ (sym (ap (λ b. cond (b || w.stopping) None (option_map (λ (c : Connection). c.number) (find (has_line_to_do w) w.live.board.connections))) alive
+    ∙ ap (λ b. cond b None (option_map (λ (c : Connection). c.number) (find (has_line_to_do w) w.live.board.connections))) going) ∙ none)))
 
 no_due : (w : World) → w.dead ≡ false → next_process w ≡ None → has_due w ≡ false
 unfolding next_process next_due
 no_due w alive none =
-    none_going (list_any (is_due w.moment w.queue.claims) w.queue.processes) w.stopping
-    (λ going. none_passes (is_due w.moment w.queue.claims) w.queue.processes (reduced_none earlier _ (mapped_none (λ (p : Process). p.number) _ (sym (ap (λ b. cond (b || w.stopping) None (option_map (λ (p : Process). p.number) (earliest (is_due w.moment w.queue.claims) w.queue.processes))) alive
-    ∙ ap (λ b. cond b None (option_map (λ (p : Process). p.number) (earliest (is_due w.moment w.queue.claims) w.queue.processes))) going) ∙ none))))
+    none_going (list_any (is_process_due w.moment w.queue.claims) w.queue.processes) w.stopping
+    (λ going. none_passes_idling (is_process_due w.moment w.queue.claims) w.queue.processes (reduced_none earlier _ (mapped_none (λ (p : Process). p.number) _ (sym (ap (λ b. cond (b || w.stopping) None (option_map (λ (p : Process). p.number) (earliest (is_process_due w.moment w.queue.claims) w.queue.processes))) alive
+    ∙ ap (λ b. cond b None (option_map (λ (p : Process). p.number) (earliest (is_process_due w.moment w.queue.claims) w.queue.processes))) going) ∙ none))))
 
 -- the porter and the workers may idle
 pub idle_lawful : (w : World) (party : ℕ) → party < 9 → w.dead ≡ false → next_ready w ≡ None → next_process w ≡ None → is_lawful w (by party Idle) ≡ true

@@ -4,15 +4,15 @@ use Rattle.std.specs.Prelude.{nat_lt}
 use Rattle.std.proofs.lemmas.Bool.{ne_eqb, lt-ltb}
 use Rattle.turn_lock.specs.Histories.{StartsWith}
 use Rattle.muck_model.specs.declared.event.Event.{Event}
-use Rattle.muck_model.specs.declared.event.Event.TheVariants.{Exec, Claim, Idle, Died}
+use Rattle.muck_model.specs.declared.event.Event.TheVariants.{Exec, Claim, Idle}
 use Rattle.spec_events.specs.declared.logged.Logged.{Logged}
 use Rattle.spec_events.specs.Histories.{History, now}
 use Rattle.spec_events.specs.Logged.{bare_item, events_of, NoNotes, NoCounts}
-use Rattle.spec_events.specs.Own.{Stage, porter_next, worker_next, dumper_next, party_next, next, stage_of}
+use Rattle.spec_events.specs.Own.{Stage, porter_next, worker_next, dumper_next, party_next, next_stage, stage_of}
 use Rattle.spec_events.proofs.Logging.{events_append, no_notes_one, no_counts_one}
 use Rattle.spec_events.proofs.Owning.{stage_more, well_formed, over_with}
-use Rattle.muck_machine.specs.inner.Seats.{Sight, Chair, Rests, SameLists, Turned}
-use Rattle.muck_machine.proofs.Seating.{left_rests, seen_later}
+use Rattle.muck_work.specs.inner.Seats.{Sight, Chair, Rests, SameLists, Turned}
+use Rattle.muck_work.proofs.Seating.{left_rests, seen_later}
 use Rattle.muck_work.specs.declared.jobs.Job.{Job}
 use Rattle.muck_work.specs.declared.jobs.Job.TheVariants.{Line, Claim as JobClaim, Idle as JobIdle, Died as JobDied}
 use Rattle.muck_work.specs.inner.Jobs.{by, JobAs}
@@ -80,7 +80,7 @@ module _ (party : ℕ) (me : Chair) where
       events_since : events_of later_me.0.own ≡ events_of now_me.0.own ++ event ∷ []
       events_since = ap events_of t.own ∙ events_append now_me.0.own (bare_item (by party event) ∷ [])
 
-      stage_since : (later : Stage) → next party (stage_for task) event ≡ Some later → stage_of party (events_of later_me.0.own) ≡ Some later
+      stage_since : (later : Stage) → next_stage party (stage_for task) event ≡ Some later → stage_of party (events_of later_me.0.own) ≡ Some later
       stage_since later may = ap (stage_of party) events_since ∙ stage_more party (events_of now_me.0.own) event (stage_for task) later w.stage may
 
       notes_since : NoNotes later_me.0.own
@@ -90,7 +90,7 @@ module _ (party : ℕ) (me : Chair) where
       counts_since = subst NoCounts (sym t.own) (no_counts_one now_me.0.own (bare_item (by party event)) w.counts refl)
 
       -- it goes on
-      pub works_on : (later : Task) → Rests party later_me → next party (stage_for task) event ≡ Some (stage_for later) → IsHeld party later later_me.0 → Works party later me later_me
+      pub works_on : (later : Task) → Rests party later_me → next_stage party (stage_for task) event ≡ Some (stage_for later) → IsHeld party later later_me.0 → Works party later me later_me
       works_on later rests may held = record {
         rests = rests;
         lists = same_later me.0 now_me.0 later_me.0 w.lists t.lists;

@@ -4,20 +4,20 @@ use Rattle.std.specs.Prelude.{codes, length, All, ◌++◌, ◌^◌}
 use Rattle.muck_codec.specs.inner.Stored.{AreProperties}
 use Rattle.muck_io.specs.Faults.{Rose}
 use Rattle.muck_io.specs.inner.Clock.{Answers}
-use Rattle.muck_links.specs.Sessions.{Told}
+use Rattle.muck_links.specs.Sessions.{LinksTold}
 use Rattle.muck_model.specs.declared.event.Entry.{Entry}
 use Rattle.muck_model.specs.declared.note.Note.{Note}
 use Rattle.muck_model.specs.declared.note.Counted.{Counted}
-use Rattle.muck_log.specs.Store.{LogState, stored}
+use Rattle.muck_log.specs.Store.{LogState, store_of}
 use Rattle.muck_log.specs.World.{IsFine}
 use Rattle.muck_log.specs.inner.Mount.{IsMountedAs}
 use Rattle.spec_dumps.specs.Fronts.{file_most}
-use Rattle.spec_events.specs.World.{World, booted}
+use Rattle.spec_events.specs.World.{World, world_booted}
 use Rattle.spec_events.specs.Histories.{History}
 use Rattle.spec_live.specs.Boards.{early_board}
-use Rattle.muck_dumping.specs.inner.Between.{IsReady as HasLog}
-use Rattle.muck_porter.specs.inner.Kept.{Account, account}
-use Rattle.muck_crew.specs.inner.Runs.{IsFresh}
+use Rattle.muck_server.specs.inner.Between.{IsReady as HasLog}
+use Rattle.muck_server.specs.inner.Kept.{Account, account}
+use Rattle.muck_server.specs.inner.Runs.{IsFresh}
 use Rattle.muck_server.specs.Served.{IsServed, IsUnserved as Never, EndsTo, HasEnded}
 use Rattle.muck_run.specs.Outcome.{IsUntouched, EndsFull}
 use Rattle.muck_run.specs.inner.Dumps.{note_of}
@@ -46,7 +46,7 @@ server_ending workers faults faults' w end tale ended = absurd ended
 
 module _ (began : ℕ) (log : LogState) (note : Note) (h : History) (is : h ≡ begun_at began log note) where
   pub fresh_begun : IsFresh note h
-  unfolding booted early_board
+  unfolding world_booted early_board
   fresh_begun = record {
     entries = ap (λ (x : History). x.entries) is;
     notes = ap (λ (x : History). x.notes) is;
@@ -68,7 +68,7 @@ ready_begun began seen moment images faults log f s boots props mounted h is = r
   risen = λ none. let none' = none in cc;
 }
 
-module _ {L C D : Type 0} (shows : Bool) (told : L → Told) (listening : L → ℕ) (answers : C → Option (List ℕ))
+module _ {L C D : Type 0} (shows : Bool) (told : L → LinksTold) (listening : L → ℕ) (answers : C → Option (List ℕ))
     (tells : Bool) (attached : D → Option (List ℕ)) (seen : D → List ℕ) (moment : D → ℕ) (images : D → ℕ → List ℕ → Type 0) (faults : D → ℕ) (store : List ℕ) (port workers : ℕ)
     (log : LogState) (began : ℕ) (mounting : Note) (why : Why) (l l' : L) (c c' c'' : C) (first second first' second' first'' second'' : D) (tale : List Entry) (notes : List Note) (counted : Option Counted) where
   -- what links and clock tell
@@ -102,7 +102,7 @@ module _ {L C D : Type 0} (shows : Bool) (told : L → Told) (listening : L → 
     pub clock : Answers (answers c) (answers c') began
     pub note : IsNoteOf moment faults first' second' mounting
 
-  held : Mounting → tells ≡ true → stored (seen first) (seen second) ≡ Ok log.chosen
+  held : Mounting → tells ≡ true → store_of (seen first) (seen second) ≡ Ok log.chosen
   held m on = holds_still seen moment images first second first' second' (m.first_file on) (m.second_file on) (Ok log.chosen) (m.mounted on).mounted.load
 
   has_served : Mounting → Ends (booted_at began log.chosen.held.world) → Served
@@ -219,7 +219,7 @@ serves_all why U S ends disk listen damaged F full = absurd ends
 
 -- What the answer of a server tells.
 
-module _ {L C D : Type 0} (shows : Bool) (told : L → Told) (listening : L → ℕ) (answers : C → Option (List ℕ))
+module _ {L C D : Type 0} (shows : Bool) (told : L → LinksTold) (listening : L → ℕ) (answers : C → Option (List ℕ))
     (tells : Bool) (attached : D → Option (List ℕ)) (seen : D → List ℕ) (moment : D → ℕ) (images : D → ℕ → List ℕ → Type 0) (faults : D → ℕ) (store : List ℕ) (port workers : ℕ)
     (why : Why) (l l' : L) (c c' : C) (first second first' second' : D) (tale : List Entry) (notes : List Note) (counted : Option Counted) where
   abbrev U : Type 0
@@ -243,7 +243,7 @@ module _ {L C D : Type 0} (shows : Bool) (told : L → Told) (listening : L → 
 
   -- what a call comes to, from which of the two is so, and the causes of the answers that a store gives
   pub serve_done : ServesAs why U HasBeenServed → (why ≡ DiskFault → Rose (faults first) (faults first') ⊎ Rose (faults second) (faults second'))
-      → ((file : Bool) (at : ℕ) → tells ≡ true → why ≡ Damaged file at → stored (seen first) (seen second) ≡ Err (record { second = file; at = at }))
+      → ((file : Bool) (at : ℕ) → tells ≡ true → why ≡ Damaged file at → store_of (seen first) (seen second) ≡ Err (record { second = file; at = at }))
       → ServeDone shows told listening answers tells attached seen moment images faults store port workers why l l' c c' first second first' second' tale notes counted
   serve_done ends disk_fault damaged = record {
     ends = ends;

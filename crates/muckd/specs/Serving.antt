@@ -2,11 +2,11 @@
 use Rattle.std.specs.Prelude.{◌≡◌, ◌⊎◌, ◌≤◌, ◌^◌, ℕ, Bool, true, false, List, [], ◌∷◌, length, Option, Some, None, Ok, Err}
 use Rattle.muck_io.specs.Faults.{Rose}
 use Rattle.muck_io.specs.inner.Clock.{Answers}
-use Rattle.muck_links.specs.Sessions.{Told}
+use Rattle.muck_links.specs.Sessions.{LinksTold}
 use Rattle.muck_model.specs.declared.event.Entry.{Entry}
 use Rattle.muck_model.specs.declared.note.Note.{Note}
 use Rattle.muck_model.specs.declared.note.Counted.{Counted}
-use Rattle.muck_log.specs.Store.{Chosen, stored}
+use Rattle.muck_log.specs.Store.{Chosen, store_of}
 use Rattle.spec_dumps.specs.Survival.{IsSafe, StandsWhole, RoseInLast}
 use Rattle.spec_events.specs.World.{World}
 use Rattle.spec_events.specs.Histories.{AllLawful, AllLicensed}
@@ -19,8 +19,8 @@ use Rattle.spec_origins.specs.Stops.{AllStops}
 use Rattle.spec_origins.specs.There.{StaysThere}
 use Rattle.spec_serve.specs.Marks.{counts_in, IsLinksNote}
 use Rattle.spec_serve.specs.Promises.{Tally}
-use Rattle.muck_porter.specs.Times.{Timely}
-use Rattle.muck_crew.specs.Shared.{IsShared, AllOver, LeavesWorkedOff}
+use Rattle.muck_server.specs.Times.{Timely}
+use Rattle.muck_server.specs.Shared.{IsShared, AllOver, LeavesWorkedOff}
 use Rattle.muck_server.specs.Served.{IsCarried, HasStopped, HasRunOut, HasEnded}
 use Rattle.muckd.specs.Words.{Command, serve}
 use Rattle.muck_run.specs.Outcome.{IsStart, IsOpened, IsUntouched, IsTooLarge, EndsFull}
@@ -34,16 +34,16 @@ is_served (Some (serve store port workers)) = true
 is_served other = false
 
 -- what links tell, with the count of faults in listening
-abbrev pub tally_of : {L : Type 0} → (L → Told) → (L → ℕ) → L → Tally
+abbrev pub tally_of : {L : Type 0} → (L → LinksTold) → (L → ℕ) → L → Tally
 tally_of told listening links = record { told = told links; listening = listening links }
 
 -- The clock, which had these answers, wasn't asked, or once, behind the mounting: then the two files hold a store.
 abbrev pub IsAskedOnce : {C : Type 0} → (C → Option (List ℕ)) → Bool → List ℕ → List ℕ → C → C → Type 0
-IsAskedOnce answers tells a b c c' = (c' ≡ c) ⊎ ((began : ℕ) × Answers (answers c) (answers c') began × (tells ≡ true → (s : Chosen) × (stored a b ≡ Ok s)))
+IsAskedOnce answers tells a b c c' = (c' ≡ c) ⊎ ((began : ℕ) × Answers (answers c) (answers c') began × (tells ≡ true → (s : Chosen) × (store_of a b ≡ Ok s)))
 
 -- It never began: nothing happened, nobody was let in (`shows` says that the links tell what they carry), and nothing was written to the
 -- files. The links were asked to listen on no port, or once, on this one; and the clock for the second at which it was to begin, or never.
-pub record IsUnserved {L C D : Type 0} (shows : Bool) (told : L → Told) (answers : C → Option (List ℕ)) (tells : Bool) (seen : D → List ℕ) (moment : D → ℕ) (images : D → ℕ → List ℕ → Type 0)
+pub record IsUnserved {L C D : Type 0} (shows : Bool) (told : L → LinksTold) (answers : C → Option (List ℕ)) (tells : Bool) (seen : D → List ℕ) (moment : D → ℕ) (images : D → ℕ → List ℕ → Type 0)
     (port : ℕ) (l l' : L) (c c' : C) (first second first' second' : D) (tale : List Entry) (counted : Option Counted) : Type 0 where
   pub empty : tale ≡ []
   pub unnoted : counted ≡ None
@@ -61,7 +61,7 @@ pub record IsUnserved {L C D : Type 0} (shows : Bool) (told : L → Told) (answe
 -- Each party did what it may, and that is over, but where all turns were had. The note of the links (`counted`) stands where it belongs. The links were asked to listen once, on this port, and what they carried is what
 -- that history says of each connection. Each moment is the greater of what the clock, which had the answers `coming` from then on, answers next, and of the second before
 -- it. Of the disks is kept what is kept of a run.
-pub record HasServed {L C D : Type 0} (shows : Bool) (told : L → Told) (listening : L → ℕ) (answers : C → Option (List ℕ))
+pub record HasServed {L C D : Type 0} (shows : Bool) (told : L → LinksTold) (listening : L → ℕ) (answers : C → Option (List ℕ))
     (tells : Bool) (attached : D → Option (List ℕ)) (seen : D → List ℕ) (moment : D → ℕ) (images : D → ℕ → List ℕ → Type 0) (faults : D → ℕ) (store : List ℕ) (port workers : ℕ) (why : Why)
     (l l' : L) (c c' : C) (first second first' second' : D) (tale : List Entry) (notes : List Note) (counted : Option Counted) : Type 0 where
   pub start : World
@@ -98,7 +98,7 @@ abbrev pub ServesAs : Why → Type 0 → Type 0 → Type 0
 ServesAs why unserved served = admitted (row_of why).serve unserved served
 
 -- A call for `serve`, by its answer.
-pub record ServeDone {L C D : Type 0} (shows : Bool) (told : L → Told) (listening : L → ℕ) (answers : C → Option (List ℕ))
+pub record ServeDone {L C D : Type 0} (shows : Bool) (told : L → LinksTold) (listening : L → ℕ) (answers : C → Option (List ℕ))
     (tells : Bool) (attached : D → Option (List ℕ)) (seen : D → List ℕ) (moment : D → ℕ) (images : D → ℕ → List ℕ → Type 0) (faults : D → ℕ) (store : List ℕ) (port workers : ℕ) (why : Why)
     (l l' : L) (c c' : C) (first second first' second' : D) (tale : List Entry) (notes : List Note) (counted : Option Counted) : Type 0 where
   -- Either nothing happened, nobody was let in, and nothing was written to a file; or one history happened, from the world that the two files held, at the clock's second: all parties added to it,
@@ -109,9 +109,9 @@ pub record ServeDone {L C D : Type 0} (shows : Bool) (told : L → Told) (listen
   -- each answer but `Fine` and want of memory has its cause
   pub listen_fault : why ≡ ListenFault → Rose (listening l) (listening l')
   pub disk_fault : why ≡ DiskFault → Rose (faults first) (faults first') ⊎ Rose (faults second) (faults second')
-  pub damaged : (file : Bool) (at : ℕ) → tells ≡ true → why ≡ Damaged file at → stored (seen first) (seen second) ≡ Err (record { second = file; at = at })
+  pub damaged : (file : Bool) (at : ℕ) → tells ≡ true → why ≡ Damaged file at → store_of (seen first) (seen second) ≡ Err (record { second = file; at = at })
   -- all turns were had
   pub spent : (turns : ℕ) → why ≡ Spent turns → (turns ≡ 2 ^ 62) × (2 ^ 62 ≤ length tale)
   -- where a store loads and no count rose, it was stopped and all was stored, or memory was wanted, or the last dump would pass what a file may have, on what the files hold, or all turns were had
-  pub complete : (chosen : Chosen) → tells ≡ true → stored (seen first) (seen second) ≡ Ok chosen → (Rose (listening l) (listening l') → ⊥) → (Rose (faults first) (faults first') → ⊥) → (Rose (faults second) (faults second') → ⊥)
+  pub complete : (chosen : Chosen) → tells ≡ true → store_of (seen first) (seen second) ≡ Ok chosen → (Rose (listening l) (listening l') → ⊥) → (Rose (faults first) (faults first') → ⊥) → (Rose (faults second) (faults second') → ⊥)
       → (why ≡ Fine) ⊎ ((why ≡ NoMemory) ⊎ (((end more began : ℕ) × (why ≡ StoreFull end more) × EndsFull tells seen began first second first' second' tale notes end more) ⊎ ((turns : ℕ) × (why ≡ Spent turns))))

@@ -7,9 +7,9 @@ use Rattle.std.proofs.lemmas.Bool.Decides.{nat_tests}
 use Rattle.muf_model.specs.declared.fault.MufFault.TheVariants.{TooHeavy, BadArgument}
 use Rattle.muf_model.specs.declared.value.MapKey.{MapKey}
 use Rattle.muf_model.specs.declared.value.MapKey.TheVariants.{Number, Name}
-use Rattle.muf_model.specs.Datum.{Datum, items, dict, data_of, pairs_of, entries_of, list_of}
-use Rattle.muf_model.specs.Entries.{with_entry, without}
-use Rattle.muf_model.specs.Values.{fits}
+use Rattle.muf_model.specs.Datum.{Datum, items, dict, data_of, pairs_of, entries_of, data_list}
+use Rattle.muf_model.specs.Entries.{with_entry, without_key}
+use Rattle.muf_model.specs.Values.{value_fits}
 use Rattle.muf_model.specs.Answer.{Made, makes, rejects}
 use Rattle.muf_model.specs.ArrayRows.{valued, appended_to, gone_from}
 use Rattle.muf_model.proofs.Sized.{entries_again, at_end}
@@ -61,17 +61,17 @@ refusal_cases : (b : Bool) (d : Datum) → refusal (if b then makes (d ∷ []) e
 refusal_cases true d = refl
 refusal_cases false d = refl
 
-pub refusal_valued : (d : Datum) → refusal (valued d) ≡ fault_of (fits d)
-refusal_valued d = refusal_cases (fits d) d
+pub refusal_valued : (d : Datum) → refusal (valued d) ≡ fault_of (value_fits d)
+refusal_valued d = refusal_cases (value_fits d) d
 
 fitting_cases : (b : Bool) → fault_of b ≡ None → b ≡ true
 fitting_cases true e = refl
 fitting_cases false e = absurd (let no : Some TooHeavy ≡ None = e in cc)
 
-pub fits_of : (d : Datum) → refusal (valued d) ≡ None → fits d ≡ true
-fits_of d e = fitting_cases (fits d) (sym (refusal_valued d) ∙ e)
+pub fits_of : (d : Datum) → refusal (valued d) ≡ None → value_fits d ≡ true
+fits_of d e = fitting_cases (value_fits d) (sym (refusal_valued d) ∙ e)
 
-pub valued_of : (d : Datum) → fits d ≡ true → valued d ≡ makes (d ∷ [])
+pub valued_of : (d : Datum) → value_fits d ≡ true → valued d ≡ makes (d ∷ [])
 valued_of d e = rw e refl
 
 pub ruleset change_steps = (changed_at, changed_dict, appended_at, refusal_valued, fits_of, valued_of)
@@ -92,7 +92,7 @@ pub gone_number : (ds : List Datum) (z : ℤ) → gone_from (items (data_of ds))
 gone_number ds (pos n) = rw (list_again ds) (ap (λ r. makes (items (data_of r) ∷ [])) (gone_cases (nat_lt n (length ds)) n ds refl))
 gone_number ds (negsuc n) = refl
 
-pub gone_dict : (es : List (MapKey × Datum)) (k : MapKey) → gone_from (dict (pairs_of es)) k ≡ makes (dict (pairs_of (without k es)) ∷ [])
-gone_dict es k = ap (λ r. makes (dict (pairs_of (without k r)) ∷ [])) (entries_again es)
+pub gone_dict : (es : List (MapKey × Datum)) (k : MapKey) → gone_from (dict (pairs_of es)) k ≡ makes (dict (pairs_of (without_key k es)) ∷ [])
+gone_dict es k = ap (λ r. makes (dict (pairs_of (without_key k r)) ∷ [])) (entries_again es)
 
 pub ruleset gone_steps = (gone_number, gone_dict)

@@ -1,17 +1,17 @@
 -- A primitive that passes its tests gives one item for those that it takes.
 use Rattle.std.proofs.Common.{◌≡◌, ◌∙◌, ap, sym, ℕ, ◌+◌, ◌≤◌, Bool, true, false, List, [], ◌∷◌, ◌++◌, length, take, drop, refl, arith}
-use Rattle.std.specs.Prelude.{Option, Some, None, Result, Ok, Err, IfOk, IsTrue, slice_get, pos, negsuc, nat_lt, if◌then◌else◌}
+use Rattle.std.specs.Prelude.{Option, Some, None, slice_get, pos, negsuc, nat_lt, if◌then◌else◌}
 use Rattle.muf_model.specs.declared.fault.MufFault.{MufFault}
 use Rattle.muf_model.specs.declared.fault.MufFault.TheVariants.{BadArgument, BadType, TooHeavy}
 use Rattle.muf_model.specs.declared.value.MapKey.{MapKey}
 use Rattle.muf_model.specs.declared.value.MapKey.TheVariants.{Number, Name}
-use Rattle.muf_model.specs.Datum.{Datum, items, dict, data_of, pairs_of, entries_of, list_of}
-use Rattle.muf_model.specs.Entries.{with_entry, without}
-use Rattle.muf_model.specs.Values.{fits}
-use Rattle.muf_model.specs.Answer.{Answer, gives, refuses, Scope, Made, makes, rejects, plain, put}
-use Rattle.muf_model.specs.Needs.{takes, any, a_key, a_list, a_collection}
+use Rattle.muf_model.specs.Datum.{Datum, items, dict, data_of, pairs_of, entries_of, data_list}
+use Rattle.muf_model.specs.Entries.{with_entry, without_key}
+use Rattle.muf_model.specs.Values.{value_fits}
+use Rattle.muf_model.specs.Answer.{Answer, gives, refuses, Scope, Made, makes, rejects, plain, items_put}
+use Rattle.muf_model.specs.Needs.{takes_items, anything, a_key, a_list, a_collection}
 use Rattle.muf_model.specs.ArrayRows.{valued, appended, appended_to, gone_from, held_and_key, item_held_and_key}
-use Rattle.muf_model.specs.Rows.{used, primitive}
+use Rattle.muf_model.specs.Rows.{primitive_used, primitive}
 use Rattle.muf_model.specs.inner.Flat.{Flat}
 use Rattle.muf_frame.specs.inner.Shown.{locked_by}
 use Rattle.muf_array.specs.declared.changes.Change.{Change}
@@ -35,25 +35,25 @@ fitting_single true d = tt
 fitting_single false d = tt
 
 valued_single : (d : Datum) → Single (valued d)
-valued_single d = fitting_single (fits d) d
+valued_single d = fitting_single (value_fits d) d
 
 between_single : (b : Bool) (d : Datum) → Single (if b then rejects BadArgument else valued d)
 between_single true d = tt
 between_single false d = valued_single d
 
 changed_single : (c : Change) (x a : Datum) (k : MapKey) → Single (at_held (changed c x) a k)
-changed_single Set x (items ds) (Number (pos n)) = between_single (nat_lt (length (list_of ds)) n) (items (data_of (take n (list_of ds) ++ x ∷ drop (n + 1) (list_of ds))))
+changed_single Set x (items ds) (Number (pos n)) = between_single (nat_lt (length (data_list ds)) n) (items (data_of (take n (data_list ds) ++ x ∷ drop (n + 1) (data_list ds))))
 changed_single Set x (items ds) (Number (negsuc n)) = tt
 changed_single Set x (items ds) (Name t) = tt
 changed_single Set x (dict ps) k = valued_single (dict (pairs_of (with_entry k x (entries_of ps))))
-changed_single Insert x (items ds) (Number (pos n)) = between_single (nat_lt (length (list_of ds)) n) (items (data_of (take n (list_of ds) ++ x ∷ drop n (list_of ds))))
+changed_single Insert x (items ds) (Number (pos n)) = between_single (nat_lt (length (data_list ds)) n) (items (data_of (take n (data_list ds) ++ x ∷ drop n (data_list ds))))
 changed_single Insert x (items ds) (Number (negsuc n)) = tt
 changed_single Insert x (items ds) (Name t) = tt
 changed_single Insert x (dict ps) k = valued_single (dict (pairs_of (with_entry k x (entries_of ps))))
 changed_single c x _ k = tt
 
 appended_single : (a x : Datum) → Single (appended_to a x)
-appended_single (items ds) x = valued_single (items (data_of (list_of ds ++ x ∷ [])))
+appended_single (items ds) x = valued_single (items (data_of (data_list ds ++ x ∷ [])))
 appended_single _ x = tt
 
 gone_single : (a : Datum) (k : MapKey) → Single (at_held gone_from a k)
@@ -67,13 +67,13 @@ gone_single _ k = tt
 abbrev Given : List Datum → Answer → Type 0
 Given rest a = (x : Datum) × (a ≡ gives (x ∷ rest))
 
-three_put : (m : Made) (rest : List Datum) → Single m → refusal m ≡ None → Given rest (put 3 m rest)
+three_put : (m : Made) (rest : List Datum) → Single m → refusal m ≡ None → Given rest (items_put 3 m rest)
 three_put (makes []) rest h e = absurd h
 three_put (makes (d ∷ [])) rest h e = (d, refl)
 three_put (makes (d ∷ x ∷ ds)) rest h e = absurd h
 three_put (rejects f) rest h e = absurd (let no : Some f ≡ None = e in cc)
 
-two_put : (m : Made) (rest : List Datum) → Single m → refusal m ≡ None → Given rest (put 2 m rest)
+two_put : (m : Made) (rest : List Datum) → Single m → refusal m ≡ None → Given rest (items_put 2 m rest)
 two_put (makes []) rest h e = absurd h
 two_put (makes (d ∷ [])) rest h e = (d, refl)
 two_put (makes (d ∷ x ∷ ds)) rest h e = absurd h
@@ -94,21 +94,21 @@ append_given (Some a) None rest e = absurd (let no : Some BadType ≡ None = e i
 append_given None x rest e = absurd (let no : Some BadType ≡ None = e in cc)
 
 -- the row, where the tests are passed
-item_row : (c : Change) (f : Flat) (k : MapKey) (s : Scope) → locked_by f.marks + 3 ≤ length f.stack → key_in 0 f.stack ≡ Some k → s.locked ≡ locked_by f.marks → used 1 (takes (a_key ∷ a_collection ∷ any ∷ [])) (Some (plain (item_held_and_key (changed c)))) s f.stack ≡ item_read (changed c) (Some k) (slice_get f.stack 1) (slice_get f.stack 2) (drop 3 f.stack)
+item_row : (c : Change) (f : Flat) (k : MapKey) (s : Scope) → locked_by f.marks + 3 ≤ length f.stack → key_in 0 f.stack ≡ Some k → s.locked ≡ locked_by f.marks → primitive_used 1 (takes_items (a_key ∷ a_collection ∷ anything ∷ [])) (Some (plain (item_held_and_key (changed c)))) s f.stack ≡ item_read (changed c) (Some k) (slice_get f.stack 1) (slice_get f.stack 2) (drop 3 f.stack)
 item_row c f k s h g e =
     let l : s.locked + 3 ≤ length f.stack = omega (arith, h, e) in
     item_used (changed c) 1 s f.stack
     ∙ enough 3 s.locked f.stack _ l
     ∙ ap (λ o. item_read (changed c) o (slice_get f.stack 1) (slice_get f.stack 2) (drop 3 f.stack)) g
 
-held_row : (f : Flat) (k : MapKey) (s : Scope) → locked_by f.marks + 2 ≤ length f.stack → key_in 0 f.stack ≡ Some k → s.locked ≡ locked_by f.marks → used 1 (takes (a_key ∷ a_collection ∷ [])) (Some (plain (held_and_key gone_from))) s f.stack ≡ held_read gone_from (Some k) (slice_get f.stack 1) (drop 2 f.stack)
+held_row : (f : Flat) (k : MapKey) (s : Scope) → locked_by f.marks + 2 ≤ length f.stack → key_in 0 f.stack ≡ Some k → s.locked ≡ locked_by f.marks → primitive_used 1 (takes_items (a_key ∷ a_collection ∷ [])) (Some (plain (held_and_key gone_from))) s f.stack ≡ held_read gone_from (Some k) (slice_get f.stack 1) (drop 2 f.stack)
 held_row f k s h g e =
     let l : s.locked + 2 ≤ length f.stack = omega (arith, h, e) in
     held_used gone_from 1 s f.stack
     ∙ enough 2 s.locked f.stack _ l
     ∙ ap (λ o. held_read gone_from o (slice_get f.stack 1) (drop 2 f.stack)) g
 
-append_row : (f : Flat) (s : Scope) → locked_by f.marks + 2 ≤ length f.stack → s.locked ≡ locked_by f.marks → used 1 (takes (a_list ∷ any ∷ [])) (Some (plain appended)) s f.stack ≡ append_read (slice_get f.stack 0) (slice_get f.stack 1) (drop 2 f.stack)
+append_row : (f : Flat) (s : Scope) → locked_by f.marks + 2 ≤ length f.stack → s.locked ≡ locked_by f.marks → primitive_used 1 (takes_items (a_list ∷ anything ∷ [])) (Some (plain appended)) s f.stack ≡ append_read (slice_get f.stack 0) (slice_get f.stack 1) (drop 2 f.stack)
 append_row f s h e =
     let l : s.locked + 2 ≤ length f.stack = omega (arith, h, e) in
     append_used 1 s f.stack ∙ enough 2 s.locked f.stack _ l
@@ -136,8 +136,3 @@ delete_opens f h =
 -- it isn't refused
 pub never_refused : (c : Changer) (f : Flat) (words : ℕ) (e : MufFault) → IsOpen c f → primitive (prim_of c) (scope_of words f) f.stack ≡ refuses e → ⊥
 never_refused c f words e h r = let no : gives (h.made ∷ drop (taken_by c) f.stack) ≡ refuses e = sym (h.done (scope_of words f) refl) ∙ r in cc
-
--- what an answer is taken for
-pub open_where : {E : Type 0} {P Q : Type 0} → (r : Result Bool E) → (P → Q) → IfOk r (λ yes. IsTrue yes → P) → IfOk r (λ yes. IsTrue yes → Q)
-open_where (Ok b) f h = λ y. f (h y)
-open_where (Err e) f h = h

@@ -5,24 +5,24 @@ use Rattle.std.specs.Option.{unwrap_or}
 use Rattle.std.proofs.lemmas.List.{length-map, append_assoc, append-nil}
 use Rattle.muf_model.specs.declared.value.MapKey.{MapKey}
 use Rattle.muf_model.specs.Datum.{Datum}
-use Rattle.muf_model.specs.Texts.{joined}
-use Rattle.muf_model.specs.ArrayRows.{word_of, words_of, onto}
+use Rattle.muf_model.specs.Texts.{texts_joined}
+use Rattle.muf_model.specs.ArrayRows.{item_word, words_of, onto}
 use Rattle.muf_model.proofs.FaultTexts.{inside-append}
 use Rattle.prim_text.proofs.Texts.{to_inside, inside_number}
 use Rattle.muf_array.specs.inner.Shapes.{text_in, led, lead}
 
 -- texts from a place on, behind those before it
 abbrev pub left_of : List ℕ → ℕ → List (List ℕ) → List ℕ
-left_of s zero ts = joined s ts
+left_of s zero ts = texts_joined s ts
 left_of s (suc n) ts = led s (drop (suc n) ts)
 
-first_led : (s t : List ℕ) (ts : List (List ℕ)) → joined s (t ∷ ts) ≡ t ++ led s ts
+first_led : (s t : List ℕ) (ts : List (List ℕ)) → texts_joined s (t ∷ ts) ≡ t ++ led s ts
 first_led s t [] = sym (append-nil t)
 first_led s t (u ∷ ts) = ap (λ r. t ++ (s ++ r)) (first_led s u ts)
 
 pub join_more : (s : List ℕ) (at : ℕ) (ts : List (List ℕ)) (t : List ℕ) → slice_get ts at ≡ Some t → left_of s at ts ≡ (lead s at ++ t) ++ left_of s (at + 1) ts
 join_more s at [] t e = absurd (let no : None ≡ Some t = e in cc)
-join_more s zero (u ∷ ts) t e = let q : u ≡ t = cc in ap (λ v. joined s (v ∷ ts)) q ∙ first_led s t ts
+join_more s zero (u ∷ ts) t e = let q : u ≡ t = cc in ap (λ v. texts_joined s (v ∷ ts)) q ∙ first_led s t ts
 join_more s (suc at) (u ∷ ts) t e = let z : suc at + 1 ≡ suc (at + 1) = omega arith in rw z (led_more s at ts t e) where
   led_more : (s : List ℕ) (at : ℕ) (ts : List (List ℕ)) (t : List ℕ) → slice_get ts at ≡ Some t → led s (drop at ts) ≡ (s ++ t) ++ led s (drop (at + 1) ts)
   led_more s at [] t e = absurd (let no : None ≡ Some t = e in cc)
@@ -42,18 +42,18 @@ join_end s (suc at) (u ∷ ts) e = led_end s at ts e where
 
 -- ---- whether all have texts
 
-pub words_more : (es : List (MapKey × Datum)) (at : ℕ) (d : Datum) → slice_get (map (λ e. e.1) es) at ≡ Some d → is_some (word_of d) ≡ true → is_some (words_of (drop at es)) ≡ is_some (words_of (drop (at + 1) es))
+pub words_more : (es : List (MapKey × Datum)) (at : ℕ) (d : Datum) → slice_get (map (λ e. e.1) es) at ≡ Some d → is_some (item_word d) ≡ true → is_some (words_of (drop at es)) ≡ is_some (words_of (drop (at + 1) es))
 words_more [] at d e h = absurd (let no : None ≡ Some d = e in cc)
-words_more ((k, x) ∷ es) zero d e h = let q : x ≡ d = cc in rw q (either (word_of d) (words_of es) h) where
+words_more ((k, x) ∷ es) zero d e h = let q : x ≡ d = cc in rw q (either (item_word d) (words_of es) h) where
   either : (o : Option (List ℕ)) (r : Option (List (List ℕ))) → is_some o ≡ true → is_some (onto o r) ≡ is_some r
   either (Some t) (Some ts) h = refl
   either (Some t) None h = refl
   either None r h = absurd (let no : false ≡ true = h in cc)
 words_more ((k, x) ∷ es) (suc at) d e h = let z : suc at + 1 ≡ suc (at + 1) = omega arith in rw z (words_more es at d e h)
 
-pub words_stop : (es : List (MapKey × Datum)) (at : ℕ) (d : Datum) → slice_get (map (λ e. e.1) es) at ≡ Some d → is_some (word_of d) ≡ false → is_some (words_of (drop at es)) ≡ false
+pub words_stop : (es : List (MapKey × Datum)) (at : ℕ) (d : Datum) → slice_get (map (λ e. e.1) es) at ≡ Some d → is_some (item_word d) ≡ false → is_some (words_of (drop at es)) ≡ false
 words_stop [] at d e h = absurd (let no : None ≡ Some d = e in cc)
-words_stop ((k, x) ∷ es) zero d e h = let q : x ≡ d = cc in rw q (neither (word_of d) (words_of es) h) where
+words_stop ((k, x) ∷ es) zero d e h = let q : x ≡ d = cc in rw q (neither (item_word d) (words_of es) h) where
   neither : (o : Option (List ℕ)) (r : Option (List (List ℕ))) → is_some o ≡ false → is_some (onto o r) ≡ false
   neither (Some t) r h = absurd (let no : true ≡ false = h in cc)
   neither None r h = refl
@@ -73,7 +73,7 @@ words_by None r ts i h = absurd (let no : false ≡ true = h in cc)
 -- and then these are they
 pub words_are : (es : List (MapKey × Datum)) → is_some (words_of es) ≡ true → words_of es ≡ Some (map text_in (map (λ e. e.1) es))
 words_are [] h = refl
-words_are ((k, x) ∷ es) h = words_by (word_of x) (words_of es) (map text_in (map (λ e. e.1) es)) (λ g. words_are es g) h
+words_are ((k, x) ∷ es) h = words_by (item_word x) (words_of es) (map text_in (map (λ e. e.1) es)) (λ g. words_are es g) h
 
 pub ruleset all_steps = (length-map)
 

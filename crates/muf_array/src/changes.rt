@@ -6,7 +6,7 @@ ghost use Rattle.muf_model.specs.ArrayRows.{appended_to, gone_from};
 ghost use Rattle.muf_model.specs.Datum.{items, dict as dictionary, data_of, pairs_of};
 ghost use Rattle.muf_model.specs.Entries.{with_entry};
 ghost use Rattle.muf_model.specs.inner.View.{view};
-ghost use Rattle.muf_model.specs.Values.{fits};
+ghost use Rattle.muf_model.specs.Values.{value_fits};
 ghost use Rattle.muf_model.specs.declared.value.MapKey.TheVariants.{Number};
 ghost use Rattle.muf_array.specs.inner.Shapes.{at_held, changed, placed_in, fault_of, refusal};
 
@@ -34,7 +34,7 @@ fn weighed(fits: bool) -> Option<MufFault>
 #[tactic(auto, using(crate::proofs::Changing::place_steps))]
 fn has_room(change: Change, item: &Value, list: &ValueList, at: usize) -> bool
     requires { at ≤ length list.now }
-    ensures { result ≡ fits (items (data_of (placed_in change at (view item.now) list.now))) }
+    ensures { result ≡ value_fits (items (data_of (placed_in change at (view item.now) list.now))) }
 {
     match change {
         Change::Set => {
@@ -80,7 +80,7 @@ pub(crate) fn change_fault(
 #[tactic(auto, using(crate::proofs::Changing::place_steps))]
 fn change_list(change: Change, list: &mut ValueList, at: usize, item: Value) -> Result<(), NoMemory>
     requires within { at ≤ length list.old }
-    requires fits { fits (items (data_of (placed_in change at (view item) list.old))) ≡ true }
+    requires fits { value_fits (items (data_of (placed_in change at (view item) list.old))) ≡ true }
     ensures { OnOk result (list.new ≡ placed_in change at (view item) list.old) }
 {
     let changed = if at < list.len() && matches!(change, Change::Set) {
@@ -97,7 +97,7 @@ fn change_list(change: Change, list: &mut ValueList, at: usize, item: Value) -> 
 
 // A key of a dictionary gets a value, where that fits.
 fn change_dict(dict: &mut ValueMap, key: MapKey, item: Value) -> Result<(), NoMemory>
-    requires { fits (dictionary (pairs_of (with_entry key (view item) dict.old))) ≡ true }
+    requires { value_fits (dictionary (pairs_of (with_entry key (view item) dict.old))) ≡ true }
     ensures { OnOk result (dict.new ≡ with_entry key (view item) dict.old) }
 {
     match dict.put(key, item) {

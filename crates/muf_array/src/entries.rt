@@ -1,7 +1,7 @@
 // The entries of a list or dictionary, by their places.
 ghost use Rattle.std.specs.Prelude.{◌≡◌, ◌≤◌, ◌<◌, Some, length, map, drop, slice_get, IfOk, IfSome, IfNone, option_map, option_copied};
 ghost use Rattle.muf_model.specs.ArrayRows.{entries_in};
-ghost use Rattle.muf_model.specs.Entries.{above};
+ghost use Rattle.muf_model.specs.Entries.{entries_above};
 ghost use Rattle.muf_model.specs.inner.View.{view};
 ghost use Rattle.muf_array.specs.declared.entries.Part.TheVariants as part;
 ghost use Rattle.muf_array.specs.inner.Shapes.{part_of, values_in, is_held, listed, place_in, index_in};
@@ -125,7 +125,7 @@ pub(crate) fn list_index(list: &ValueList, number: i32) -> Option<usize>
 // The place of the first number in a list that is above a key.
 #[tactic(auto, using(crate::proofs::Reading::above_steps))]
 fn number_above(list: &ValueList, key: &MapKey) -> usize
-    ensures { drop result (listed list.now) ≡ above key.now (listed list.now) }
+    ensures { drop result (listed list.now) ≡ entries_above key.now (listed list.now) }
 {
     match key {
         MapKey::Number(number) => match usize::try_from(*number) {
@@ -139,7 +139,7 @@ fn number_above(list: &ValueList, key: &MapKey) -> usize
 /// The place of the first greater key, or one where no entry is.
 #[tactic(auto, using(crate::proofs::Reading::entry_steps))]
 pub(crate) fn place_above(held: &Value, key: &MapKey) -> usize
-    ensures { drop result (entries_in (view held.now)) ≡ above key.now (entries_in (view held.now)) }
+    ensures { drop result (entries_in (view held.now)) ≡ entries_above key.now (entries_in (view held.now)) }
 {
     match held {
         Value::Items(list) => number_above(list, key),

@@ -1,9 +1,9 @@
 // The texts of values, joined.
 ghost use Rattle.std.specs.Prelude.{◌≡◌, ◌<◌, ◌++◌, None, length, map, drop, is_some, IfOk, OnOk};
 ghost use Rattle.muck_model.specs.Bytes.{text_fault};
-ghost use Rattle.muf_model.specs.ArrayRows.{word_of, words_of, entries_in, joined_held};
-ghost use Rattle.muf_model.specs.Texts.{joined};
-ghost use Rattle.muf_model.specs.TextRows.{sized};
+ghost use Rattle.muf_model.specs.ArrayRows.{item_word, words_of, entries_in, joined_held};
+ghost use Rattle.muf_model.specs.Texts.{texts_joined};
+ghost use Rattle.muf_model.specs.TextRows.{text_within};
 ghost use Rattle.muf_model.specs.inner.View.{view};
 ghost use Rattle.muf_model.proofs.FaultTexts.{IsInside};
 ghost use Rattle.std.specs.Fmt.{signed_decimal};
@@ -19,7 +19,7 @@ use std::alloc::Global;
 
 // Whether a value has a text.
 fn has_text(value: &Value) -> bool
-    ensures { result ≡ is_some (word_of (view value.now)) }
+    ensures { result ≡ is_some (item_word (view value.now)) }
 {
     matches!(value, Value::Str(_) | Value::Int(_) | Value::Ref(_))
 }
@@ -94,7 +94,7 @@ fn push_next(
 #[tactic(auto, using(crate::proofs::Texts::join_steps))]
 fn join_texts(alloc: Global, between: &[u8], held: &Value) -> Result<Vec<u8>, NoMemory>
     requires { text_fault between.now ≡ None }
-    ensures value { IfOk result (λ made. sized made.items ≡ sized (joined between.now (map text_in (values_in (view held.now))))) }
+    ensures value { IfOk result (λ made. text_within made.items ≡ text_within (texts_joined between.now (map text_in (values_in (view held.now))))) }
     ensures inside { IfOk result (λ made. IsInside made.items) }
 {
     let count = count(held);

@@ -1,7 +1,7 @@
 // Lists and dictionaries that are made of counted items.
 ghost use Rattle.std.specs.Prelude.{ℕ, List, ◌≡◌, ◌∷◌, [], ◌≤◌, ◌<◌, ◌+◌, ◌*◌, length, map, take, drop, reverse, IfOk, IfErr, option_map};
 ghost use Rattle.muf_model.specs.Answer.{Answer, refuses, needing};
-ghost use Rattle.muf_model.specs.Needs.{counts, any, an_int, a_key};
+ghost use Rattle.muf_model.specs.Needs.{counts, anything, an_int, a_key};
 ghost use Rattle.muf_model.specs.ArrayRows as row;
 ghost use Rattle.muf_model.specs.Datum.{Datum};
 ghost use Rattle.muf_model.specs.inner.View.{view, pair_view};
@@ -74,7 +74,7 @@ fn make_list(alloc: Global, frame: &mut Frame, n: usize) -> Result<(), PrimFault
 
 /// ARRAY_MAKE.
 pub(crate) fn list(alloc: Global, frame: &mut Frame) -> Result<(), PrimFault>
-    ensures { UsedOr ArrayMake (counts (an_int ∷ []) (any ∷ []) []) row.list_made frame.old frame.new result }
+    ensures { UsedOr ArrayMake (counts (an_int ∷ []) (anything ∷ []) []) row.list_made frame.old frame.new result }
 {
     match count(frame, 1) {
         Ok(n) => make_list(alloc, frame, n),
@@ -122,7 +122,7 @@ fn make_dictionary(alloc: Global, frame: &mut Frame, n: usize) -> Result<(), Pri
 
 /// ARRAY_MAKE_DICT.
 pub(crate) fn dictionary(alloc: Global, frame: &mut Frame) -> Result<(), PrimFault>
-    ensures { UsedOr ArrayMakeDict (counts (an_int ∷ []) (any ∷ a_key ∷ []) []) row.dict_made frame.old frame.new result }
+    ensures { UsedOr ArrayMakeDict (counts (an_int ∷ []) (anything ∷ a_key ∷ []) []) row.dict_made frame.old frame.new result }
 {
     match count(frame, 2) {
         Ok(n) => make_dictionary(alloc, frame, n),

@@ -3,7 +3,7 @@ ghost use Rattle.std.specs.Prelude.{◌≡◌, ◌<◌, ◌∷◌, [], map, drop
 ghost use Rattle.muf_model.specs.Answer.{makes};
 ghost use Rattle.muf_model.specs.ArrayRows as row;
 ghost use Rattle.muf_model.specs.ArrayRows.{entries_in};
-ghost use Rattle.muf_model.specs.Entries.{entry_of};
+ghost use Rattle.muf_model.specs.Entries.{value_of_key};
 ghost use Rattle.muf_model.specs.inner.View.{view};
 ghost use Rattle.muf_model.specs.declared.value.MapKey.TheVariants.{Number};
 ghost use Rattle.muf_array.specs.inner.Shapes.{part_of, listed, of_held, at_held, may_have, row_of_held};
@@ -75,7 +75,7 @@ fn exploded(alloc: Global, held: &Value) -> Result<Made, NoMemory>
 // The value of a key in a list.
 #[tactic(auto, using(crate::proofs::Reading::got_steps))]
 fn list_item<'a>(list: &'a ValueList, at: i32) -> Option<&'a Value>
-    ensures { option_map view (option_copied result) ≡ entry_of (Number at) (listed list.now) }
+    ensures { option_map view (option_copied result) ≡ value_of_key (Number at) (listed list.now) }
 {
     match list_index(list, at) {
         Some(at) => list.get(at),
@@ -85,7 +85,7 @@ fn list_item<'a>(list: &'a ValueList, at: i32) -> Option<&'a Value>
 
 // A copy of a value, or 0 for none.
 fn found(value: Option<&Value>) -> Result<Made, NoMemory>
-    ensures { IfOk result (λ made. row.found (option_map view (option_copied value.entry)) ≡ made_of made) }
+    ensures { IfOk result (λ made. row.value_found (option_map view (option_copied value.entry)) ≡ made_of made) }
 {
     match value {
         Some(value) => Ok(Made::One(value.copy()?)),
@@ -118,7 +118,7 @@ fn may_have(held: &Value, key: &MapKey) -> bool
 /// ARRAY_NEXT.
 #[tactic(auto, using(crate::proofs::Reading::row_steps))]
 pub(crate) fn next(alloc: Global, held: &Value, key: &MapKey) -> Result<Made, PrimFault>
-    ensures { Makes (at_held row.next (view held.now) key.now) result }
+    ensures { Makes (at_held row.next_key (view held.now) key.now) result }
 {
     if !may_have(held, key) {
         return Err(PrimFault::Fault(MufFault::BadType));

@@ -1,9 +1,9 @@
 // The shapes of the primitives of lists and dictionaries: what each takes, and that its answer takes its place.
 ghost use Rattle.std.specs.Prelude.{◌≡◌, ◌∷◌, [], ◌≤◌, Some, None, length, drop, slice_get, IsTrue};
-ghost use Rattle.muf_model.specs.Answer.{put, refuses};
+ghost use Rattle.muf_model.specs.Answer.{items_put, refuses};
 ghost use Rattle.muf_model.specs.declared.fault.MufFault.TheVariants.{StackFull};
 ghost use Rattle.muf_model.specs.inner.View.{view};
-ghost use Rattle.muf_model.specs.Needs.{takes, any, a_text, a_key, a_list, a_collection};
+ghost use Rattle.muf_model.specs.Needs.{takes_items, anything, a_text, a_key, a_list, a_collection};
 ghost use Rattle.muf_model.specs.ArrayRows as row;
 ghost use Rattle.muf_model.specs.declared.prims.Primitive.TheVariants.{ArrayGetItem, ArrayAppendItem, ArrayDelItem, ArrayNext, ArrayJoin};
 ghost use Rattle.muf_frame.specs.inner.Shown.{Shown, flat};
@@ -31,7 +31,7 @@ fn spreads(prim: Prim) -> bool
 // Whether a primitive would put more entries of the list or dictionary on the top there than the stack has room for.
 fn overflows(prim: Prim, frame: &Frame, held: &Value) -> bool
     requires { 1 ≤ length frame.now.stack }
-    ensures { IsTrue result → put 1 (of_held (row_of_held prim) (view held.now)) (drop 1 (flat frame.now).stack) ≡ refuses StackFull }
+    ensures { IsTrue result → items_put 1 (of_held (row_of_held prim) (view held.now)) (drop 1 (flat frame.now).stack) ≡ refuses StackFull }
 {
     if !spreads(prim) {
         return false;
@@ -42,7 +42,7 @@ fn overflows(prim: Prim, frame: &Frame, held: &Value) -> bool
 /// The primitives of a list or dictionary alone.
 #[tactic(auto, using(crate::proofs::Taking::held_steps))]
 pub(crate) fn one_held(alloc: Global, prim: Prim, frame: &mut Frame) -> Result<(), PrimFault>
-    ensures { UsedOr prim (takes (a_collection ∷ [])) (row.one_held (row_of_held prim)) frame.old frame.new result }
+    ensures { UsedOr prim (takes_items (a_collection ∷ [])) (row.one_held (row_of_held prim)) frame.old frame.new result }
 {
     frame.need(1)?;
     match item_at(frame, 0) {
@@ -60,7 +60,7 @@ pub(crate) fn one_held(alloc: Global, prim: Prim, frame: &mut Frame) -> Result<(
 /// ARRAY_GETITEM.
 #[tactic(auto, using(crate::proofs::Taking::held_steps))]
 pub(crate) fn item_got(frame: &mut Frame) -> Result<(), PrimFault>
-    ensures { UsedOr ArrayGetItem (takes (a_key ∷ a_collection ∷ [])) (row.held_and_key row.item_got) frame.old frame.new result }
+    ensures { UsedOr ArrayGetItem (takes_items (a_key ∷ a_collection ∷ [])) (row.held_and_key row.item_got) frame.old frame.new result }
 {
     frame.need(2)?;
     match (key_at(frame, 0)?, item_at(frame, 1)) {
@@ -75,7 +75,7 @@ pub(crate) fn item_got(frame: &mut Frame) -> Result<(), PrimFault>
 /// ARRAY_NEXT.
 #[tactic(auto, using(crate::proofs::Taking::held_steps))]
 pub(crate) fn next(alloc: Global, frame: &mut Frame) -> Result<(), PrimFault>
-    ensures { UsedOr ArrayNext (takes (a_key ∷ a_collection ∷ [])) (row.held_and_key row.next) frame.old frame.new result }
+    ensures { UsedOr ArrayNext (takes_items (a_key ∷ a_collection ∷ [])) (row.held_and_key row.next_key) frame.old frame.new result }
 {
     frame.need(2)?;
     match (key_at(frame, 0)?, item_at(frame, 1)) {
@@ -90,7 +90,7 @@ pub(crate) fn next(alloc: Global, frame: &mut Frame) -> Result<(), PrimFault>
 /// ARRAY_JOIN.
 #[tactic(auto, using(crate::proofs::Taking::held_steps))]
 pub(crate) fn joins(alloc: Global, frame: &mut Frame) -> Result<(), PrimFault>
-    ensures { UsedOr ArrayJoin (takes (a_text ∷ a_collection ∷ [])) row.joins frame.old frame.new result }
+    ensures { UsedOr ArrayJoin (takes_items (a_text ∷ a_collection ∷ [])) row.joins frame.old frame.new result }
 {
     frame.need(2)?;
     match (frame.text_at(0), item_at(frame, 1)) {
@@ -143,7 +143,7 @@ pub(crate) fn change(
     change: Change,
     frame: &mut Frame,
 ) -> Result<(), PrimFault>
-    ensures { UsedOr prim (takes (a_key ∷ a_collection ∷ any ∷ [])) (row.item_held_and_key (changed change)) frame.old frame.new result }
+    ensures { UsedOr prim (takes_items (a_key ∷ a_collection ∷ anything ∷ [])) (row.item_held_and_key (changed change)) frame.old frame.new result }
 {
     frame.need(3)?;
     let Some(key) = key_at(frame, 0)? else {
@@ -186,7 +186,7 @@ fn append_top(alloc: Global, frame: &mut Frame) -> Result<(), PrimFault>
 /// ARRAY_APPENDITEM.
 #[tactic(auto, using(crate::proofs::Taking::held_steps))]
 pub(crate) fn append(alloc: Global, frame: &mut Frame) -> Result<(), PrimFault>
-    ensures { UsedOr ArrayAppendItem (takes (a_list ∷ any ∷ [])) row.appended frame.old frame.new result }
+    ensures { UsedOr ArrayAppendItem (takes_items (a_list ∷ anything ∷ [])) row.appended frame.old frame.new result }
 {
     frame.need(2)?;
     if let Some(refused) = append_top_fault(frame) {
@@ -226,7 +226,7 @@ fn gone_top(alloc: Global, frame: &mut Frame, key: MapKey) -> Result<(), PrimFau
 /// ARRAY_DELITEM.
 #[tactic(auto, using(crate::proofs::Taking::held_steps))]
 pub(crate) fn delete(alloc: Global, frame: &mut Frame) -> Result<(), PrimFault>
-    ensures { UsedOr ArrayDelItem (takes (a_key ∷ a_collection ∷ [])) (row.held_and_key row.gone_from) frame.old frame.new result }
+    ensures { UsedOr ArrayDelItem (takes_items (a_key ∷ a_collection ∷ [])) (row.held_and_key row.gone_from) frame.old frame.new result }
 {
     frame.need(2)?;
     let Some(key) = key_at(frame, 0)? else {

@@ -22,7 +22,7 @@ use Rattle.muf_compile.specs.Acts.{cost_of}
 use Rattle.muf_compile.specs.Faults.{and_then, Leads, Answers}
 use Rattle.muf_compile.specs.Reading.{Known, Read}
 use Rattle.muf_compile.specs.Growth as growth
-use Rattle.muf_compile.specs.Growth.{Unfinished, first, Growth, Grown, grow, counted, units_most, Draft, step, tree_from, finished, finished_in, empty_draft, tree_of}
+use Rattle.muf_compile.specs.Growth.{Unfinished, first, Growth, Grown, grow, units_added, units_most, Draft, token_step, tree_from, finished, finished_in, empty_draft, tree_of}
 use Rattle.muf_compile.specs.inner.Grammar.{IsProgram}
 use Rattle.muf_compile.specs.inner.Built.{Built}
 use Rattle.muf_compile.specs.inner.Build as building
@@ -61,13 +61,13 @@ after_build k n _ _ h = absurd h
 
 after_read : (b : Built) (g : Growth) (units : ℕ) → BuiltFits b g → (r : Read)
     → StepAlike
-    (and_then r (λ p. and_then (build p.1.line p.1.act b) (λ b. and_then (counted p.1.line (cost_of p.1.act) units) (λ n. Ok (record { known = p.0; built = b; units = n })))))
-    (and_then r (λ p. and_then (grow p.1.line p.1.act g) (λ g. and_then (counted p.1.line (cost_of p.1.act) units) (λ n. Ok (record { known = p.0; growth = g; units = n })))))
-after_read b g units f (Ok p) = after_build p.0 (counted p.1.line (cost_of p.1.act) units) (build p.1.line p.1.act b) (grow p.1.line p.1.act g) (growing p.1.line p.1.act b g f)
+    (and_then r (λ p. and_then (build p.1.line p.1.act b) (λ b. and_then (units_added p.1.line (cost_of p.1.act) units) (λ n. Ok (record { known = p.0; built = b; units = n })))))
+    (and_then r (λ p. and_then (grow p.1.line p.1.act g) (λ g. and_then (units_added p.1.line (cost_of p.1.act) units) (λ n. Ok (record { known = p.0; growth = g; units = n })))))
+after_read b g units f (Ok p) = after_build p.0 (units_added p.1.line (cost_of p.1.act) units) (build p.1.line p.1.act b) (grow p.1.line p.1.act g) (growing p.1.line p.1.act b g f)
 after_read b g units f (Err r) = refl
 
 -- a word more
-step_alike : (t : Token) (c : Compiled) (d : Draft) → CompiledFits c d → StepAlike (compiled_step t c) (step t d)
+step_alike : (t : Token) (c : Compiled) (d : Draft) → CompiledFits c d → StepAlike (compiled_step t c) (token_step t d)
 step_alike t c d f =
     let same : length c.built.words ≡ length d.growth.words = as_many c.built.code c.built.words d.growth.words f.built.words in
     rw (same, f.known, f.units) (after_read c.built d.growth d.units f.built _)
@@ -94,7 +94,7 @@ starts = (
 
 -- one word more
 pub takes : (t : Token) (ts : List Token) (last : ℕ) (c new : Compiled) (d : Draft) → CompiledFits c d → WasSpelt d → compiled_step t c ≡ Ok new → (e : Draft) × CompiledFits new e × WasSpelt e × (tree_from last (t ∷ ts) d ≡ tree_from t.line ts e)
-takes t ts last c new d f p e = from_alike (step t d) (subst (λ r. StepAlike r (step t d)) e (step_alike t c d f)) (spelt_step t p.before d p.spelt)
+takes t ts last c new d f p e = from_alike (token_step t d) (subst (λ r. StepAlike r (token_step t d)) e (step_alike t c d f)) (spelt_step t p.before d p.spelt)
   where
     from_alike : (r : Result Draft Refusal) → StepAlike (Ok new) r → DraftSpelt (p.before ++ t ∷ []) r → (e : Draft) × CompiledFits new e × WasSpelt e × (and_then r (tree_from t.line ts) ≡ tree_from t.line ts e)
     from_alike (Ok q) h l = (q, h, record { before = p.before ++ t ∷ []; spelt = l }, refl)
@@ -102,7 +102,7 @@ takes t ts last c new d f p e = from_alike (step t d) (subst (λ r. StepAlike r 
 
 -- a word that is refused
 refuses : (t : Token) (ts : List Token) (last : ℕ) (c : Compiled) (r : Refusal) (d : Draft) → CompiledFits c d → compiled_step t c ≡ Err r → tree_from last (t ∷ ts) d ≡ Err r
-refuses t ts last c r d f e = from_alike (step t d) (subst (λ m. StepAlike m (step t d)) e (step_alike t c d f))
+refuses t ts last c r d f e = from_alike (token_step t d) (subst (λ m. StepAlike m (token_step t d)) e (step_alike t c d f))
   where
     from_alike : (m : Result Draft Refusal) → StepAlike (Err r) m → and_then m (tree_from t.line ts) ≡ Err r
     from_alike (Ok q) h = absurd h

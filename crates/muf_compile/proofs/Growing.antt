@@ -19,7 +19,7 @@ use Rattle.muf_compile.specs.declared.act.Act.{Act}
 use Rattle.muf_compile.specs.declared.act.Act.TheVariants.{Wait, Title, Item, Jump, Open, Else, Then, Catch, EndCatch, Repeat, Until, End, Offer as offer_act}
 use Rattle.muf_compile.specs.declared.hole.Pending.{Pending}
 use Rattle.muf_compile.specs.Growth as growth
-use Rattle.muf_compile.specs.Growth.{Unfinished, first, second, turning, Growth, Grown, grow, with_item, with_part}
+use Rattle.muf_compile.specs.Growth.{Unfinished, first, second, turning, Growth, Grown, grow, growth_with_item, with_part}
 use Rattle.muf_compile.specs.inner.Built.{Built}
 use Rattle.muf_compile.specs.inner.Build as building
 use Rattle.muf_compile.specs.inner.Build.{Made, build, emitted, with_code}
@@ -67,13 +67,13 @@ module _ (b : Built) (g : Growth) (fit : WordsStand b.code b.words g.words) (row
   }
 
   -- one more item in other code, after those before it
-  item_joins : (other : List Placed) → Extends b.code other → (before item : Block) (us : List Unfinished) (os : List Pending) (start at bound : ℕ) → From b.code start before at → start ≤ at → at ≤ length other → OpensFit b.code b.start us os start → start ≤ bound → ((p line : ℕ) → p < bound → IsAt b.code p line Unset → IsAt other p line Unset) → Stands other at item (λ p. p ≡ length other) → BuiltFits (with_code b other os) (with_item g before us item)
+  item_joins : (other : List Placed) → Extends b.code other → (before item : Block) (us : List Unfinished) (os : List Pending) (start at bound : ℕ) → From b.code start before at → start ≤ at → at ≤ length other → OpensFit b.code b.start us os start → start ≤ bound → ((p line : ℕ) → p < bound → IsAt b.code p line Unset → IsAt other p line Unset) → Stands other at item (λ p. p ≡ length other) → BuiltFits (with_code b other os) (growth_with_item g before us item)
   item_joins other x before item us os start at bound h le end o small holes s =
       fits_on other x start _ us os (joins other before item start at _ (stands_kept b.code other x before start _ _ (λ p e. e) h) s) (omega arith) (opens_kept b.code other x b.start bound holes small o)
 
   module _ (us : List Unfinished) (os : List Pending) (start : ℕ) (items : From b.code start g.now (length b.code)) (within : start ≤ length b.code) (o : OpensFit b.code b.start us os start) where
     -- one more instruction
-    word_grows : (line : ℕ) (w : Word) → BuiltFits (with_code b (emitted b.code line (Plain w)) os) (with_item g g.now us (word line w stop))
+    word_grows : (line : ℕ) (w : Word) → BuiltFits (with_code b (emitted b.code line (Plain w)) os) (growth_with_item g g.now us (word line w stop))
     word_grows line w =
         let code = b.code in
         let y : Placed = record { line = line; instr = Plain w } in
@@ -114,7 +114,7 @@ module _ (b : Built) (g : Growth) (fit : WordsStand b.code b.words g.words) (row
 
   module _ (us : List Unfinished) (os : List Pending) (before : Block) (at line start : ℕ) (items : From b.code (at + 1) g.now (length b.code)) (within : at + 1 ≤ length b.code) (h : From b.code start before at) (le : start ≤ at) (u : IsAt b.code at line Unset) (o : OpensFit b.code b.start us os start) where
     -- THEN with no ELSE
-    then_closes : BuiltFits (with_code b (slice_set b.code at (record { line = line; instr = When (length b.code) })) os) (with_item g before us (when line g.now stop))
+    then_closes : BuiltFits (with_code b (slice_set b.code at (record { line = line; instr = When (length b.code) })) os) (growth_with_item g before us (when line g.now stop))
     then_closes =
         let code = b.code in
         let i : Placed = record { line = line; instr = When (length code) } in
@@ -139,7 +139,7 @@ module _ (b : Built) (g : Growth) (fit : WordsStand b.code b.words g.words) (row
         (in_second at (stands_kept code other y before start _ _ (λ p e. e) h) le (omega arith) (get_set_same longer at _ i w) (stands_kept code other y g.now (at + 1) _ _ (λ p e. e) items) (get_set_other longer at (length code) v i (λ h. omega arith) (get_end code v)) (opens_kept code other y b.start at (λ p row l e. get_set_other longer at p _ i (λ h. omega arith) (get_append code _ p _ e)) le o))
 
     -- REPEAT and UNTIL
-    loop_closes : (k : Ring) (last : ℕ) (c : Closer) → BuiltFits (with_code b (slice_set (emitted b.code last (Close c)) at (record { line = line; instr = ring_instr k (length b.code + 1) })) os) (with_item g before us (ring k line g.now c last stop))
+    loop_closes : (k : Ring) (last : ℕ) (c : Closer) → BuiltFits (with_code b (slice_set (emitted b.code last (Close c)) at (record { line = line; instr = ring_instr k (length b.code + 1) })) os) (growth_with_item g before us (ring k line g.now c last stop))
     loop_closes k last c =
         let code = b.code in
         let i : Placed = record { line = line; instr = ring_instr k (length code + 1) } in
@@ -154,7 +154,7 @@ module _ (b : Built) (g : Growth) (fit : WordsStand b.code b.words g.words) (row
         (length code + 1, get_set_same longer at _ i w, omega arith, stands_kept code other y g.now (at + 1) _ _ (λ p e. (ap (λ n. n + 1) e, rw e end)) items, sym len)
 
   -- THEN after ELSE, and ENDCATCH
-  second_closes : (us : List Unfinished) (os : List Pending) (a before : Block) (k : Fork) (at line mid to start : ℕ) → From b.code (to + 1) g.now (length b.code) → to + 1 ≤ length b.code → From b.code start before at → start ≤ at → at < to → IsAt b.code at line (fork_instr k (to + 1)) → From b.code (at + 1) a to → IsAt b.code to mid Unset → OpensFit b.code b.start us os start → BuiltFits (with_code b (slice_set b.code to (record { line = mid; instr = hop_instr k (length b.code) })) os) (with_item g before us (fork k line a mid g.now stop))
+  second_closes : (us : List Unfinished) (os : List Pending) (a before : Block) (k : Fork) (at line mid to start : ℕ) → From b.code (to + 1) g.now (length b.code) → to + 1 ≤ length b.code → From b.code start before at → start ≤ at → at < to → IsAt b.code at line (fork_instr k (to + 1)) → From b.code (at + 1) a to → IsAt b.code to mid Unset → OpensFit b.code b.start us os start → BuiltFits (with_code b (slice_set b.code to (record { line = mid; instr = hop_instr k (length b.code) })) os) (growth_with_item g before us (fork k line a mid g.now stop))
   second_closes us os a before k at line mid to start items within h le lt f c u o =
       let code = b.code in
       let i : Placed = record { line = mid; instr = hop_instr k (length code) } in
@@ -221,7 +221,7 @@ module _ (b : Built) (g : Growth) (fit : WordsStand b.code b.words g.words) (row
   end_alike line n items within _ = refl
 
   opening_alike : (line : ℕ) (w : Opening) {us : List Unfinished} {os : List Pending} {start : ℕ} → From b.code start g.now (length b.code) → start ≤ length b.code → OpensFit b.code b.start us os start
-      → BuiltFits (with_code b (building.beginning w (emitted b.code line Unset) line) (building.opened w (hole (length b.code) line us) ∷ os)) (with_part g (growth.beginning w line) (growth.opened w line g.now ∷ us))
+      → BuiltFits (with_code b (building.beginning w (emitted b.code line Unset) line) (building.opened w (hole (length b.code) line us) ∷ os)) (with_part g (growth.loop_beginning w line) (growth.construct_opened w line g.now ∷ us))
   opening_alike line opening.If items within o = first_opens _ _ _ items within o if_word line
   opening_alike line opening.Try items within o = first_opens _ _ _ items within o try_word line
   opening_alike line opening.Begin items within o = begin_opens _ _ _ items within o begin_word line

@@ -5,7 +5,6 @@ pub mod Growing
 pub mod Nesting
 pub mod Offers
 pub mod Pendings
-pub mod Rows
 pub mod SameLine
 pub mod Scopes
 pub mod Sound

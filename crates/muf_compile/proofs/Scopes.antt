@@ -4,7 +4,7 @@ use Rattle.std.specs.Prelude.{Option, Some, None, is_some, option_map, find, cod
 use Rattle.std.specs.Str.{bytes_eq}
 use Rattle.std.specs.Map.{lookup}
 use Rattle.std.specs.Option.{option_or}
-use Rattle.std.proofs.lemmas.Slice.Eq.{bytes_eq-Decides}
+use Rattle.muck_laws.proofs.Texts.{bytes_equal_itself, same_bytes}
 use Rattle.indexmap.specs.IndexMap.{insert_entry}
 use Rattle.muf_model.specs.declared.code.VarId.{VarId}
 use Rattle.muf_model.specs.declared.code.Word.{Word}
@@ -17,16 +17,10 @@ use Rattle.muf_compile.specs.declared.control.Control.TheVariants as control
 use Rattle.muf_compile.specs.declared.names.Meaning.{Meaning}
 use Rattle.muf_compile.specs.declared.names.Meaning.TheVariants as meaning
 use Rattle.muf_compile.specs.Names.{control_words, control_of, standing_of}
-use Rattle.muf_compile.specs.Reading.{Known, item_of, word_of, number_in, number_of, is_unfit, name_fault}
+use Rattle.muf_compile.specs.Reading.{Known, item_of, item_named, word_number_in, word_number, is_unfit, new_name_fault}
 use Rattle.muf_compile.specs.inner.Grammar.{Scope, IsNth, process_names, Names, of_word, of_process, of_program, of_local, of_primitive, IsFree}
 
 -- ---- lists and tables
-
-equal : (xs ys : List ℕ) → bytes_eq xs ys ≡ true → xs ≡ ys
-equal xs ys h = (bytes_eq-Decides xs ys).0 h
-
-same : (xs : List ℕ) → bytes_eq xs xs ≡ true
-same xs = (bytes_eq-Decides xs xs).1 refl
 
 nth_front : (names : List (List ℕ)) (new name : List ℕ) (n : ℕ) → IsNth n names name → IsNth n (names ++ new ∷ []) name
 nth_front [] new name n e = cc
@@ -49,7 +43,7 @@ module _ {X : Type 0} where
   absent_last [] new v name e = (refl, λ h. differs h e)
     where
       differs : name ≡ new → cond (bytes_eq name new) (Some v) None ≡ None → ⊥
-      differs h e = let t : bytes_eq name new ≡ true = subst (λ x. bytes_eq name x ≡ true) h (same name) in cc
+      differs h e = let t : bytes_eq name new ≡ true = subst (λ x. bytes_eq name x ≡ true) h (bytes_equal_itself name) in cc
   absent_last (x ∷ es) new v name e = by (bytes_eq name x.0) e (absent_last es new v name)
     where
       by : (b : Bool) → cond b (Some x.1) (lookup (bytes_eq name) (es ++ (new, v) ∷ [])) ≡ None → (lookup (bytes_eq name) (es ++ (new, v) ∷ []) ≡ None → (lookup (bytes_eq name) es ≡ None) × (name ≡ new → ⊥)) → (cond b (Some x.1) (lookup (bytes_eq name) es) ≡ None) × (name ≡ new → ⊥)
@@ -61,7 +55,7 @@ module _ {X : Type 0} where
   found_either {P} [] new v name m e old last = by (bytes_eq name new) refl e
     where
       by : (b : Bool) → bytes_eq name new ≡ b → cond b (Some v) None ≡ Some m → P
-      by true t e = last (sym (equal name new t)) (let h : v ≡ m = cc in h)
+      by true t e = last (sym (same_bytes name new t)) (let h : v ≡ m = cc in h)
       by false t e = cc
   found_either {P} (x ∷ es) new v name m e old last = by (bytes_eq name x.0) e old (λ f g. found_either es new v name m f g last)
     where
@@ -158,10 +152,10 @@ standing name v e = by (bytes_eq name (codes "me")) (bytes_eq name (codes "loc")
     by : (a b c d : Bool) → bytes_eq name (codes "me") ≡ a → bytes_eq name (codes "loc") ≡ b → bytes_eq name (codes "trigger") ≡ c → bytes_eq name (codes "command") ≡ d
         → cond a (Some (record { 0 = 0 })) (cond b (Some (record { 0 = 1 })) (cond c (Some (record { 0 = 2 })) (cond d (Some (record { 0 = 3 })) None))) ≡ Some v
         → (n : ℕ) × IsNth n process_names name × (record { 0 = n } ≡ v)
-    by true b c d ha hb hc hd e = (0, ap Some (sym (equal name _ ha)), let h : record { 0 = 0 } ≡ v = cc in h)
-    by false true c d ha hb hc hd e = (1, ap Some (sym (equal name _ hb)), let h : record { 0 = 1 } ≡ v = cc in h)
-    by false false true d ha hb hc hd e = (2, ap Some (sym (equal name _ hc)), let h : record { 0 = 2 } ≡ v = cc in h)
-    by false false false true ha hb hc hd e = (3, ap Some (sym (equal name _ hd)), let h : record { 0 = 3 } ≡ v = cc in h)
+    by true b c d ha hb hc hd e = (0, ap Some (sym (same_bytes name _ ha)), let h : record { 0 = 0 } ≡ v = cc in h)
+    by false true c d ha hb hc hd e = (1, ap Some (sym (same_bytes name _ hb)), let h : record { 0 = 1 } ≡ v = cc in h)
+    by false false true d ha hb hc hd e = (2, ap Some (sym (same_bytes name _ hc)), let h : record { 0 = 2 } ≡ v = cc in h)
+    by false false false true ha hb hc hd e = (3, ap Some (sym (same_bytes name _ hd)), let h : record { 0 = 3 } ≡ v = cc in h)
     by false false false false ha hb hc hd e = cc
 
 no_process : (name : List ℕ) (n : ℕ) → standing_of name ≡ None → IsNth n process_names name → ⊥
@@ -182,8 +176,8 @@ module _ (k : Known) (ws vs ls : List (List ℕ)) (entered : Entered k.names ws 
   word_in a b c d = option_or (option_map item.Variable a) (option_or (option_map item_of b) (option_or (option_map item.Variable c) (option_map item.Primitive d)))
 
   -- a word that has a meaning names it
-  pub named_by : (w : Word) → word_of name k ≡ Some w → Names (record { words = ws; variables = vs; locals = ls }) name w
-  unfolding word_of scope word_in
+  pub named_by : (w : Word) → item_named name k ≡ Some w → Names (record { words = ws; variables = vs; locals = ls }) name w
+  unfolding item_named scope word_in
   named_by w e = by (lookup (bytes_eq name) k.locals) (lookup (bytes_eq name) k.names) (standing_of name) (named_in_any_case name) refl refl refl refl e
     where
       by : (a : Option VarId) (b : Option Meaning) (c : Option VarId) (d : Option Primitive) → lookup (bytes_eq name) k.locals ≡ a → lookup (bytes_eq name) k.names ≡ b → standing_of name ≡ c → named_in_any_case name ≡ d → word_in a b c d ≡ Some w → Names scope name w
@@ -200,8 +194,8 @@ module _ (k : Known) (ws vs ls : List (List ℕ)) (entered : Entered k.names ws 
       by None None None None ha hb hc hd e = cc
 
   -- a name that can be declared is found nowhere, and names nothing
-  free_by : name_fault name k ≡ None → (lookup (bytes_eq name) k.locals ≡ None) × (lookup (bytes_eq name) k.names ≡ None) × IsFree (record { words = ws; variables = vs; locals = ls }) name
-  unfolding name_fault word_of scope word_in
+  free_by : new_name_fault name k ≡ None → (lookup (bytes_eq name) k.locals ≡ None) × (lookup (bytes_eq name) k.names ≡ None) × IsFree (record { words = ws; variables = vs; locals = ls }) name
+  unfolding new_name_fault item_named scope word_in
   free_by e = by (is_unfit name) (lookup (bytes_eq name) k.locals) (lookup (bytes_eq name) k.names) (standing_of name) (named_in_any_case name) refl refl refl refl refl e
     where
       none_named : lookup (bytes_eq name) k.locals ≡ None → lookup (bytes_eq name) k.names ≡ None → standing_of name ≡ None → named_in_any_case name ≡ None → (w : Word) → Names scope name w → ⊥
@@ -221,20 +215,20 @@ module _ (k : Known) (ws vs ls : List (List ℕ)) (entered : Entered k.names ws 
       by false None None (Some v) d hu ha hb hc hd e = cc
       by false None None None (Some p) hu ha hb hc hd e = cc
 
-  pub free : name_fault name k ≡ None → IsFree (record { words = ws; variables = vs; locals = ls }) name
+  pub free : new_name_fault name k ≡ None → IsFree (record { words = ws; variables = vs; locals = ls }) name
   free e = (free_by e).2
 
   -- it goes last
-  pub entered_last : name_fault name k ≡ None → (m : Meaning) → insert_entry bytes_eq k.names name m ≡ k.names ++ (name, m) ∷ []
+  pub entered_last : new_name_fault name k ≡ None → (m : Meaning) → insert_entry bytes_eq k.names name m ≡ k.names ++ (name, m) ∷ []
   entered_last e m = inserted k.names name m (free_by e).1
 
-  pub owned_last : name_fault name k ≡ None → (v : VarId) → insert_entry bytes_eq k.locals name v ≡ k.locals ++ (name, v) ∷ []
+  pub owned_last : new_name_fault name k ≡ None → (v : VarId) → insert_entry bytes_eq k.locals name v ≡ k.locals ++ (name, v) ∷ []
   owned_last e v = inserted k.locals name v (free_by e).0
 
-  pub numbered_by : (n : ℕ) → number_of name k ≡ Some n → IsNth n ws name
+  pub numbered_by : (n : ℕ) → word_number name k ≡ Some n → IsNth n ws name
   numbered_by n e = by (lookup (bytes_eq name) k.names) refl e
     where
-      by : (m : Option Meaning) → lookup (bytes_eq name) k.names ≡ m → number_in m ≡ Some n → IsNth n ws name
+      by : (m : Option Meaning) → lookup (bytes_eq name) k.names ≡ m → word_number_in m ≡ Some n → IsNth n ws name
       by (Some (meaning.Word i)) h e = let j : i ≡ n = cc in subst (λ x. IsNth x ws name) j (numbered entered name i h)
       by (Some (meaning.Variable v)) h e = cc
       by None h e = cc
@@ -279,7 +273,7 @@ in_rows name c [] h e = cc
 in_rows name c (r ∷ rs) h e = by (bytes_eq r.0 name) refl e (in_rows name c rs h.1)
   where
     by : (b : Bool) → bytes_eq r.0 name ≡ b → option_map (λ r. r.1) (cond b (Some r) (find (λ r. bytes_eq r.0 name) rs)) ≡ Some c → (option_map (λ r. r.1) (find (λ r. bytes_eq r.0 name) rs) ≡ Some c → name ≡ written_as c) → name ≡ written_as c
-    by true t e rest = let k : r.1 ≡ c = cc in sym (equal r.0 name t) ∙ h.0 ∙ ap written_as k
+    by true t e rest = let k : r.1 ≡ c = cc in sym (same_bytes r.0 name t) ∙ h.0 ∙ ap written_as k
     by false t e rest = rest e
 
 pub control_written : (name : List ℕ) (c : Control) → control_of name ≡ Some c → name ≡ written_as c

@@ -11,7 +11,7 @@ use Rattle.muf_compile.specs.declared.act.Reading.{Reading}
 use Rattle.muf_compile.specs.declared.fault.CompileKind.TheVariants.{StrayBreak}
 use Rattle.muf_compile.specs.Faults.{refuse}
 use Rattle.muf_compile.specs.Growth as growth
-use Rattle.muf_compile.specs.Growth.{Unfinished, first, second, turning, Growth, Grown, grow, with_item, in_loop}
+use Rattle.muf_compile.specs.Growth.{Unfinished, first, second, turning, Growth, Grown, grow, growth_with_item, in_loop}
 use Rattle.muf_compile.specs.inner.Spells.{at_line, Spells, nothing, item, jump, if_then, if_else, try_catch, begin_repeat, begin_until, for_repeat, each_repeat}
 
 spells_then : (l : Bool) (a b : Block) (xs ys : List Reading) → Spells l a xs → Spells l b ys → Spells l (then_block a b) (xs ++ ys)
@@ -56,7 +56,7 @@ abbrev pub GrownWritten : Growth → Grown → List Reading → Type 0
 GrownWritten g (Ok h) rs = Written h.now h.around rs × (h.words ≡ g.words) × (h.title ≡ g.title)
 GrownWritten g (Err r) rs = Unit {0}
 
-jumps : (b : Bool) → (line : ℕ) (w : Word) (g : Growth) (rs : List Reading) → b ≡ in_loop g.around → Written g.now g.around rs → GrownWritten g (cond b (Ok (with_item g g.now g.around (word line w stop))) (refuse line StrayBreak)) (rs ++ at_line line (Jump w) ∷ [])
+jumps : (b : Bool) → (line : ℕ) (w : Word) (g : Growth) (rs : List Reading) → b ≡ in_loop g.around → Written g.now g.around rs → GrownWritten g (cond b (Ok (growth_with_item g g.now g.around (word line w stop))) (refuse line StrayBreak)) (rs ++ at_line line (Jump w) ∷ [])
 jumps true line w g rs e h = (written_more g.now (word line w stop) g.around rs _ h (subst (λ l. Spells l (word line w stop) (at_line line (Jump w) ∷ [])) e (jump nothing)), refl, refl)
 jumps false line w g rs e h = tt
 

@@ -3,6 +3,7 @@ use Rattle.std.proofs.Common.{◌≡◌, ℕ, zero, suc, ◌+◌, ◌≤◌, Lis
 use Rattle.std.specs.Prelude.{Option, Some, None, Result, Ok, Err, nat_lt, nat_le, option_map, slice_get, codes}
 use Rattle.std.specs.Str.{bytes_eq}
 use Rattle.std.proofs.lemmas.Slice.Eq.{bytes_eq-Decides}
+use Rattle.muck_laws.proofs.Lists.{one_longer_spelling}
 use Rattle.indexmap.specs.IndexMap.{insert_entry}
 use Rattle.std.proofs.lemmas.List.{append-nil, map-append, length-map}
 use Rattle.muf_model.specs.declared.code.VarId.{VarId}
@@ -32,8 +33,8 @@ use Rattle.muf_compile.specs.Acts.{cost_of}
 use Rattle.muf_compile.specs.Faults.{refuse, and_then}
 use Rattle.muf_compile.specs.Names.{control_of}
 use Rattle.muf_compile.specs.Reading as reading
-use Rattle.muf_compile.specs.Reading.{Known, Read, read, read_in, in_mode, unless, name_fault, word_of, number_of, usable, may_use, before_bracket, variables_most, is_unfit}
-use Rattle.muf_compile.specs.Growth.{Unfinished, Growth, Grown, grow, counted, units_most, end_part, offered_in, Draft, step, tree_of, tree_from, whole_tree, finished_in, empty_draft}
+use Rattle.muf_compile.specs.Reading.{Known, Read, word_read, read_in, with_mode, read_unless, new_name_fault, item_named, word_number, usable, may_use, before_bracket, variables_most, is_unfit}
+use Rattle.muf_compile.specs.Growth.{Unfinished, Growth, Grown, grow, units_added, units_most, end_part, offered_in, Draft, token_step, tree_of, tree_from, whole_tree, finished_in, empty_draft}
 use Rattle.muf_compile.specs.inner.Spells.{at_line, nothing}
 use Rattle.muf_compile.specs.inner.Grammar.{IsNth, IsFree, structure, Says, text, integer, object, address, structural, named, at, Arguments, no_arguments, one_argument, Passed, none_passed, one_passed, bindings, Header, bare, with_arguments, with_results, Opened, begun, says, own_variable, stored_variable, names_of, outside, Declares, nothing_declared, shared_variable, local_variable, offered_to_all, offered_to_wizards, word_defined, IsProgram}
 use Rattle.muf_compile.proofs.Scopes.{Entered, no_names, word_more, variable_more, Owned, no_locals, local_more, as_many_owned, named_by, free, entered_last, owned_last, numbered_by, control_written, written_as}
@@ -113,7 +114,7 @@ DraftSpelt ts (Err r) = Unit {0}
 
 -- ---- answers that may be refused
 
-goes_unless : (g : Growth) (ts : List Token) (line : ℕ) (fault : Option CompileKind) (r : Read) → (fault ≡ None → ReadSpelt g ts r) → ReadSpelt g ts (unless line fault r)
+goes_unless : (g : Growth) (ts : List Token) (line : ℕ) (fault : Option CompileKind) (r : Read) → (fault ≡ None → ReadSpelt g ts r) → ReadSpelt g ts (read_unless line fault r)
 goes_unless g ts line None r h = h refl
 goes_unless g ts line (Some kind) r h = tt
 
@@ -129,18 +130,18 @@ module _ (k : Known) (g : Growth) (line : ℕ) (name : List ℕ) where
 
   -- the word of the structure that begins a declaration
   declares_next : (ts : List Token) (c : Option Control) → control_of name ≡ c → Between ts k.names k.variables k.locals g → ReadSpelt g (ts ++ word ∷ []) (reading.declaration line c k)
-  declares_next ts (Some control.Colon) e h = (subst (λ x. Spelt (in_mode (mode.Naming (wanted.Title line)) k) g (ts ++ at line x ∷ []) (mode.Naming (wanted.Title line))) (sym (control_written name control.Colon e)) (colon line h), omega arith)
-  declares_next ts (Some control.Var) e h = (subst (λ x. Spelt (in_mode (mode.Naming wanted.Shared) k) g (ts ++ at line x ∷ []) (mode.Naming wanted.Shared)) (sym (control_written name control.Var e)) (var line h), omega arith)
-  declares_next ts (Some control.LVar) e h = (subst (λ x. Spelt (in_mode (mode.Naming wanted.Shared) k) g (ts ++ at line x ∷ []) (mode.Naming wanted.Shared)) (sym (control_written name control.LVar e)) (lvar line h), omega arith)
-  declares_next ts (Some control.Public) e h = (subst (λ x. Spelt (in_mode (mode.Naming (wanted.Offered All)) k) g (ts ++ at line x ∷ []) (mode.Naming (wanted.Offered All))) (sym (control_written name control.Public e)) (offer_all line h), omega arith)
-  declares_next ts (Some control.WizCall) e h = (subst (λ x. Spelt (in_mode (mode.Naming (wanted.Offered Wizards)) k) g (ts ++ at line x ∷ []) (mode.Naming (wanted.Offered Wizards))) (sym (control_written name control.WizCall e)) (offer_wizards line h), omega arith)
+  declares_next ts (Some control.Colon) e h = (subst (λ x. Spelt (with_mode (mode.Naming (wanted.Title line)) k) g (ts ++ at line x ∷ []) (mode.Naming (wanted.Title line))) (sym (control_written name control.Colon e)) (colon line h), omega arith)
+  declares_next ts (Some control.Var) e h = (subst (λ x. Spelt (with_mode (mode.Naming wanted.Shared) k) g (ts ++ at line x ∷ []) (mode.Naming wanted.Shared)) (sym (control_written name control.Var e)) (var line h), omega arith)
+  declares_next ts (Some control.LVar) e h = (subst (λ x. Spelt (with_mode (mode.Naming wanted.Shared) k) g (ts ++ at line x ∷ []) (mode.Naming wanted.Shared)) (sym (control_written name control.LVar e)) (lvar line h), omega arith)
+  declares_next ts (Some control.Public) e h = (subst (λ x. Spelt (with_mode (mode.Naming (wanted.Offered All)) k) g (ts ++ at line x ∷ []) (mode.Naming (wanted.Offered All))) (sym (control_written name control.Public e)) (offer_all line h), omega arith)
+  declares_next ts (Some control.WizCall) e h = (subst (λ x. Spelt (with_mode (mode.Naming (wanted.Offered Wizards)) k) g (ts ++ at line x ∷ []) (mode.Naming (wanted.Offered Wizards))) (sym (control_written name control.WizCall e)) (offer_wizards line h), omega arith)
   declares_next ts _ e h = tt
 
 goes_else : (g : Growth) (ts : List Token) (line : ℕ) (kind : CompileKind) (b : Bool) (r : Read) → ReadSpelt g ts r → ReadSpelt g ts (cond b (refuse line kind) r)
 goes_else g ts line kind true r h = tt
 goes_else g ts line kind false r h = h
 
-goes_own : (g : Growth) (ts : List Token) (line : ℕ) (fault : Option CompileKind) (b : Bool) (p : Known × VarId) (next : Known × VarId → Read) → (fault ≡ None → ReadSpelt g ts (next p)) → ReadSpelt g ts (and_then (unless line fault (cond b (Ok p) (refuse line TooLong))) next)
+goes_own : (g : Growth) (ts : List Token) (line : ℕ) (fault : Option CompileKind) (b : Bool) (p : Known × VarId) (next : Known × VarId → Read) → (fault ≡ None → ReadSpelt g ts (next p)) → ReadSpelt g ts (and_then (read_unless line fault (cond b (Ok p) (refuse line TooLong))) next)
 goes_own g ts line None true p next h = h refl
 goes_own g ts line None false p next h = tt
 goes_own g ts line (Some kind) b p next h = tt
@@ -153,21 +154,18 @@ names_offered (suc n) o (d ∷ ds) = ap (λ l. d.name ∷ l) (names_offered n o 
 as_many_names : (ds : List Definition) → length (names_of ds) ≡ length ds
 as_many_names ds = length-map ds (λ d. d.name)
 
-one_longer : (names : List (List ℕ)) (name : List ℕ) (n : ℕ) → n ≡ length names → n + 1 ≡ length (names ++ name ∷ [])
-one_longer names name n e = ap (λ i. i + 1) e ∙ sym (length-append names (name ∷ []))
-
 -- ---- a name behind a declaration
 
 module _ (k : Known) (g : Growth) (line : ℕ) (name : List ℕ) (ts all : List Token) (h : Between ts k.names k.variables k.locals g) where
   none_owned : Owned k.locals []
   none_owned = subst (λ l. Owned l []) (sym h.empty) no_locals
 
-  is_free : name_fault name k ≡ None → IsFree (outside g.words h.vs) name
+  is_free : new_name_fault name k ≡ None → IsFree (outside g.words h.vs) name
   is_free e = free k (names_of g.words) h.vs [] h.entered none_owned name e
 
   shared_next : (IsFree (outside g.words h.vs) name → Declares all g.words (h.vs ++ name ∷ [])) → ReadSpelt g all (reading.shared_variable line name k)
   shared_next declared =
-      goes_unless g all line (name_fault name k) _
+      goes_unless g all line (new_name_fault name k) _
       (λ e. goes_where g all line TooLong (nat_lt k.variables variables_most) _
       (λ l. (
         between
@@ -175,7 +173,7 @@ module _ (k : Known) (g : Growth) (line : ℕ) (name : List ℕ) (ts all : List 
               vs = h.vs ++ name ∷ [];
               declares = declared (is_free e);
               entered = rw (entered_last k (names_of g.words) h.vs [] h.entered none_owned name e (meaning.Variable (record { 0 = 4 + k.variables })), h.counts) (variable_more name h.entered);
-              counts = one_longer h.vs name k.variables h.counts;
+              counts = one_longer_spelling h.vs name k.variables h.counts;
               empty = h.empty;
               now = h.now;
               around = h.around;
@@ -184,9 +182,9 @@ module _ (k : Known) (g : Growth) (line : ℕ) (name : List ℕ) (ts all : List 
       )))
 
   offered_next : (o : Offer) → ((n : ℕ) → IsNth n (names_of g.words) name → Declares all (offered_in n o g.words) h.vs) → ReadSpelt g all (reading.offered line o name k)
-  offered_next o declared = goes_else g all line BadHeader (is_unfit name) _ (by (number_of name k) refl)
+  offered_next o declared = goes_else g all line BadHeader (is_unfit name) _ (by (word_number name k) refl)
     where
-      by : (n : Option ℕ) → number_of name k ≡ n → ReadSpelt g all (reading.offered_as line o n k)
+      by : (n : Option ℕ) → word_number name k ≡ n → ReadSpelt g all (reading.offered_as line o n k)
       by (Some n) e = (
         between
             (record {
@@ -203,13 +201,13 @@ module _ (k : Known) (g : Growth) (line : ℕ) (name : List ℕ) (ts all : List 
       by None e = tt
 
   module _ (number : ℕ) (same : number ≡ length g.words) where
-    title_entered : name_fault name k ≡ None → Entered (insert_entry bytes_eq k.names name (meaning.Word number)) (names_of g.words ++ name ∷ []) h.vs
+    title_entered : new_name_fault name k ≡ None → Entered (insert_entry bytes_eq k.names name (meaning.Word number)) (names_of g.words ++ name ∷ []) h.vs
     title_entered e = rw (entered_last k (names_of g.words) h.vs [] h.entered none_owned name e (meaning.Word number), same ∙ sym (as_many_names g.words)) (word_more name h.entered)
 
     -- a word without a header
     title_next : (first : ℕ) → all ≡ ts ++ at first (codes ":") ∷ at line name ∷ [] → ((front : List ℕ) → name ≡ front ++ codes "[" → ⊥) → ReadSpelt g all (reading.titled_as number line name mode.Inside k)
     title_next first e plain =
-        goes_unless g all line (name_fault name k) _
+        goes_unless g all line (new_name_fault name k) _
         (λ f. rw e (
           within {ts = ts} {us = at first (codes ":") ∷ at line name ∷ []}
               (record {
@@ -230,7 +228,7 @@ module _ (k : Known) (g : Growth) (line : ℕ) (name : List ℕ) (ts all : List 
     -- a word with a header
     head_next : (first : ℕ) → all ≡ ts ++ at first (codes ":") ∷ at line (name ++ codes "[") ∷ [] → ReadSpelt g all (reading.titled_as number line name (mode.Heading first) k)
     head_next first e =
-        goes_unless g all line (name_fault name k) _
+        goes_unless g all line (new_name_fault name k) _
         (λ f. rw e (
           heading {ts = ts} {us = []} first line
               (record {
@@ -303,7 +301,7 @@ module _ (k : Known) (g : Growth) (ts us : List Token) (w : Within ts us k.names
         )
         by now parts rs _ o = tt
 
-    control_next : (c : Control) → control_of name ≡ Some c → k.mode ≡ mode.Inside → ReadSpelt g ((ts ++ us) ++ at line name ∷ []) (reading.controlled line c k)
+    control_next : (c : Control) → control_of name ≡ Some c → k.mode ≡ mode.Inside → ReadSpelt g ((ts ++ us) ++ at line name ∷ []) (reading.control_read line c k)
     control_next control.Var e m = rw (append_assoc ts us (at line name ∷ []), control_written name control.Var e) (own_var line w, omega arith)
     control_next control.VarStore e m = rw (append_assoc ts us (at line name ∷ []), control_written name control.VarStore e) (own_store line w, omega arith)
     control_next control.Semicolon e m = end_next e
@@ -324,27 +322,27 @@ module _ (k : Known) (g : Growth) (ts us : List Token) (w : Within ts us k.names
     control_next control.Exit e m = structure_next control.Exit _ 14 e refl m tt
     control_next _ e m = tt
 
-    meant_next : (r : Option Word) → word_of name k ≡ r → k.mode ≡ mode.Inside → ReadSpelt g ((ts ++ us) ++ at line name ∷ []) (reading.meant line (usable r) k)
+    meant_next : (r : Option Word) → item_named name k ≡ r → k.mode ≡ mode.Inside → ReadSpelt g ((ts ++ us) ++ at line name ∷ []) (reading.word_meant line (usable r) k)
     meant_next None e m = tt
     meant_next (Some x) e m = by (may_use x) refl
       where
-        by : (b : Bool) → may_use x ≡ b → ReadSpelt g ((ts ++ us) ++ at line name ∷ []) (reading.meant line (cond b (Some x) None) k)
+        by : (b : Bool) → may_use x ≡ b → ReadSpelt g ((ts ++ us) ++ at line name ∷ []) (reading.word_meant line (cond b (Some x) None) k)
         by true t = says_next line (token.Word name) (act.Item x) m tt (named (named_by k (names_of g.words ++ g.title ∷ []) w.vs w.ls w.entered w.owned name x e) t)
         by false t = tt
 
-    word_next : (c : Option Control) → control_of name ≡ c → k.mode ≡ mode.Inside → ReadSpelt g ((ts ++ us) ++ at line name ∷ []) (reading.plain line name c k)
+    word_next : (c : Option Control) → control_of name ≡ c → k.mode ≡ mode.Inside → ReadSpelt g ((ts ++ us) ++ at line name ∷ []) (reading.plain_word line name c k)
     word_next (Some c) e m = control_next c e m
-    word_next None e m = meant_next (word_of name k) refl m
+    word_next None e m = meant_next (item_named name k) refl m
 
-    address_next : (r : Option ℕ) → number_of name k ≡ r → k.mode ≡ mode.Inside → ReadSpelt g ((ts ++ us) ++ record { line = line; kind = token.Address name } ∷ []) (reading.meant line (option_map item.Address r) k)
+    address_next : (r : Option ℕ) → word_number name k ≡ r → k.mode ≡ mode.Inside → ReadSpelt g ((ts ++ us) ++ record { line = line; kind = token.Address name } ∷ []) (reading.word_meant line (option_map item.Address r) k)
     address_next None e m = tt
     address_next (Some n) e m = says_next line (token.Address name) (act.Item (item.Address n)) m tt (address n (numbered_by k (names_of g.words ++ g.title ∷ []) w.vs w.ls w.entered w.owned name n e))
 
     -- `var name` and `var! name`
-    own_entered : name_fault name k ≡ None → Owned (insert_entry bytes_eq k.locals name (record { 0 = 68 + length k.locals })) (w.ls ++ name ∷ [])
+    own_entered : new_name_fault name k ≡ None → Owned (insert_entry bytes_eq k.locals name (record { 0 = 68 + length k.locals })) (w.ls ++ name ∷ [])
     own_entered e = rw (owned_last k (names_of g.words ++ g.title ∷ []) w.vs w.ls w.entered w.owned name e (record { 0 = 68 + length k.locals }), as_many_owned w.owned) (local_more name w.owned)
 
-    own_free : name_fault name k ≡ None → IsFree (record { words = names_of g.words ++ g.title ∷ []; variables = w.vs; locals = w.ls }) name
+    own_free : new_name_fault name k ≡ None → IsFree (record { words = names_of g.words ++ g.title ∷ []; variables = w.vs; locals = w.ls }) name
     own_free e = free k (names_of g.words ++ g.title ∷ []) w.vs w.ls w.entered w.owned name e
 
     behind : (first : ℕ) (word : List ℕ) → (ts ++ (us ++ at first word ∷ [])) ++ at line name ∷ [] ≡ ts ++ (us ++ at first word ∷ at line name ∷ [])
@@ -352,7 +350,7 @@ module _ (k : Known) (g : Growth) (ts us : List Token) (w : Within ts us k.names
 
     var_next : (first : ℕ) → ReadSpelt g ((ts ++ (us ++ at first (codes "var") ∷ [])) ++ at line name ∷ []) (and_then (reading.own_variable line name mode.Inside k) (reading.waiting line))
     var_next first =
-        goes_own g _ line (name_fault name k) (nat_lt (length k.locals) variables_most) _ (reading.waiting line)
+        goes_own g _ line (new_name_fault name k) (nat_lt (length k.locals) variables_most) _ (reading.waiting line)
         (λ e. rw (behind first (codes "var")) (
           within
               (record {
@@ -370,9 +368,9 @@ module _ (k : Known) (g : Growth) (ts us : List Token) (w : Within ts us k.names
           omega arith,
         ))
 
-    store_next : (first : ℕ) → ReadSpelt g ((ts ++ (us ++ at first (codes "var!") ∷ [])) ++ at line name ∷ []) (and_then (reading.own_variable line name mode.Inside k) (reading.storing first))
+    store_next : (first : ℕ) → ReadSpelt g ((ts ++ (us ++ at first (codes "var!") ∷ [])) ++ at line name ∷ []) (and_then (reading.own_variable line name mode.Inside k) (reading.storing_word first))
     store_next first =
-        goes_own g _ line (name_fault name k) (nat_lt (length k.locals) variables_most) _ (reading.storing first)
+        goes_own g _ line (new_name_fault name k) (nat_lt (length k.locals) variables_most) _ (reading.storing_word first)
         (λ e. rw (behind first (codes "var!")) (goes_on (record k { locals = insert_entry bytes_eq k.locals name (record { 0 = 68 + length k.locals }); mode = mode.Inside }) _ first (act.Item (item.Store (record { 0 = 68 + length k.locals }))) tt refl refl refl (w.ls ++ name ∷ []) (own_entered e) (rw (as_many_owned w.owned) (stored_variable first line w.opened (own_free e)))))
 
 -- what stands among the items
@@ -384,7 +382,7 @@ inside_next k g ts us t w m = by t.kind
     by (token.Text bytes) = says_next k g ts us w t.line (token.Text bytes) _ m tt text
     by (token.Number n) = says_next k g ts us w t.line (token.Number n) _ m tt integer
     by (token.Ref d) = says_next k g ts us w t.line (token.Ref d) _ m tt object
-    by (token.Address name) = address_next k g ts us w t.line name (number_of name k) refl m
+    by (token.Address name) = address_next k g ts us w t.line name (word_number name k) refl m
 
 -- ---- a word in a header
 
@@ -418,7 +416,7 @@ module _ (k : Known) (g : Growth) (ts us : List Token) (first line : ℕ) (h : H
             written = written;
           }
 
-      by : (n : ℕ) → n ≡ length h.ls → ReadSpelt g (ts ++ at first (codes ":") ∷ at line (g.title ++ codes "[") ∷ vs) (reading.acts first (reading.binding n) (in_mode mode.Inside k))
+      by : (n : ℕ) → n ≡ length h.ls → ReadSpelt g (ts ++ at first (codes ":") ∷ at line (g.title ++ codes "[") ∷ vs) (reading.acts first (reading.binding n) (with_mode mode.Inside k))
       by zero e = (within (begins g.now zero e empty), omega arith)
       by (suc n) e = (within (begins _ (suc n) e (grow_written first (act.Item (item.Bind (suc n))) g [] tt empty).0), omega arith)
 
@@ -429,11 +427,11 @@ module _ (k : Known) (g : Growth) (ts us : List Token) (first line : ℕ) (h : H
       differs : (word : List ℕ) → bytes_eq name word ≡ false → name ≡ word → ⊥
       differs word f e = let t : bytes_eq name word ≡ true = (bytes_eq-Decides name word).1 e in cc
 
-      by : (b : Bool) → bytes_eq name (codes "]") ≡ b → (c : Bool) → bytes_eq name (codes "--") ≡ c → ReadSpelt g (head (us ++ at here name ∷ [])) (cond b (reading.header_end first k) (cond c (reading.acts here act.Wait (in_mode (mode.Results first) k)) (and_then (reading.own_variable here name (mode.Heading first) k) (reading.waiting here))))
+      by : (b : Bool) → bytes_eq name (codes "]") ≡ b → (c : Bool) → bytes_eq name (codes "--") ≡ c → ReadSpelt g (head (us ++ at here name ∷ [])) (cond b (reading.header_end first k) (cond c (reading.acts here act.Wait (with_mode (mode.Results first) k)) (and_then (reading.own_variable here name (mode.Heading first) k) (reading.waiting here))))
       by true e c f = header_ends (us ++ at here name ∷ []) (rw ((bytes_eq-Decides name (codes "]")).0 e) (with_arguments first line here h.arguments))
       by false e true f = rw ((bytes_eq-Decides name (codes "--")).0 f) (results {xs = []} first line here h none_passed, omega arith)
       by false e false f =
-          goes_own g _ here (name_fault name k) (nat_lt (length k.locals) variables_most) _ (reading.waiting here)
+          goes_own g _ here (new_name_fault name k) (nat_lt (length k.locals) variables_most) _ (reading.waiting here)
           (λ x. (
             heading first line
                 (record {
@@ -484,7 +482,7 @@ title_read k g ts first line number name same h = by (before_bracket name) refl
     by (Some front) e = head_next k g line front ts _ h number same first (ap (λ x. ts ++ at first (codes ":") ∷ at line x ∷ []) (bracket_found name front e))
     by None e = title_next k g line name ts _ h number same first refl (λ front f. let x = bracket_yes name front f in cc)
 
-name_next : (k : Known) (g : Growth) (number : ℕ) (w : Wanted) (t : Token) (ts : List Token) → ((name : List ℕ) → t.kind ≡ token.Word name → ReadSpelt g ts (reading.named number t.line w name k)) → ReadSpelt g ts (reading.read_name number t.line w t.kind k)
+name_next : (k : Known) (g : Growth) (number : ℕ) (w : Wanted) (t : Token) (ts : List Token) → ((name : List ℕ) → t.kind ≡ token.Word name → ReadSpelt g ts (reading.name_wanted number t.line w name k)) → ReadSpelt g ts (reading.read_name number t.line w t.kind k)
 name_next k g number w t ts h = by t.kind refl
   where
     by : (kind : TokenKind) → t.kind ≡ kind → ReadSpelt g ts (reading.read_name number t.line w kind k)
@@ -521,16 +519,16 @@ after_count : (k : Known) (g : Growth) (ts : List Token) (line units more : ℕ)
 after_count k g ts line units more s h true l = record { spelt = s; words = h; units = l refl }
 after_count k g ts line units more s h false l = tt
 
-after_growth : (k : Known) (ts : List Token) (line units more words : ℕ) → words ≤ units → (g : Grown) → GrownSpelt k ts (words + more) g → DraftSpelt ts (and_then g (λ h. and_then (counted line more units) (λ n. Ok (record { known = k; growth = h; units = n }))))
+after_growth : (k : Known) (ts : List Token) (line units more words : ℕ) → words ≤ units → (g : Grown) → GrownSpelt k ts (words + more) g → DraftSpelt ts (and_then g (λ h. and_then (units_added line more units) (λ n. Ok (record { known = k; growth = h; units = n }))))
 after_growth k ts line units more words h (Ok g) s = let f = s.1 in after_count k g ts line units more s.0 (omega arith) (nat_le (units + more) units_most) (λ e. leb-true _ _ e)
 after_growth k ts line units more words h (Err r) s = tt
 
-after_read : (g : Growth) (units : ℕ) (ts : List Token) → length g.words ≤ units → (r : Read) → ReadSpelt g ts r → DraftSpelt ts (and_then r (λ p. and_then (grow p.1.line p.1.act g) (λ h. and_then (counted p.1.line (cost_of p.1.act) units) (λ n. Ok (record { known = p.0; growth = h; units = n })))))
+after_read : (g : Growth) (units : ℕ) (ts : List Token) → length g.words ≤ units → (r : Read) → ReadSpelt g ts r → DraftSpelt ts (and_then r (λ p. and_then (grow p.1.line p.1.act g) (λ h. and_then (units_added p.1.line (cost_of p.1.act) units) (λ n. Ok (record { known = p.0; growth = h; units = n })))))
 after_read g units ts l (Err r) h = tt
 after_read g units ts l (Ok p) h = after_growth p.0 ts p.1.line units (cost_of p.1.act) (length g.words) l (grow p.1.line p.1.act g) h
 
-pub spelt_step : (t : Token) (ts : List Token) (d : Draft) → IsSpelt ts d → DraftSpelt (ts ++ t ∷ []) (step t d)
-unfolding read
+pub spelt_step : (t : Token) (ts : List Token) (d : Draft) → IsSpelt ts d → DraftSpelt (ts ++ t ∷ []) (token_step t d)
+unfolding word_read
 spelt_step t ts d s = after_read d.growth d.units (ts ++ t ∷ []) s.words _ (read_next d.known d.growth (length d.growth.words) t ts d.known.mode refl refl s.spelt)
 
 pub spelt_empty : IsSpelt [] empty_draft
@@ -559,7 +557,7 @@ finished_written last ts d m _ = tt
 
 from_written : (last : ℕ) (ts more : List Token) (d : Draft) → IsSpelt ts d → TreeWritten (ts ++ more) (tree_from last more d)
 from_written last ts [] d s = rw (append-nil ts) (finished_written last ts d d.known.mode s.spelt)
-from_written last ts (t ∷ more) d s = rw (← append_assoc ts (t ∷ []) more) (by (step t d) (spelt_step t ts d s) (from_written t.line (ts ++ t ∷ []) more))
+from_written last ts (t ∷ more) d s = rw (← append_assoc ts (t ∷ []) more) (by (token_step t d) (spelt_step t ts d s) (from_written t.line (ts ++ t ∷ []) more))
   where
     by : (r : Result Draft Refusal) → DraftSpelt (ts ++ t ∷ []) r → ((e : Draft) → IsSpelt (ts ++ t ∷ []) e → TreeWritten ((ts ++ t ∷ []) ++ more) (tree_from t.line more e)) → TreeWritten ((ts ++ t ∷ []) ++ more) (and_then r (tree_from t.line more))
     by (Ok e) h rest = rest e h

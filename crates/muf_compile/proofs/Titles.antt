@@ -2,19 +2,16 @@
 use Rattle.std.proofs.Common.{◌≡◌, ℕ, ◌+◌, ◌≤◌, Bool, true, false, cond, List, [], ◌∷◌, ◌++◌, length, Option, Some, None, refl, ap, arith, length-append, subst, ◌∙◌}
 use Rattle.std.specs.Prelude.{option_map, ◌==◌}
 use Rattle.std.proofs.lemmas.Bool.Decides.{Decides-eqb}
+use Rattle.muck_laws.proofs.Lists.{cond_mapped}
 use Rattle.muck_model.specs.Bytes.{text_fault, text_most}
 use Rattle.muf_token.specs.inner.Bytes.{are_inside}
 use Rattle.muf_token.proofs.Texts.{inside_text, text_inside, inside_head, inside_tail, inside_cons}
 use Rattle.muf_compile.specs.Reading.{before_bracket}
 
-mapped : (b : ℕ) (t : Bool) (name : List ℕ) → option_map (λ rest. b ∷ rest) (cond t (Some name) None) ≡ cond t (Some (b ∷ name)) None
-mapped b true name = refl
-mapped b false name = refl
-
 bracket_end : (name : List ℕ) (b : ℕ) → before_bracket (name ++ b ∷ []) ≡ cond (b == 91) (Some name) None
 bracket_end [] b = refl
-bracket_end (a ∷ []) b = mapped a (b == 91) []
-bracket_end (a ∷ c ∷ name) b = rw (bracket_end (c ∷ name) b) (mapped a (b == 91) (c ∷ name))
+bracket_end (a ∷ []) b = cond_mapped a (b == 91) []
+bracket_end (a ∷ c ∷ name) b = rw (bracket_end (c ∷ name) b) (cond_mapped a (b == 91) (c ∷ name))
 
 pub bracket_yes : (word name : List ℕ) → word ≡ name ++ 91 ∷ [] → before_bracket word ≡ Some name
 bracket_yes word name e = rw (e, bracket_end name 91) refl

@@ -7,17 +7,17 @@ use Rattle.muf_compile.specs.declared.fault.CompileFault.{CompileFault}
 use Rattle.muf_compile.specs.declared.fault.CompileFault.TheVariants.{Refused, NoMemory}
 
 -- the number by which a user knows it
-abbrev pub number_of_kind : CompileKind → ℕ
-number_of_kind UnknownWord = 30
-number_of_kind UnclosedIf = 31
-number_of_kind StrayElse = 32
-number_of_kind UnclosedLoop = 33
-number_of_kind StrayBreak = 34
-number_of_kind UnclosedTry = 35
-number_of_kind NoWord = 36
-number_of_kind DoubleName = 37
-number_of_kind BadHeader = 38
-number_of_kind TooLong = 39
+abbrev pub compile_fault_number : CompileKind → ℕ
+compile_fault_number UnknownWord = 30
+compile_fault_number UnclosedIf = 31
+compile_fault_number StrayElse = 32
+compile_fault_number UnclosedLoop = 33
+compile_fault_number StrayBreak = 34
+compile_fault_number UnclosedTry = 35
+compile_fault_number NoWord = 36
+compile_fault_number DoubleName = 37
+compile_fault_number BadHeader = 38
+compile_fault_number TooLong = 39
 
 -- refused for this, at this line
 abbrev pub refuse : {A : Type 0} → ℕ → CompileKind → Result A Refusal

@@ -17,7 +17,7 @@ use Rattle.muf_compile.specs.declared.fault.CompileKind.TheVariants.{UnclosedIf,
 use Rattle.muf_compile.specs.declared.fault.Refusal.{Refusal}
 use Rattle.muf_compile.specs.Faults.{refuse, and_then}
 use Rattle.muf_compile.specs.Acts.{cost_of}
-use Rattle.muf_compile.specs.Reading.{Known, nothing_known, read}
+use Rattle.muf_compile.specs.Reading.{Known, nothing_known, word_read}
 
 -- What is open, with its line and the items before it: a choice in its first part; a choice in its second part, with
 -- the first one and the line of its ELSE or CATCH; or a loop.
@@ -43,8 +43,8 @@ abbrev pub with_part : Growth → Block → List Unfinished → Growth
 with_part g now around = record g { now = now; around = around }
 
 -- these items, and one more behind them
-abbrev pub with_item : Growth → Block → List Unfinished → Block → Growth
-with_item g before around item = with_part g (then_block before item) around
+abbrev pub growth_with_item : Growth → Block → List Unfinished → Block → Growth
+growth_with_item g before around item = with_part g (then_block before item) around
 
 -- whether a loop is open
 abbrev pub in_loop : List Unfinished → Bool
@@ -67,18 +67,18 @@ misfit stray [] = stray
 misfit stray (u ∷ us) = unclosed u
 
 -- what a word opens, behind these items
-abbrev pub opened : Opening → ℕ → Block → Unfinished
-opened opening.If line before = first if_word line before
-opened opening.Try line before = first try_word line before
-opened opening.Begin line before = turning begin_word line before
-opened opening.For line before = turning for_word line before
-opened opening.Each line before = turning each_word line before
+abbrev pub construct_opened : Opening → ℕ → Block → Unfinished
+construct_opened opening.If line before = first if_word line before
+construct_opened opening.Try line before = first try_word line before
+construct_opened opening.Begin line before = turning begin_word line before
+construct_opened opening.For line before = turning for_word line before
+construct_opened opening.Each line before = turning each_word line before
 
 -- the items that a loop begins with: the test of its index or its keys
-abbrev pub beginning : Opening → ℕ → Block
-beginning opening.For line = word line NextIndex stop
-beginning opening.Each line = word line NextPair stop
-beginning _ line = stop
+abbrev pub loop_beginning : Opening → ℕ → Block
+loop_beginning opening.For line = word line NextIndex stop
+loop_beginning opening.Each line = word line NextPair stop
+loop_beginning _ line = stop
 
 abbrev pub else_part : ℕ → Growth → List Unfinished → Grown
 else_part at g (first if_word line before ∷ us) = Ok (with_part g stop (second if_word line g.now at before ∷ us))
@@ -90,20 +90,20 @@ catch_part at g (first try_word line before ∷ us) = Ok (with_part g stop (seco
 catch_part at g us = refuse at (misfit UnclosedTry us)
 
 abbrev pub then_part : ℕ → Growth → List Unfinished → Grown
-then_part at g (first if_word line before ∷ us) = Ok (with_item g before us (when line g.now stop))
-then_part at g (second if_word line a mid before ∷ us) = Ok (with_item g before us (fork if_word line a mid g.now stop))
+then_part at g (first if_word line before ∷ us) = Ok (growth_with_item g before us (when line g.now stop))
+then_part at g (second if_word line a mid before ∷ us) = Ok (growth_with_item g before us (fork if_word line a mid g.now stop))
 then_part at g us = refuse at (misfit StrayElse us)
 
 abbrev pub end_catch_part : ℕ → Growth → List Unfinished → Grown
-end_catch_part at g (second try_word line a mid before ∷ us) = Ok (with_item g before us (fork try_word line a mid g.now stop))
+end_catch_part at g (second try_word line a mid before ∷ us) = Ok (growth_with_item g before us (fork try_word line a mid g.now stop))
 end_catch_part at g us = refuse at (misfit UnclosedTry us)
 
 abbrev pub repeat_part : ℕ → Growth → List Unfinished → Grown
-repeat_part at g (turning k line before ∷ us) = Ok (with_item g before us (ring k line g.now closer.Repeat at stop))
+repeat_part at g (turning k line before ∷ us) = Ok (growth_with_item g before us (ring k line g.now closer.Repeat at stop))
 repeat_part at g us = refuse at (misfit StrayBreak us)
 
 abbrev pub until_part : ℕ → Growth → List Unfinished → Grown
-until_part at g (turning begin_word line before ∷ us) = Ok (with_item g before us (ring begin_word line g.now closer.Until at stop))
+until_part at g (turning begin_word line before ∷ us) = Ok (growth_with_item g before us (ring begin_word line g.now closer.Until at stop))
 until_part at g us = refuse at (misfit StrayBreak us)
 
 -- `;` ends the word, whose calls have so many variables
@@ -134,9 +134,9 @@ offered_in (suc n) o (d ∷ ds) = d ∷ offered_in n o ds
 abbrev pub grow : ℕ → Act → Growth → Grown
 grow line Wait g = Ok g
 grow line (Title name) g = Ok (record g { title = name })
-grow line (Item w) g = Ok (with_item g g.now g.around (word line w stop))
-grow line (Jump w) g = if in_loop g.around then Ok (with_item g g.now g.around (word line w stop)) else refuse line StrayBreak
-grow line (Open o) g = Ok (with_part g (beginning o line) (opened o line g.now ∷ g.around))
+grow line (Item w) g = Ok (growth_with_item g g.now g.around (word line w stop))
+grow line (Jump w) g = if in_loop g.around then Ok (growth_with_item g g.now g.around (word line w stop)) else refuse line StrayBreak
+grow line (Open o) g = Ok (with_part g (loop_beginning o line) (construct_opened o line g.now ∷ g.around))
 grow line Else g = else_part line g g.around
 grow line Then g = then_part line g g.around
 grow line Catch g = catch_part line g g.around
@@ -151,8 +151,8 @@ unfoldable pub units_most : ℕ
 units_most = 65536
 
 -- so many more of them, where there is room
-abbrev pub counted : ℕ → ℕ → ℕ → Result ℕ Refusal
-counted line more units = if nat_le (units + more) units_most then Ok (units + more) else refuse line TooLong
+abbrev pub units_added : ℕ → ℕ → ℕ → Result ℕ Refusal
+units_added line more units = if nat_le (units + more) units_most then Ok (units + more) else refuse line TooLong
 
 -- A program that is read up to a place: what is known there, the tree so far, and how many instructions it has that
 -- take a unit.
@@ -162,11 +162,11 @@ pub record Draft : Type 0 where
   pub units : ℕ
 
 -- a word more
-abbrev pub step : Token → Draft → Result Draft Refusal
-step t d =
-    and_then (read (length d.growth.words) t d.known) (λ r.
+abbrev pub token_step : Token → Draft → Result Draft Refusal
+token_step t d =
+    and_then (word_read (length d.growth.words) t d.known) (λ r.
     and_then (grow r.1.line r.1.act d.growth) (λ g.
-    and_then (counted r.1.line (cost_of r.1.act) d.units) (λ n.
+    and_then (units_added r.1.line (cost_of r.1.act) d.units) (λ n.
     Ok (record { known = r.0; growth = g; units = n }))))
 
 -- the tree of a whole program, whose last word stands at this line
@@ -185,7 +185,7 @@ finished last d = finished_in d.known.mode last d
 -- the tree of a program that goes on with these words, behind one at this line
 abbrev pub tree_from : ℕ → List Token → Draft → Result Tree Refusal
 tree_from last [] d = finished last d
-tree_from last (t ∷ ts) d = and_then (step t d) (tree_from t.line ts)
+tree_from last (t ∷ ts) d = and_then (token_step t d) (tree_from t.line ts)
 
 abbrev pub empty_growth : Growth
 empty_growth = record { words = []; title = []; now = stop; around = [] }

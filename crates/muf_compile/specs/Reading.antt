@@ -10,7 +10,7 @@ use Rattle.muf_model.specs.declared.code.Offer.TheVariants.{Wizards, All}
 use Rattle.muf_model.specs.declared.code.Literal.TheVariants as literal
 use Rattle.muf_model.specs.declared.code.Word.{Word}
 use Rattle.muf_model.specs.declared.code.Word.TheVariants as item
-use Rattle.muf_model.specs.Prims.{is_there, named_in_any_case}
+use Rattle.muf_model.specs.Prims.{is_usable, named_in_any_case}
 use Rattle.muf_token.specs.declared.token.Token.{Token}
 use Rattle.muf_token.specs.declared.token.TokenKind.{TokenKind}
 use Rattle.muf_token.specs.declared.token.TokenKind.TheVariants as token
@@ -54,12 +54,12 @@ Read = Result (Known × Reading) Refusal
 abbrev pub acts : ℕ → Act → Known → Read
 acts line a k = Ok (k, record { line = line; act = a })
 
-abbrev pub in_mode : Mode → Known → Known
-in_mode m k = record k { mode = m }
+abbrev pub with_mode : Mode → Known → Known
+with_mode m k = record k { mode = m }
 
 -- nothing yet: first a name has to follow
 abbrev pub wants : ℕ → Wanted → Known → Read
-wants line w k = acts line act.Wait (in_mode (mode.Naming w) k)
+wants line w k = acts line act.Wait (with_mode (mode.Naming w) k)
 
 -- what a name of the program's stands for
 abbrev pub item_of : Meaning → Word
@@ -68,15 +68,15 @@ item_of (meaning.Variable v) = item.Variable v
 
 -- the item that a word stands for: a variable of the present word, a word or variable of the program, a variable of
 -- the process, or a primitive
-unfoldable pub word_of : List ℕ → Known → Option Word
-word_of name k =
+unfoldable pub item_named : List ℕ → Known → Option Word
+item_named name k =
     option_or (option_map item.Variable (lookup (bytes_eq name) k.locals))
     (option_or (option_map item_of (lookup (bytes_eq name) k.names))
     (option_or (option_map item.Variable (standing_of name)) (option_map item.Primitive (named_in_any_case name))))
 
 -- whether programs may use an item so far
 abbrev pub may_use : Word → Bool
-may_use (item.Primitive p) = is_there p
+may_use (item.Primitive p) = is_usable p
 may_use _ = true
 
 -- the item, where programs may use it
@@ -85,12 +85,12 @@ usable (Some w) = if may_use w then Some w else None
 usable None = None
 
 -- the number of the word that has this name
-abbrev pub number_in : Option Meaning → Option ℕ
-number_in (Some (meaning.Word n)) = Some n
-number_in _ = None
+abbrev pub word_number_in : Option Meaning → Option ℕ
+word_number_in (Some (meaning.Word n)) = Some n
+word_number_in _ = None
 
-abbrev pub number_of : List ℕ → Known → Option ℕ
-number_of name k = number_in (lookup (bytes_eq name) k.names)
+abbrev pub word_number : List ℕ → Known → Option ℕ
+word_number name k = word_number_in (lookup (bytes_eq name) k.names)
 
 -- whether a word is empty
 abbrev pub is_empty : List ℕ → Bool
@@ -102,21 +102,21 @@ abbrev pub is_unfit : List ℕ → Bool
 is_unfit name = is_empty name || is_some (control_of name)
 
 -- why a word can't be a new name
-unfoldable pub name_fault : List ℕ → Known → Option CompileKind
-name_fault name k =
+unfoldable pub new_name_fault : List ℕ → Known → Option CompileKind
+new_name_fault name k =
     if is_unfit name then Some BadHeader
-    else if is_some (word_of name k) then Some DoubleName
+    else if is_some (item_named name k) then Some DoubleName
     else None
 
 -- what follows, unless there is a fault at this line
-abbrev pub unless : {A : Type 0} → ℕ → Option CompileKind → Result A Refusal → Result A Refusal
-unless line None rest = rest
-unless line (Some kind) rest = refuse line kind
+abbrev pub read_unless : {A : Type 0} → ℕ → Option CompileKind → Result A Refusal → Result A Refusal
+read_unless line None rest = rest
+read_unless line (Some kind) rest = refuse line kind
 
 -- one variable more of the program
 abbrev pub shared_variable : ℕ → List ℕ → Known → Read
 shared_variable line name k =
-    unless line (name_fault name k)
+    read_unless line (new_name_fault name k)
     (if nat_lt k.variables variables_most
     then acts line act.Wait (record k { names = insert_entry bytes_eq k.names name (meaning.Variable (record { 0 = 4 + k.variables })); variables = k.variables + 1; mode = mode.Outside })
     else refuse line TooLong)
@@ -124,7 +124,7 @@ shared_variable line name k =
 -- one variable more of the present word, and its number
 abbrev pub own_variable : ℕ → List ℕ → Mode → Known → Result (Known × VarId) Refusal
 own_variable line name m k =
-    unless line (name_fault name k)
+    read_unless line (new_name_fault name k)
     (if nat_lt (length k.locals) variables_most
     then Ok (record k { locals = insert_entry bytes_eq k.locals name (record { 0 = 68 + length k.locals }); mode = m }, record { 0 = 68 + length k.locals })
     else refuse line TooLong)
@@ -134,8 +134,8 @@ abbrev pub waiting : ℕ → Known × VarId → Read
 waiting line p = acts line act.Wait p.0
 
 -- `var!` stores into the new variable
-abbrev pub storing : ℕ → Known × VarId → Read
-storing line p = acts line (act.Item (item.Store p.1)) p.0
+abbrev pub storing_word : ℕ → Known × VarId → Read
+storing_word line p = acts line (act.Item (item.Store p.1)) p.0
 
 -- the name before a last `[`, where there is one
 abbrev pub before_bracket : List ℕ → Option (List ℕ)
@@ -146,7 +146,7 @@ before_bracket (b ∷ c ∷ bytes) = option_map (λ name. b ∷ name) (before_br
 -- the word of this number begins; its `:` stands at `at`
 abbrev pub titled_as : ℕ → ℕ → List ℕ → Mode → Known → Read
 titled_as number line name m k =
-    unless line (name_fault name k) (acts line (act.Title name) (record k { names = insert_entry bytes_eq k.names name (meaning.Word number); mode = m }))
+    read_unless line (new_name_fault name k) (acts line (act.Title name) (record k { names = insert_entry bytes_eq k.names name (meaning.Word number); mode = m }))
 
 abbrev pub titled_by : ℕ → ℕ → ℕ → List ℕ → Option (List ℕ) → Known → Read
 titled_by number at line word (Some name) k = titled_as number line name (mode.Heading at) k
@@ -157,23 +157,23 @@ titled number at line word k = titled_by number at line word (before_bracket wor
 
 -- a word of the program is offered
 abbrev pub offered_as : ℕ → Offer → Option ℕ → Known → Read
-offered_as line o (Some n) k = acts line (act.Offer n o) (in_mode mode.Outside k)
+offered_as line o (Some n) k = acts line (act.Offer n o) (with_mode mode.Outside k)
 offered_as line o None k = refuse line UnknownWord
 
 abbrev pub offered : ℕ → Offer → List ℕ → Known → Read
-offered line o name k = if is_unfit name then refuse line BadHeader else offered_as line o (number_of name k) k
+offered line o name k = if is_unfit name then refuse line BadHeader else offered_as line o (word_number name k) k
 
 -- the name that a declaration wants
-abbrev pub named : ℕ → ℕ → Wanted → List ℕ → Known → Read
-named number line (wanted.Title at) name k = titled number at line name k
-named number line wanted.Shared name k = shared_variable line name k
-named number line (wanted.Offered o) name k = offered line o name k
-named number line wanted.Own name k = and_then (own_variable line name mode.Inside k) (waiting line)
-named number line (wanted.Stored at) name k = and_then (own_variable line name mode.Inside k) (storing at)
+abbrev pub name_wanted : ℕ → ℕ → Wanted → List ℕ → Known → Read
+name_wanted number line (wanted.Title at) name k = titled number at line name k
+name_wanted number line wanted.Shared name k = shared_variable line name k
+name_wanted number line (wanted.Offered o) name k = offered line o name k
+name_wanted number line wanted.Own name k = and_then (own_variable line name mode.Inside k) (waiting line)
+name_wanted number line (wanted.Stored at) name k = and_then (own_variable line name mode.Inside k) (storing_word at)
 
 -- a word behind a declaration
 abbrev pub read_name : ℕ → ℕ → Wanted → TokenKind → Known → Read
-read_name number line w (token.Word name) k = named number line w name k
+read_name number line w (token.Word name) k = name_wanted number line w name k
 read_name number line w _ k = refuse line BadHeader
 
 -- the binding of so many arguments, if any
@@ -183,13 +183,13 @@ binding (suc n) = act.Item (item.Bind (suc n))
 
 -- `]` ends a header whose `:` stands at `at`
 abbrev pub header_end : ℕ → Known → Read
-header_end at k = acts at (binding (length k.locals)) (in_mode mode.Inside k)
+header_end at k = acts at (binding (length k.locals)) (with_mode mode.Inside k)
 
 -- a word of a header: the names of arguments
 abbrev pub argument : ℕ → ℕ → List ℕ → Known → Read
 argument at line name k =
     if bytes_eq name (codes "]") then header_end at k
-    else if bytes_eq name (codes "--") then acts line act.Wait (in_mode (mode.Results at) k)
+    else if bytes_eq name (codes "--") then acts line act.Wait (with_mode (mode.Results at) k)
     else and_then (own_variable line name (mode.Heading at) k) (waiting line)
 
 abbrev pub read_argument : ℕ → ℕ → TokenKind → Known → Read
@@ -217,43 +217,43 @@ read_outside line (token.Word name) k = declaration line (control_of name) k
 read_outside line _ k = refuse line UnknownWord
 
 -- a word of the structure in a word: those that stand between words alone are no part of one
-abbrev pub controlled : ℕ → Control → Known → Read
-controlled line control.Var k = wants line wanted.Own k
-controlled line control.VarStore k = wants line (wanted.Stored line) k
-controlled line control.Semicolon k = acts line (act.End (length k.locals)) (record k { locals = []; mode = mode.Outside })
-controlled line control.If k = acts line (act.Open opening.If) k
-controlled line control.Else k = acts line act.Else k
-controlled line control.Then k = acts line act.Then k
-controlled line control.Try k = acts line (act.Open opening.Try) k
-controlled line control.Catch k = acts line act.Catch k
-controlled line control.EndCatch k = acts line act.EndCatch k
-controlled line control.Begin k = acts line (act.Open opening.Begin) k
-controlled line control.For k = acts line (act.Open opening.For) k
-controlled line control.ForEach k = acts line (act.Open opening.Each) k
-controlled line control.Repeat k = acts line act.Repeat k
-controlled line control.Until k = acts line act.Until k
-controlled line control.While k = acts line (act.Jump item.While) k
-controlled line control.Break k = acts line (act.Jump item.Break) k
-controlled line control.Continue k = acts line (act.Jump item.Continue) k
-controlled line control.Exit k = acts line (act.Item item.Exit) k
-controlled line _ k = refuse line BadHeader
+abbrev pub control_read : ℕ → Control → Known → Read
+control_read line control.Var k = wants line wanted.Own k
+control_read line control.VarStore k = wants line (wanted.Stored line) k
+control_read line control.Semicolon k = acts line (act.End (length k.locals)) (record k { locals = []; mode = mode.Outside })
+control_read line control.If k = acts line (act.Open opening.If) k
+control_read line control.Else k = acts line act.Else k
+control_read line control.Then k = acts line act.Then k
+control_read line control.Try k = acts line (act.Open opening.Try) k
+control_read line control.Catch k = acts line act.Catch k
+control_read line control.EndCatch k = acts line act.EndCatch k
+control_read line control.Begin k = acts line (act.Open opening.Begin) k
+control_read line control.For k = acts line (act.Open opening.For) k
+control_read line control.ForEach k = acts line (act.Open opening.Each) k
+control_read line control.Repeat k = acts line act.Repeat k
+control_read line control.Until k = acts line act.Until k
+control_read line control.While k = acts line (act.Jump item.While) k
+control_read line control.Break k = acts line (act.Jump item.Break) k
+control_read line control.Continue k = acts line (act.Jump item.Continue) k
+control_read line control.Exit k = acts line (act.Item item.Exit) k
+control_read line _ k = refuse line BadHeader
 
 -- an item, where the word has a meaning
-abbrev pub meant : ℕ → Option Word → Known → Read
-meant line (Some w) k = acts line (act.Item w) k
-meant line None k = refuse line UnknownWord
+abbrev pub word_meant : ℕ → Option Word → Known → Read
+word_meant line (Some w) k = acts line (act.Item w) k
+word_meant line None k = refuse line UnknownWord
 
-abbrev pub plain : ℕ → List ℕ → Option Control → Known → Read
-plain line name (Some c) k = controlled line c k
-plain line name None k = meant line (usable (word_of name k)) k
+abbrev pub plain_word : ℕ → List ℕ → Option Control → Known → Read
+plain_word line name (Some c) k = control_read line c k
+plain_word line name None k = word_meant line (usable (item_named name k)) k
 
 -- a word in a word
 abbrev pub read_inside : ℕ → TokenKind → Known → Read
-read_inside line (token.Word name) k = plain line name (control_of name) k
+read_inside line (token.Word name) k = plain_word line name (control_of name) k
 read_inside line (token.Text text) k = acts line (act.Item (item.Literal (literal.Text text))) k
 read_inside line (token.Number n) k = acts line (act.Item (item.Literal (literal.Int n))) k
 read_inside line (token.Ref d) k = acts line (act.Item (item.Literal (literal.Object d))) k
-read_inside line (token.Address name) k = meant line (option_map item.Address (number_of name k)) k
+read_inside line (token.Address name) k = word_meant line (option_map item.Address (word_number name k)) k
 
 abbrev pub read_in : ℕ → Mode → ℕ → TokenKind → Known → Read
 read_in number mode.Outside line kind k = read_outside line kind k
@@ -263,8 +263,8 @@ read_in number (mode.Heading at) line kind k = read_argument at line kind k
 read_in number (mode.Results at) line kind k = read_result at line kind k
 
 -- what a word asks for, where the next word of the program has this number
-unfoldable pub read : ℕ → Token → Known → Read
-read number t k = read_in number k.mode t.line t.kind k
+unfoldable pub word_read : ℕ → Token → Known → Read
+word_read number t k = read_in number k.mode t.line t.kind k
 
 -- nothing is known
 abbrev pub nothing_known : Known

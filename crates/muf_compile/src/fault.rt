@@ -1,6 +1,6 @@
 // Why a program can't be compiled.
 ghost use Rattle.std.specs.Prelude.{◌≡◌};
-ghost use Rattle.muf_compile.specs.Faults.{number_of_kind};
+ghost use Rattle.muf_compile.specs.Faults.{compile_fault_number};
 
 use muck_model::NoMemory;
 use std::alloc::{AllocError, AllocFailed};
@@ -33,7 +33,7 @@ pub enum CompileKind {
 impl CompileKind {
     /// The number by which a user knows it.
     pub fn number(self) -> u8
-        ensures { result ≡ number_of_kind self }
+        ensures { result ≡ compile_fault_number self }
     {
         match self {
             CompileKind::UnknownWord => 30,

@@ -6,7 +6,7 @@ ghost use Rattle.std.specs.Option.{option_or};
 ghost use Rattle.muck_model.specs.Bytes.{text_fault};
 ghost use Rattle.muf_model.specs.Prims.{named_in_any_case};
 ghost use Rattle.muf_compile.specs.Names.{control_of, standing_of};
-ghost use Rattle.muf_compile.specs.Reading.{item_of, word_of, may_use, number_of, is_unfit, name_fault, wants, shared_variable, own_variable, before_bracket, titled_as, titled, offered, named, read_name, binding, header_end, argument, read_argument, read_result, declaration, read_outside, controlled, meant, plain, read_inside, read, nothing_known, Reads};
+ghost use Rattle.muf_compile.specs.Reading.{item_of, item_named, may_use, word_number, is_unfit, new_name_fault, wants, shared_variable, own_variable, before_bracket, titled_as, titled, offered, name_wanted, read_name, binding, header_end, argument, read_argument, read_result, declaration, read_outside, control_read, word_meant, plain_word, read_inside, word_read, nothing_known, Reads};
 ghost use Rattle.muf_compile.specs.inner.Knowing.{known_of};
 
 use crate::act::{Act, Opening, Reading};
@@ -139,9 +139,9 @@ impl Known {
     }
 
     // The item that a word stands for.
-    #[tactic(auto, unfolding(crate::specs::Reading::word_of))]
+    #[tactic(auto, unfolding(crate::specs::Reading::item_named))]
     fn word_of(&self, name: &Line) -> Option<Word>
-        ensures { result ≡ word_of name.now (known_of self.now) }
+        ensures { result ≡ item_named name.now (known_of self.now) }
     {
         if let Some(word) = self.own_item(name) {
             return Some(word);
@@ -154,7 +154,7 @@ impl Known {
 
     // The number of the word that has this name.
     fn number_of(&self, name: &Line) -> Option<u32>
-        ensures { result ≡ number_of name.now (known_of self.now) }
+        ensures { result ≡ word_number name.now (known_of self.now) }
     {
         match self.names.get(name) {
             Some(Meaning::Word(number)) => Some(*number),
@@ -163,9 +163,9 @@ impl Known {
     }
 
     // Why a word can't be a new name.
-    #[tactic(auto, unfolding(crate::specs::Reading::name_fault))]
+    #[tactic(auto, unfolding(crate::specs::Reading::new_name_fault))]
     fn name_fault(&self, name: &Line) -> Option<CompileKind>
-        ensures { result ≡ name_fault name.now (known_of self.now) }
+        ensures { result ≡ new_name_fault name.now (known_of self.now) }
     {
         if is_unfit(name) {
             return Some(CompileKind::BadHeader);
@@ -288,7 +288,7 @@ impl Known {
         wanted: Wanted,
         name: &Line,
     ) -> Result<Reading, CompileFault>
-        ensures { Reads (named number line wanted name.now (known_of self.old)) result (known_of self.new) }
+        ensures { Reads (name_wanted number line wanted name.now (known_of self.old)) result (known_of self.new) }
     {
         match wanted {
             Wanted::Title(at) => self.title(alloc, number, at, line, name),
@@ -433,7 +433,7 @@ impl Known {
 
     // `;`: the variables of the word are forgotten.
     fn end_word(&mut self, line: u32) -> Reading
-        ensures { controlled line Control.Semicolon (known_of self.old) ≡ Ok (known_of self.new, result) }
+        ensures { control_read line Control.Semicolon (known_of self.old) ≡ Ok (known_of self.new, result) }
     {
         let count = self.locals.len();
         self.locals.clear();
@@ -446,7 +446,7 @@ impl Known {
 
     // A word of the structure in a word.
     fn control(&mut self, line: u32, control: Control) -> Result<Reading, CompileFault>
-        ensures { Reads (controlled line control (known_of self.old)) result (known_of self.new) }
+        ensures { Reads (control_read line control (known_of self.old)) result (known_of self.new) }
     {
         let act = match control {
             Control::Colon | Control::LVar | Control::Public | Control::WizCall => {
@@ -476,7 +476,7 @@ impl Known {
 
     // A word in a word.
     fn read_word(&mut self, line: u32, name: &Line) -> Result<Reading, CompileFault>
-        ensures { Reads (plain line name.now (control_of name.now) (known_of self.old)) result (known_of self.new) }
+        ensures { Reads (plain_word line name.now (control_of name.now) (known_of self.old)) result (known_of self.new) }
     {
         if let Some(control) = control_of(name.as_slice()) {
             return self.control(line, control);
@@ -492,7 +492,7 @@ impl Known {
 
     // The address of the word that has this name.
     fn address(&self, line: u32, name: &Line) -> Result<Reading, CompileFault>
-        ensures { Reads (meant line (option_map Word.Address (number_of name.now (known_of self.now))) (known_of self.now)) result (known_of self.now) }
+        ensures { Reads (word_meant line (option_map Word.Address (word_number name.now (known_of self.now))) (known_of self.now)) result (known_of self.now) }
     {
         match self.number_of(name) {
             Some(number) => Ok(Reading {
@@ -522,14 +522,14 @@ impl Known {
     }
 
     /// What a word asks for, where the next word of the program has this number.
-    #[tactic(auto, unfolding(crate::specs::Reading::read))]
+    #[tactic(auto, unfolding(crate::specs::Reading::word_read))]
     pub fn read(
         &mut self,
         alloc: Global,
         number: u32,
         token: &Token,
     ) -> Result<Reading, CompileFault>
-        ensures { Reads (read number token.now (known_of self.old)) result (known_of self.new) }
+        ensures { Reads (word_read number token.now (known_of self.old)) result (known_of self.new) }
     {
         match self.mode {
             Mode::Outside => self.read_outside(token),

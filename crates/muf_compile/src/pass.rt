@@ -4,7 +4,7 @@ ghost use Rattle.muf_compile.specs.Acts.{cost_of};
 ghost use Rattle.muf_compile.specs.Faults.{Leads, Answers};
 ghost use Rattle.muf_model.specs.inner.Decode as decode;
 ghost use Rattle.muf_compile.specs.inner.Grammar.{IsProgram};
-ghost use Rattle.muf_compile.specs.Growth.{counted, tree_of};
+ghost use Rattle.muf_compile.specs.Growth.{units_added, tree_of};
 ghost use Rattle.muf_compile.specs.inner.Compiled.{compiled_of, compiled_step, compiled_end, nothing_compiled};
 ghost use Rattle.muf_compile.specs.inner.Fits.{IsCode};
 
@@ -48,7 +48,7 @@ impl Compiler {
     fn counted(&self, line: u32, more: usize) -> Result<usize, CompileFault>
         requires most { self.now.units ≤ 65536 }
         requires few { more ≤ 2 }
-        ensures { Answers (counted line more self.now.units) result }
+        ensures { Answers (units_added line more self.now.units) result }
     {
         let units = self.units + more;
         if units > UNITS_MOST {

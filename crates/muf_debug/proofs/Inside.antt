@@ -7,20 +7,20 @@ use Rattle.std.specs.Fmt.{decimal, signed_decimal}
 use Rattle.std.proofs.lemmas.Bool.{cases_lt, lt-ltb}
 use Rattle.std.proofs.lemmas.List.{append-nil, append_assoc, map-append, length-take, take_more}
 use Rattle.std.proofs.lemmas.List.Sums.{prefix_len-le-length}
-use Rattle.muck_model.specs.Bytes.{is_outside, text_most, fault_of, text_fault}
+use Rattle.muck_model.specs.Bytes.{is_outside, text_most, fault_of_bytes, text_fault}
 use Rattle.muf_model.specs.declared.value.Value.{Value}
 use Rattle.muf_model.specs.Datum.{Datum}
 use Rattle.muf_model.specs.inner.View.{view}
 use Rattle.muf_model.proofs.FaultTexts.{is_inside, inside-cons, inside-append, inside-decimal, inside-first, from_inside}
 use Rattle.muf_debug.specs.declared.view.View.{View}
-use Rattle.muf_debug.specs.Printed.{numbers_text, head_text, value_text, values_text, scope_text, top_of, printed}
+use Rattle.muf_debug.specs.Printed.{numbers_text, head_text, item_text, values_text, scope_text, top_of, view_printed}
 use Rattle.muf_debug.specs.inner.Printing.{AreInside}
 
 -- those of a text may
 pub to_inside : (xs : List ℕ) → text_fault xs ≡ None → AreInside xs
 to_inside xs h =
     elim (cases_lt (position_or_len is_outside xs) (length xs)) [
-      | inl within ↦ absurd (let e : fault_of (cond true (Some (position_or_len is_outside xs)) None) (length xs) ≡ None = rw (lt-ltb (position_or_len is_outside xs) (length xs) within) at h in cc)
+      | inl within ↦ absurd (let e : fault_of_bytes (cond true (Some (position_or_len is_outside xs)) None) (length xs) ≡ None = rw (lt-ltb (position_or_len is_outside xs) (length xs) within) at h in cc)
       | inr past ↦ omega (arith, past, prefix_len-le-length is_inside xs)
     ]
 
@@ -49,16 +49,16 @@ numbers_inside pid program line depth p q l d =
     (inside-append (codes " ") _ refl (inside-decimal depth d)))))))
 
 -- a value more
-pub values_more : (ds : List Datum) (d : Datum) → values_text (ds ++ d ∷ []) ≡ values_text ds ++ (codes " " ++ value_text d)
-values_more [] d = ap (λ t. codes " " ++ t) (append-nil (value_text d))
+pub values_more : (ds : List Datum) (d : Datum) → values_text (ds ++ d ∷ []) ≡ values_text ds ++ (codes " " ++ item_text d)
+values_more [] d = ap (λ t. codes " " ++ t) (append-nil (item_text d))
 values_more (e ∷ ds) d =
-    ap (λ t. codes " " ++ (value_text e ++ t)) (values_more ds d)
-    ∙ ap (λ t. codes " " ++ t) (sym (append_assoc (value_text e) (values_text ds) (codes " " ++ value_text d)))
+    ap (λ t. codes " " ++ (item_text e ++ t)) (values_more ds d)
+    ∙ ap (λ t. codes " " ++ t) (sym (append_assoc (item_text e) (values_text ds) (codes " " ++ item_text d)))
 
 -- and it may stand there too
-pub more_inside : (ds : List Datum) (d : Datum) → AreInside (values_text ds) → AreInside (value_text d) → AreInside (values_text (ds ++ d ∷ []))
+pub more_inside : (ds : List Datum) (d : Datum) → AreInside (values_text ds) → AreInside (item_text d) → AreInside (values_text (ds ++ d ∷ []))
 more_inside ds d h k =
-    subst AreInside (sym (values_more ds d)) (inside-append (values_text ds) (codes " " ++ value_text d) h (inside-append (codes " ") (value_text d) refl k))
+    subst AreInside (sym (values_more ds d)) (inside-append (values_text ds) (codes " " ++ item_text d) h (inside-append (codes " ") (item_text d) refl k))
 
 -- the first values and one more
 pub taken_more : (vs : List Value) (at : ℕ) (v : Value) → at < length vs → v ≡ get_or vs at v → map view (take (at + 1) vs) ≡ map view (take at vs) ++ view v ∷ []
@@ -66,15 +66,15 @@ taken_more vs at v within is =
     ap (map view) (take_more vs at v within ∙ ap (λ x. take at vs ++ x ∷ []) (sym is)) ∙ map-append view (take at vs) (v ∷ [])
 
 pub pushed_more : (old bytes text after : List ℕ) (vs : List Value) (at : ℕ) (v : Value) → at < length vs → v ≡ get_or vs at v → bytes ≡ old ++ values_text (map view (take at vs))
-    → text ≡ value_text (view v) → after ≡ (bytes ++ codes " ") ++ text → after ≡ old ++ values_text (map view (take (at + 1) vs))
+    → text ≡ item_text (view v) → after ≡ (bytes ++ codes " ") ++ text → after ≡ old ++ values_text (map view (take (at + 1) vs))
 pushed_more old bytes text after vs at v within is before same e =
     e ∙ append_assoc bytes (codes " ") text
     ∙ ap (λ t. bytes ++ (codes " " ++ t)) same
-    ∙ ap (λ t. t ++ (codes " " ++ value_text (view v))) before
-    ∙ append_assoc old (values_text (map view (take at vs))) (codes " " ++ value_text (view v))
+    ∙ ap (λ t. t ++ (codes " " ++ item_text (view v))) before
+    ∙ append_assoc old (values_text (map view (take at vs))) (codes " " ++ item_text (view v))
     ∙ ap (λ t. old ++ t) (sym (values_more (map view (take at vs)) (view v)) ∙ sym (ap values_text (taken_more vs at v within is)))
 
-pub kept_inside : (vs : List Value) (at : ℕ) (v : Value) → at < length vs → v ≡ get_or vs at v → AreInside (values_text (map view (take at vs))) → AreInside (value_text (view v)) → AreInside (values_text (map view (take (at + 1) vs)))
+pub kept_inside : (vs : List Value) (at : ℕ) (v : Value) → at < length vs → v ≡ get_or vs at v → AreInside (values_text (map view (take at vs))) → AreInside (item_text (view v)) → AreInside (values_text (map view (take (at + 1) vs)))
 kept_inside vs at v within is h k = subst (λ ds. AreInside (values_text ds)) (sym (taken_more vs at v within is)) (more_inside (map view (take at vs)) (view v) h k)
 
 -- a front of a line is a text
@@ -85,10 +85,10 @@ cut_is_text xs h = from_inside (take text_most xs) (front_inside text_most xs h)
 abbrev whole_text : View → List ℕ
 whole_text v = head_text v ++ (values_text (top_of v.stack) ++ scope_text v.scope)
 
-pub line_cut : (v : View) (head more whole cut : List ℕ) → head ≡ head_text v → more ≡ head ++ values_text (top_of v.stack) → whole ≡ more ++ scope_text v.scope → cut ≡ take text_most whole → cut ≡ printed v
+pub line_cut : (v : View) (head more whole cut : List ℕ) → head ≡ head_text v → more ≡ head ++ values_text (top_of v.stack) → whole ≡ more ++ scope_text v.scope → cut ≡ take text_most whole → cut ≡ view_printed v
 line_cut v head more whole cut h m w c =
     c ∙ ap (take text_most) (w ∙ ap (λ t. t ++ scope_text v.scope) (m ∙ ap (λ t. t ++ values_text (top_of v.stack)) h) ∙ append_assoc (head_text v) (values_text (top_of v.stack)) (scope_text v.scope))
 
-pub line_is_text : (v : View) → AreInside (head_text v) → AreInside (values_text (top_of v.stack)) → AreInside (scope_text v.scope) → text_fault (printed v) ≡ None
+pub line_is_text : (v : View) → AreInside (head_text v) → AreInside (values_text (top_of v.stack)) → AreInside (scope_text v.scope) → text_fault (view_printed v) ≡ None
 line_is_text v h k l =
     cut_is_text (whole_text v) (inside-append (head_text v) _ h (inside-append (values_text (top_of v.stack)) (scope_text v.scope) k l))

@@ -1,11 +1,11 @@
 -- Values that are read one behind the other.
-use Rattle.std.proofs.Common.{◌≡◌, ℕ, ◌+◌, ◌-◌, ◌<◌, ◌≤◌, List, [], ◌∷◌, ◌++◌, length, map, take, drop, reverse, get_or, Some, None, inl, inr, refl, ap, sym, ◌∙◌, arith}
+use Rattle.std.proofs.Common.{◌≡◌, ℕ, ◌+◌, ◌-◌, ◌≤◌, List, [], ◌∷◌, ◌++◌, length, map, take, drop, reverse, Some, None, refl, ap, sym, ◌∙◌, arith}
 use Rattle.std.specs.Prelude.{slice_get}
 use Rattle.std.proofs.lemmas.Bool.{le-ltb}
 use Rattle.std.proofs.lemmas.List.{length-map, drop_all, take_all, take_more, drop_more, reverse-append}
-use Rattle.std.proofs.lemmas.Option.{slice_get_within, get_or_from_slice_get, slice_get-get_or, slice_get-map}
+use Rattle.std.proofs.lemmas.Option.{slice_get_within, get_or_from_slice_get, slice_get-map}
 use Rattle.std.specs.Option.{option_map}
-use Rattle.std.proofs.lemmas.Bool.{cases_lt}
+use Rattle.muck_laws.proofs.Places.{none_past}
 use Rattle.muf_model.specs.Answer.{Scope, variable_at}
 use Rattle.muf_model.specs.Datum.{Datum}
 use Rattle.muf_model.specs.declared.value.Value.{Value}
@@ -34,18 +34,6 @@ scope_more n f d ds after le is found more =
     let there : slice_get xs (n - 68) ≡ Some d = sym (found ∙ called_at n (scope_of 0 f) le) in
     let next : n + 1 - 68 ≡ (n - 68) + 1 = omega (arith, le) in
     more ∙ ap (λ ys. ys ++ d ∷ []) is ∙ sym (ap (λ k. take k xs) next ∙ take_more xs (n - 68) d (slice_get_within xs (n - 68) d there) ∙ ap (λ y. take (n - 68) xs ++ y ∷ []) (get_or_from_slice_get xs (n - 68) d d there))
-
--- behind the last one
-pub none_past : {X : Type 0} (xs : List X) (i : ℕ) → slice_get xs i ≡ None → length xs ≤ i
-none_past xs i e =
-    elim (cases_lt i (length xs)) [
-      | inl within ↦ absurd (none_within xs i within e)
-      | inr past ↦ past
-    ]
-  where
-    none_within : {X : Type 0} (xs : List X) (i : ℕ) → i < length xs → slice_get xs i ≡ None → ⊥
-    none_within [] i within e = omega (arith, within)
-    none_within (x ∷ xs) i within e = let f : Some (get_or (x ∷ xs) i x) ≡ None = sym (slice_get-get_or (x ∷ xs) i x within) ∙ e in cc
 
 -- no more of them
 pub scope_whole : (n : ℕ) (f : Flat) (ds : List Datum) → 68 ≤ n → ds ≡ take (n - 68) (drop f.base f.variables) → None ≡ variable_at n (scope_of 0 f) → ds ≡ drop f.base f.variables

@@ -6,21 +6,21 @@ use Rattle.muf_model.specs.Datum.{Datum, int, text, object, variable, address, l
 use Rattle.muf_debug.specs.declared.view.View.{View}
 
 -- integers, objects and texts as they are written in a source, other values by their kind
-abbrev pub value_text : Datum → List ℕ
-value_text (int n) = signed_decimal n
-value_text (text t) = codes "\"" ++ (t ++ codes "\"")
-value_text (object d) = codes "#" ++ signed_decimal d
-value_text (variable v) = codes "var"
-value_text (address program word) = codes "addr"
-value_text (lock l) = codes "lock"
-value_text (items ds) = codes "list"
-value_text (dict ps) = codes "dict"
-value_text mark = codes "mark"
+abbrev pub item_text : Datum → List ℕ
+item_text (int n) = signed_decimal n
+item_text (text t) = codes "\"" ++ (t ++ codes "\"")
+item_text (object d) = codes "#" ++ signed_decimal d
+item_text (variable v) = codes "var"
+item_text (address program word) = codes "addr"
+item_text (lock l) = codes "lock"
+item_text (items ds) = codes "list"
+item_text (dict ps) = codes "dict"
+item_text mark = codes "mark"
 
 -- each behind a space
 abbrev pub values_text : List Datum → List ℕ
 values_text [] = []
-values_text (d ∷ ds) = codes " " ++ (value_text d ++ values_text ds)
+values_text (d ∷ ds) = codes " " ++ (item_text d ++ values_text ds)
 
 -- the top 8 items of a stack that is given from the bottom
 abbrev pub top_of : List Datum → List Datum
@@ -40,5 +40,5 @@ abbrev pub head_text : View → List ℕ
 head_text v = numbers_text v.pid v.program.0 v.line (length v.stack)
 
 -- with the items at the top, from below, and the variables; cut where a text would be too long
-abbrev pub printed : View → List ℕ
-printed v = take text_most (head_text v ++ (values_text (top_of v.stack) ++ scope_text v.scope))
+abbrev pub view_printed : View → List ℕ
+view_printed v = take text_most (head_text v ++ (values_text (top_of v.stack) ++ scope_text v.scope))

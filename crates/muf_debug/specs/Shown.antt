@@ -6,7 +6,7 @@ use Rattle.std.specs.List.{list_any, filter}
 use Rattle.std.specs.FinMap as map
 use Rattle.muf_debug.specs.declared.places.Spot.{Spot}
 use Rattle.muf_debug.specs.declared.view.View.{View}
-use Rattle.muf_debug.specs.Printed.{printed}
+use Rattle.muf_debug.specs.Printed.{view_printed}
 use Rattle.muf_debug.specs.Watching.{SeesAll}
 
 -- the same line of the same program
@@ -50,27 +50,27 @@ abbrev pub was_at : ℤ → Spot → Lasts → Bool
 was_at pid spot last = option_map_or (same_spot spot) (map.get last pid) false
 
 -- all is, or the line has a break and the process comes from elsewhere
-unfoldable pub is_shown : ℤ → Spot → Tracer → Bool
-is_shown pid spot t = t.on || (has_break spot t.breaks && not (was_at pid spot t.last))
+unfoldable pub is_unit_shown : ℤ → Spot → Tracer → Bool
+is_unit_shown pid spot t = t.on || (has_break spot t.breaks && not (was_at pid spot t.last))
 
 abbrev pub spot_of : View → Spot
 spot_of v = record { program = v.program; line = v.line }
 
 -- what it has kept once it was told of a view
-abbrev pub kept_with : View → Tracer → List (List ℕ)
-kept_with v t = if is_shown v.pid (spot_of v) t then t.kept ++ printed v ∷ [] else t.kept
+abbrev pub lines_kept_with : View → Tracer → List (List ℕ)
+lines_kept_with v t = if is_unit_shown v.pid (spot_of v) t then t.kept ++ view_printed v ∷ [] else t.kept
 
-unfoldable pub told : View → Tracer → Tracer
-told v t = record t { last = map.insert t.last v.pid (spot_of v); kept = kept_with v t }
+unfoldable pub view_told : View → Tracer → Tracer
+view_told v t = record t { last = map.insert t.last v.pid (spot_of v); kept = lines_kept_with v t }
 
 -- it is told so, or memory is wanted, now or before
 abbrev pub TellsSo : Tracer → View → Tracer → Type 0
-TellsSo t v u = (u.refused ≡ true) ⊎ ((t.refused ≡ false) × (u ≡ told v t))
+TellsSo t v u = (u.refused ≡ true) ⊎ ((t.refused ≡ false) × (u ≡ view_told v t))
 
 -- views one behind the other
-unfoldable pub told_all : List View → Tracer → Tracer
-told_all [] t = t
-told_all (v ∷ vs) t = told_all vs (told v t)
+unfoldable pub views_told : List View → Tracer → Tracer
+views_told [] t = t
+views_told (v ∷ vs) t = views_told vs (view_told v t)
 
 -- what it kept is handed out
 abbrev pub handed_out : Tracer → Tracer
@@ -78,4 +78,4 @@ handed_out t = record t { kept = [] }
 
 -- whatever it is told of, it keeps what is shown of that, or remembers that memory was wanted
 abbrev pub KeepsShown : Type 0
-KeepsShown = (vs : List View) (t u : Tracer) → SeesAll TellsSo vs t u → (u.refused ≡ true) ⊎ (u ≡ told_all vs t)
+KeepsShown = (vs : List View) (t u : Tracer) → SeesAll TellsSo vs t u → (u.refused ≡ true) ⊎ (u ≡ views_told vs t)

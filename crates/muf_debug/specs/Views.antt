@@ -5,8 +5,8 @@ use Rattle.muf_compile.specs.Lines.{next_line}
 use Rattle.muf_debug.specs.declared.view.View.{View}
 
 -- the process of this number, which stands at this state
-abbrev pub seen_at : ℤ → Source → View
-seen_at pid s = record {
+abbrev pub view_at : ℤ → Source → View
+view_at pid s = record {
   pid = pid;
   program = record { 0 = s.program.number };
   line = next_line s.now s.end;

@@ -2,7 +2,7 @@
 ghost use Rattle.std.specs.Prelude.{◌≡◌, ◌++◌, map, codes, IfOk, OnOk};
 ghost use Rattle.std.specs.Fmt.{signed_decimal};
 ghost use Rattle.muf_model.specs.inner.View.{view};
-ghost use Rattle.muf_debug.specs.Printed.{numbers_text, head_text, value_text, values_text, top_of, scope_text, printed};
+ghost use Rattle.muf_debug.specs.Printed.{numbers_text, head_text, item_text, values_text, top_of, scope_text, view_printed};
 ghost use Rattle.muf_debug.specs.inner.Printing.{AreInside};
 
 use crate::view::View;
@@ -42,7 +42,7 @@ fn print_text(alloc: Global, text: &Text) -> Result<Vec<u8>, NoMemory>
 
 // A value.
 fn print_value(alloc: Global, value: &Value) -> Result<Vec<u8>, NoMemory>
-    ensures text { IfOk result (λ bytes. bytes.items ≡ value_text (view value.now)) }
+    ensures text { IfOk result (λ bytes. bytes.items ≡ item_text (view value.now)) }
     ensures inside { IfOk result (λ bytes. AreInside bytes.items) }
 {
     match value {
@@ -120,7 +120,7 @@ fn top_of(values: &[Value]) -> &[Value]
 
 /// A view as it is shown.
 pub fn print_view(alloc: Global, view: &View) -> Result<Line, NoMemory>
-    ensures { IfOk result (λ line. line ≡ printed view.now) }
+    ensures { IfOk result (λ line. line ≡ view_printed view.now) }
 {
     let mut bytes = print_head(alloc, view)?;
     push_values(alloc, &mut bytes, top_of(view.stack.as_slice()))?;

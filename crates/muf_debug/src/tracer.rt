@@ -1,6 +1,6 @@
 // A watch that keeps the lines of what it is asked to show.
 ghost use Rattle.std.specs.Prelude.{◌≡◌, true, false, OnErr, OnOk, IfOk};
-ghost use Rattle.muf_debug.specs.Shown.{new_tracer, has_break, can_break, with_break, without_break, is_shown, was_at, told, handed_out};
+ghost use Rattle.muf_debug.specs.Shown.{new_tracer, has_break, can_break, with_break, without_break, is_unit_shown, was_at, view_told, handed_out};
 
 use crate::places::{Places, Spot};
 use crate::printing::print_view;
@@ -122,16 +122,16 @@ impl Tracer {
     }
 
     // Whether a view is to be shown.
-    #[tactic(auto, unfolding(crate::specs::Shown::is_shown))]
+    #[tactic(auto, unfolding(crate::specs::Shown::is_unit_shown))]
     fn is_shown(&self, pid: i32, spot: Spot) -> bool
-        ensures { result ≡ is_shown pid spot self.now }
+        ensures { result ≡ is_unit_shown pid spot self.now }
     {
         self.on || (self.has_break(spot) && !self.was_at(pid, spot))
     }
 
     // It is told of a view.
     fn note(&mut self, view: &View) -> Result<(), NoMemory>
-        ensures { OnOk result (self.new ≡ told view.now self.old) }
+        ensures { OnOk result (self.new ≡ view_told view.now self.old) }
     {
         let spot = Spot {
             program: view.program,

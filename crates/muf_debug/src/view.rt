@@ -2,7 +2,7 @@
 ghost use Rattle.std.specs.Prelude.{◌≡◌, IfOk, map, drop, reverse};
 ghost use Rattle.muf_model.specs.inner.View.{view};
 ghost use Rattle.muf_frame.specs.inner.Shown.{flat};
-ghost use Rattle.muf_debug.specs.Views.{seen_at};
+ghost use Rattle.muf_debug.specs.Views.{view_at};
 
 use crate::values::ValueRow;
 use muck_model::{Dbref, NoMemory};
@@ -60,7 +60,7 @@ fn scope_of(alloc: Global, frame: &Frame) -> Result<Vec<Value>, NoMemory>
 impl View {
     /// A process of this number as it stands. It shares texts, lists and dictionaries with the process.
     pub fn of(alloc: Global, pid: i32, running: &Running) -> Result<View, NoMemory>
-        ensures { IfOk result (λ v. v ≡ seen_at pid running.now) }
+        ensures { IfOk result (λ v. v ≡ view_at pid running.now) }
     {
         let frame = running.frame();
         let stack = ValueRow::of(stack_of(alloc, frame)?);

@@ -1,16 +1,12 @@
 -- The innermost mark changed in place.
-use Rattle.std.proofs.Common.{◌≡◌, ◌<◌, ◌-◌, ◌+◌, ℕ, List, [], ◌∷◌, ◌++◌, length, map, take, drop, reverse, slice_index_or, slice_set, Option, ℤ, refl, sym, ap, ◌∙◌, arith}
-use Rattle.std.proofs.lemmas.List.{reverse-append, take-append-drop, take-set, drop-set, drop_more, drop_all}
+use Rattle.std.proofs.Common.{◌≡◌, ◌<◌, ◌-◌, ◌+◌, ℕ, List, [], ◌∷◌, length, map, take, drop, reverse, slice_index_or, slice_set, Option, ℤ, refl, sym, ap, ◌∙◌, arith}
+use Rattle.std.proofs.lemmas.List.{take-set, drop-set, drop_more, drop_all}
+use Rattle.muck_laws.proofs.Turned.{reversed_last}
 use Rattle.muf_frame.specs.declared.mark.Mark.{Mark}
 use Rattle.muf_frame.specs.declared.mark.Mark.TheVariants.{Loop, Guard, Back, Leave}
 use Rattle.muf_frame.specs.declared.mark.Turns.TheVariants.{Plain, Indices, Values, Pairs}
 use Rattle.muf_frame.specs.inner.Shown.{flat_mark, locked_by, calls_by, opened_by, GuardsFit}
 use Rattle.muf_frame.specs.inner.Counting.{counting, with_next}
-
--- the last item of a list is the first one of the reversed list
-reversed_last : {A : Type 0} → (k : ℕ) (xs : List A) (x : A) → drop k xs ≡ x ∷ [] → reverse xs ≡ x ∷ reverse (take k xs)
-reversed_last k xs x e =
-    ap reverse (sym (take-append-drop k xs)) ∙ reverse-append (take k xs) (drop k xs) ∙ ap (λ r. reverse r ++ reverse (take k xs)) e
 
 pub counted_in_place : (next : Option ℤ) (n : ℕ) (xs : List Mark) (m w : Mark) → n ≡ length xs → 0 < n → m ≡ slice_index_or xs (n - 1) m → w ≡ counting next m → reverse (slice_set xs (n - 1) w) ≡ with_next next (reverse xs)
 counted_in_place next n xs m w e p r c =

@@ -1,30 +1,20 @@
 -- How the data of a frame follows its values.
-use Rattle.std.proofs.Common.{◌≡◌, ◌≤◌, ℕ, ◌+◌, ◌-◌, arith, List, [], ◌∷◌, ◌++◌, length, map, take, drop, zero, suc, refl, ap, sym, ◌∙◌}
+use Rattle.std.proofs.Common.{◌≡◌, ◌≤◌, ℕ, ◌-◌, arith, List, [], ◌∷◌, ◌++◌, length, map, take, drop, zero, suc, refl, ap, sym, ◌∙◌}
 use Rattle.std.proofs.lemmas.List.{length-map, map-set, set_past, take-replicate}
 use Rattle.std.proofs.lemmas.Option.{slice_get-map}
-use Rattle.std.specs.Prelude.{slice_get}
 use Rattle.std.specs.Prelude.{pos}
+use Rattle.muck_laws.proofs.Mapped.{map_drop, map_take}
 use Rattle.muf_model.specs.declared.value.Value.{Value}
 use Rattle.muf_model.specs.Datum.{Datum, int}
 use Rattle.muf_model.specs.Source.{zeros, fitted}
 use Rattle.muf_model.specs.inner.View.{view}
-use Rattle.muf_model.specs.Unit.{lowest}
+use Rattle.muf_model.specs.Unit.{lowest_items}
 use Rattle.muf_frame.specs.declared.mark.Mark.{Mark}
 use Rattle.muf_frame.specs.declared.mark.Mark.TheVariants.{Loop, Guard, Back, Leave}
 use Rattle.muf_frame.specs.inner.Shown.{Shown, flat, flat_mark, left}
 use Rattle.muf_frame.specs.inner.Moves.{behind}
 
-pub map_take : {A B : Type 0} → (f : A → B) (n : ℕ) (xs : List A) → map f (take n xs) ≡ take n (map f xs)
-map_take f zero xs = refl
-map_take f (suc n) [] = refl
-map_take f (suc n) (x ∷ xs) = ap (λ r. f x ∷ r) (map_take f n xs)
-
-pub map_drop : {A B : Type 0} → (f : A → B) (n : ℕ) (xs : List A) → map f (drop n xs) ≡ drop n (map f xs)
-map_drop f zero xs = refl
-map_drop f (suc n) [] = refl
-map_drop f (suc n) (x ∷ xs) = map_drop f n xs
-
-pub lowest_data : (n : ℕ) (s : Shown) → map view (drop (length s.stack - n) s.stack) ≡ lowest n (flat s).stack
+pub lowest_data : (n : ℕ) (s : Shown) → map view (drop (length s.stack - n) s.stack) ≡ lowest_items n (flat s).stack
 lowest_data n s =
     map_drop view (length s.stack - n) s.stack ∙ ap (λ k. drop (k - n) (map view s.stack)) (sym (length-map s.stack view))
 
@@ -39,11 +29,6 @@ pub ruleset list_steps = (slice_get-map, map-set, set_past)
 pub ruleset give_steps = (map_drop, length-map)
 
 pub ruleset data_steps = (lowest_data, left_data, length-map)
-
-pub get_drop : {A : Type 0} → (n k : ℕ) (xs : List A) → slice_get (drop n xs) k ≡ slice_get xs (n + k)
-get_drop zero k xs = let e : 0 + k ≡ k = omega arith in rw e refl
-get_drop (suc n) k [] = refl
-get_drop (suc n) k (x ∷ xs) = let e : suc n + k ≡ suc (n + k) = omega arith in rw e (get_drop n k xs)
 
 fitted_more : (n m : ℕ) (vs : List Datum) → n ≤ m → take n (vs ++ zeros m) ≡ take n vs ++ zeros (n - length (take n vs))
 fitted_more zero m vs h = refl

@@ -1,4 +1,3 @@
-pub mod Tops
 pub mod Alike
 pub mod Owners
 pub mod Unguarded

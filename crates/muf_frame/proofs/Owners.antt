@@ -8,7 +8,7 @@ use Rattle.std.proofs.lemmas.List.{map-set}
 use Rattle.std.proofs.lemmas.Bool.Decides.{Decides-int_eq}
 use Rattle.muf_model.specs.Datum.{Datum}
 use Rattle.muf_model.specs.inner.View.{view}
-use Rattle.muf_model.specs.Source.{Owned, owned_by, with_owned}
+use Rattle.muf_model.specs.Source.{Owned, variables_owned_by, with_owned}
 use Rattle.muf_frame.specs.declared.frame.Owned.{Owned as Kept}
 use Rattle.muf_frame.specs.inner.Shown.{flat_owned}
 use Rattle.muf_frame.specs.inner.Owners.{owner_place, owned_values}
@@ -17,11 +17,11 @@ abbrev values_at : Option Owned → List Datum
 values_at (Some o) = o.values
 values_at None = []
 
-read_cases : (n : ℤ) (o : Owned) (os : List Owned) (b : Bool) → owned_by n os ≡ values_at (slice_get os (owner_place n os)) → (if b then o.values else owned_by n os) ≡ values_at (slice_get (o ∷ os) (if b then 0 else suc (owner_place n os)))
+read_cases : (n : ℤ) (o : Owned) (os : List Owned) (b : Bool) → variables_owned_by n os ≡ values_at (slice_get os (owner_place n os)) → (if b then o.values else variables_owned_by n os) ≡ values_at (slice_get (o ∷ os) (if b then 0 else suc (owner_place n os)))
 read_cases n o os true h = refl
 read_cases n o os false h = h
 
-read_owner : (n : ℤ) (os : List Owned) → owned_by n os ≡ values_at (slice_get os (owner_place n os))
+read_owner : (n : ℤ) (os : List Owned) → variables_owned_by n os ≡ values_at (slice_get os (owner_place n os))
 read_owner n [] = refl
 read_owner n (o ∷ os) = read_cases n o os (int_eq o.program n) (read_owner n os)
 
@@ -29,7 +29,7 @@ values_alike : (o : Option Kept) → values_at (option_map flat_owned o) ≡ own
 values_alike (Some o) = refl
 values_alike None = refl
 
-pub owned_read : (n : ℤ) (os : List Kept) → owned_by n (map flat_owned os) ≡ owned_values (slice_get os (owner_place n (map flat_owned os)))
+pub owned_read : (n : ℤ) (os : List Kept) → variables_owned_by n (map flat_owned os) ≡ owned_values (slice_get os (owner_place n (map flat_owned os)))
 owned_read n os =
     read_owner n (map flat_owned os) ∙ ap values_at (slice_get-map flat_owned os (owner_place n (map flat_owned os))) ∙ values_alike (slice_get os (owner_place n (map flat_owned os)))
 
@@ -62,7 +62,7 @@ found_owner n [] o s = search (rules, s)
 found_owner n (p ∷ os) o s = found_cases n p os o (int_eq p.program n) refl (found_owner n os o) s
 
 -- the variables that a program has, by its place
-pub owned_found : (n : ℤ) (os : List Kept) (i : ℕ) (o : Kept) → i ≡ owner_place n (map flat_owned os) → slice_get os i ≡ Some o → owned_by n (map flat_owned os) ≡ map view o.values.items
+pub owned_found : (n : ℤ) (os : List Kept) (i : ℕ) (o : Kept) → i ≡ owner_place n (map flat_owned os) → slice_get os i ≡ Some o → variables_owned_by n (map flat_owned os) ≡ map view o.values.items
 owned_found n os i o e s =
     owned_read n os ∙ ap owned_values (ap (slice_get os) (sym e) ∙ s)
 

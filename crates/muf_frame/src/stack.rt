@@ -1,7 +1,7 @@
 // The stack of values.
 ghost use Rattle.std.specs.Prelude.{◌↔◌, IsTrue, ◌≡◌, ◌+◌, ◌-◌, ◌<◌, ◌≤◌, [], ◌∷◌, ◌++◌, length, take, drop, reverse, map, Some, IfNone, MatchResult, MatchOption, slice_get, slice_set, option_copied, option_to_list};
 ghost use Rattle.muf_model.specs.declared.fault.MufFault.TheVariants.{StackFull};
-ghost use Rattle.muf_model.specs.Answer.{too_few, put, makes};
+ghost use Rattle.muf_model.specs.Answer.{too_few, items_put, makes};
 ghost use Rattle.muf_model.specs.inner.View.{view};
 ghost use Rattle.muf_frame.specs.inner.Answers.{Answered};
 ghost use Rattle.muf_frame.specs.inner.Shown.{Shown, flat, locked_by};
@@ -149,7 +149,7 @@ impl Frame {
     #[inline(always)]
     pub fn give(&mut self, taken: usize, item: Value) -> Result<(), MufFault>
         requires { taken ≤ length self.old.stack }
-        ensures { Answered (put taken (makes (view item ∷ [])) (drop taken (flat self.old).stack)) self.old self.new result }
+        ensures { Answered (items_put taken (makes (view item ∷ [])) (drop taken (flat self.old).stack)) self.old self.new result }
     {
         if taken == 0 {
             return self.push(item);
@@ -183,7 +183,7 @@ impl Frame {
         }
     }
 
-    #[tactic(auto, using(crate::proofs::Tops::replaced))]
+    #[tactic(auto, using(muck_laws::proofs::Places::replaced))]
     /// Replaces the item at this depth below the top, which is there.
     pub fn set_item(&mut self, depth: usize, item: Value)
         requires { depth < length self.old.stack }

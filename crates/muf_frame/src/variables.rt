@@ -2,7 +2,7 @@
 ghost use Rattle.std.specs.Prelude.{◌≡◌, ℕ, ◌+◌, ◌≤◌, [], length, map, drop, IsTrue, IsFalse, is_some, option_copied, slice_get, slice_set};
 ghost use Rattle.std.specs.Option.{option_map};
 ghost use Rattle.muf_model.specs.Answer.{variable_at};
-ghost use Rattle.muf_model.specs.Source.{owned_by, with_owned};
+ghost use Rattle.muf_model.specs.Source.{variables_owned_by, with_owned};
 ghost use Rattle.muf_model.specs.inner.View.{view};
 ghost use Rattle.muf_frame.specs.inner.Shown.{Shown, flat, flat_owned};
 ghost use Rattle.muf_frame.specs.inner.Moves.{scope_of, with_variable};
@@ -56,7 +56,7 @@ impl Frame {
     // The variables of the running program.
     #[tactic(auto, using(crate::proofs::Owners::owned_read))]
     fn owned_values(&self) -> &[Value]
-        ensures { map view result.now ≡ owned_by (flat self.now).program (flat self.now).owned }
+        ensures { map view result.now ≡ variables_owned_by (flat self.now).program (flat self.now).owned }
     {
         let at = owner_place(&self.owned, self.program);
         values_from(&self.owned, at)
@@ -91,8 +91,8 @@ impl Frame {
 
     // Another value of a variable of the running program; false where it has none of that number.
     fn set_owned(&mut self, at: usize, value: Value) -> bool
-        ensures found { result ≡ is_some (slice_get (owned_by (flat self.old).program (flat self.old).owned) at) }
-        ensures yes { IsTrue result → flat self.new ≡ record (flat self.old) { owned = with_owned (flat self.old).program (slice_set (owned_by (flat self.old).program (flat self.old).owned) at (view value)) (flat self.old).owned } }
+        ensures found { result ≡ is_some (slice_get (variables_owned_by (flat self.old).program (flat self.old).owned) at) }
+        ensures yes { IsTrue result → flat self.new ≡ record (flat self.old) { owned = with_owned (flat self.old).program (slice_set (variables_owned_by (flat self.old).program (flat self.old).owned) at (view value)) (flat self.old).owned } }
         ensures no { IsFalse result → self.new ≡ self.old }
     {
         let place = owner_place(&self.owned, self.program);

@@ -2,7 +2,7 @@
 ghost use Rattle.std.specs.Prelude.{◌≡◌, ◌+◌, ◌<◌, ◌++◌, ◌∷◌, ◌≤◌, [], length, vec_len, vec_capacity, map, reverse, IfOk, OnOk};
 ghost use Rattle.muf_model.specs.Datum.{text};
 ghost use Rattle.muf_model.specs.inner.View.{view};
-ghost use Rattle.muf_model.specs.Source.{owned_by, with_owned, zeros, fitted};
+ghost use Rattle.muf_model.specs.Source.{variables_owned_by, with_owned, zeros, fitted};
 ghost use Rattle.muf_frame.specs.inner.Shown.{Shown, flat, flat_owned, calls_by};
 ghost use Rattle.muf_frame.specs.inner.Moves.{fresh, owning, begun, called, entered};
 
@@ -75,7 +75,7 @@ fn add_owned(
 
 // The variables of a program that is entered.
 fn own(owned: &mut Vec<Owned>, alloc: Global, program: Dbref, count: usize) -> Result<(), NoMemory>
-    ensures { OnOk result (map flat_owned owned.new.items ≡ with_owned program.0 (fitted count (owned_by program.0 (map flat_owned owned.old.items))) (map flat_owned owned.old.items)) }
+    ensures { OnOk result (map flat_owned owned.new.items ≡ with_owned program.0 (fitted count (variables_owned_by program.0 (map flat_owned owned.old.items))) (map flat_owned owned.old.items)) }
 {
     let place = owner_place(owned, program);
     if place < owned.len() {

@@ -11,10 +11,10 @@ use Rattle.muf_model.specs.declared.prims.Primitive.{Primitive as Name}
 use Rattle.muf_model.specs.Prims.{is_local}
 use Rattle.muf_model.specs.Faults.{is_final}
 use Rattle.muf_model.specs.Datum.{Datum, int, text, object, variable, address, lock, items, dict, mark}
-use Rattle.muf_model.specs.Answer.{Answer, gives, stores, calls, refuses, owned_first, call_first, too_few, needing, fitting}
+use Rattle.muf_model.specs.Answer.{Answer, gives, stores, calls, refuses, owned_first, call_first, too_few, needing, stack_fitting}
 use Rattle.muf_model.specs.Rows.{primitive}
-use Rattle.muf_model.specs.Tree.{Fork, if_word, try_word, Ring, begin_word, for_word, each_word, Block, stop, word, when, fork, ring, End, closes, hops, then_block, Definition}
-use Rattle.muf_model.specs.Source.{plain, indices, pairs, Program, Mark, looping, trying, calling, entering, Source, locked_of, with_variable, with_owned, owned_by, scope_of, open_of}
+use Rattle.muf_model.specs.Tree.{Fork, if_word, try_word, Ring, begin_word, for_word, each_word, Block, stop, word, when, fork, ring, BlockEnd, closes, hops, then_block, Definition}
+use Rattle.muf_model.specs.Source.{plain, indices, pairs, Program, Mark, looping, trying, calling, entering, Source, locked_of, with_variable, with_owned, variables_owned_by, scope_of, open_of}
 use Rattle.muf_model.specs.Unit as step
 use Rattle.muf_model.specs.Unit.{Outcome, goes, ended, faulted, asks, stuck, unit, units, and_then, Settled, ready, crowded}
 use Rattle.muf_model.specs.Chains.{callers_of, programs_of, count, taken, StandsAt, Keeps}
@@ -59,7 +59,7 @@ module _ (ps : List Program) where
   unwinds f k s (entering caller saved next end ∷ ms) e =
       unwinds f (suc k) (record s { variables = saved; program = caller }) ms (drop_one k s.program ps _ e)
 
-  faults : (f : MufFault) (s : Source) → programs_of s ≡ ps → Holds ps (step.fault f s)
+  faults : (f : MufFault) (s : Source) → programs_of s ≡ ps → Holds ps (step.fault_met f s)
   faults f s e = either (is_final f) (faulted f) (step.unwind f 0 s s.marks) broken (unwinds f 0 s s.marks e)
 
   leaves_word : (s : Source) (ms : List Mark) → s.program ∷ callers_of ms ≡ ps → Holds ps (step.leave_word s ms)
@@ -76,21 +76,21 @@ module _ (ps : List Program) where
   leaves_loop s (calling saved next end ∷ ms) e = lost
   leaves_loop s (entering caller saved next end ∷ ms) e = lost
 
-  turns : (s : Source) (ms : List Mark) → s.program ∷ callers_of ms ≡ ps → Holds ps (step.next_turn s ms)
+  turns : (s : Source) (ms : List Mark) → s.program ∷ callers_of ms ≡ ps → Holds ps (step.next_round s ms)
   turns s [] e = lost
   turns s (looping t round c last next end ∷ ms) e = on e
   turns s (trying locked next end ∷ ms) e = turns s ms e
   turns s (calling saved next end ∷ ms) e = lost
   turns s (entering caller saved next end ∷ ms) e = lost
 
-  tests_of : (stack : List Datum) (s : Source) (f g : Source → Outcome) → programs_of s ≡ ps → ((rest : List Datum) → Holds ps (f (record s { stack = rest }))) → ((rest : List Datum) → Holds ps (g (record s { stack = rest }))) → Holds ps (step.tested stack s f g)
+  tests_of : (stack : List Datum) (s : Source) (f g : Source → Outcome) → programs_of s ≡ ps → ((rest : List Datum) → Holds ps (f (record s { stack = rest }))) → ((rest : List Datum) → Holds ps (g (record s { stack = rest }))) → Holds ps (step.item_tested stack s f g)
   tests_of [] s f g e h k = faults StackEmpty s e
   tests_of (x ∷ rest) s f g e h k = either _ _ _ (h rest) (k rest)
 
   tests : (s : Source) (f g : Source → Outcome) → programs_of s ≡ ps → ((rest : List Datum) → Holds ps (f (record s { stack = rest }))) → ((rest : List Datum) → Holds ps (g (record s { stack = rest }))) → Holds ps (step.test s f g)
   tests s f g e h k = either _ _ _ (faults (too_few 1 s.stack) s e) (tests_of s.stack s f g e h k)
 
-  calls_word : (d : Option Definition) (s : Source) → programs_of s ≡ ps → Holds ps (step.call d s)
+  calls_word : (d : Option Definition) (s : Source) → programs_of s ≡ ps → Holds ps (step.word_call d s)
   calls_word None s e = faults BadAddress s e
   calls_word (Some d) s e = either _ _ _ (on e) (faults CallsFull s e)
 
@@ -100,21 +100,21 @@ module _ (ps : List Program) where
 
   keeps_variable : (v : ℕ) (x : Datum) (s : Source) → programs_of s ≡ ps → Within ps (with_variable v x s)
   keeps_variable v x s e =
-      chooses (nat_lt v owned_first) (record s { common = slice_set s.common v x }) _ (within e) (chooses (nat_lt v call_first) (record s { owned = with_owned s.program.number (slice_set (owned_by s.program.number s.owned) (v - owned_first) x) s.owned }) (record s { variables = slice_set s.variables (v - call_first) x }) (within e) (within e))
+      chooses (nat_lt v owned_first) (record s { common = slice_set s.common v x }) _ (within e) (chooses (nat_lt v call_first) (record s { owned = with_owned s.program.number (slice_set (variables_owned_by s.program.number s.owned) (v - owned_first) x) s.owned }) (record s { variables = slice_set s.variables (v - call_first) x }) (within e) (within e))
 
-  answers : (a : Answer) (s : Source) → programs_of s ≡ ps → Holds ps (step.answered a s)
+  answers : (a : Answer) (s : Source) → programs_of s ≡ ps → Holds ps (step.primitive_answered a s)
   answers (gives stack) s e = on e
   answers (stores v x stack) s e = on (within_of ps _ (keeps_variable v x (record s { stack = stack }) e))
   answers (calls w stack) s e = calls_word _ (record s { stack = stack }) e
   answers (refuses f) s e = faults f s e
 
-  opens : (before after : Source) → programs_of before ≡ ps → programs_of after ≡ ps → Holds ps (step.opening before after)
+  opens : (before after : Source) → programs_of before ≡ ps → programs_of after ≡ ps → Holds ps (step.construct_opening before after)
   opens before after e d = either _ _ _ (on d) (faults CallsFull before e)
 
   index_tests : (s : Source) (ms : List Mark) → s.program ∷ callers_of ms ≡ ps → Holds ps (step.index_test s ms)
   index_tests s [] e = lost
   index_tests s (looping plain round c last next end ∷ ms) e = lost
-  index_tests s (looping (indices (Some i) to by) round c last next end ∷ ms) e = either (step.has_turn i to by) (step.answered (fitting (int i ∷ s.stack)) (record s { marks = looping (indices (step.next_index i by) to by) round c last next end ∷ ms })) (goes 0 (record s { now = next; end = end; marks = ms })) (answers (fitting (int i ∷ s.stack)) (record s { marks = looping (indices (step.next_index i by) to by) round c last next end ∷ ms }) e) (on e)
+  index_tests s (looping (indices (Some i) to by) round c last next end ∷ ms) e = either (step.has_turn i to by) (step.primitive_answered (stack_fitting (int i ∷ s.stack)) (record s { marks = looping (indices (step.next_index i by) to by) round c last next end ∷ ms })) (goes 0 (record s { now = next; end = end; marks = ms })) (answers (stack_fitting (int i ∷ s.stack)) (record s { marks = looping (indices (step.next_index i by) to by) round c last next end ∷ ms }) e) (on e)
   index_tests s (looping (indices None to by) round c last next end ∷ ms) e = on e
   index_tests s (looping (pairs left) round c last next end ∷ ms) e = lost
   index_tests s (trying locked next end ∷ ms) e = lost
@@ -127,28 +127,28 @@ module _ (ps : List Program) where
   pair_tests s (looping (indices i to by) round c last next end ∷ ms) e = lost
   pair_tests s (looping (pairs []) round c last next end ∷ ms) e = on e
   pair_tests s (looping (pairs ((k, x) ∷ left)) round c last next end ∷ ms) e =
-      answers (fitting (x ∷ k ∷ s.stack)) (record s { marks = looping (pairs left) round c last next end ∷ ms }) e
+      answers (stack_fitting (x ∷ k ∷ s.stack)) (record s { marks = looping (pairs left) round c last next end ∷ ms }) e
   pair_tests s (trying locked next end ∷ ms) e = lost
   pair_tests s (calling saved next end ∷ ms) e = lost
   pair_tests s (entering caller saved next end ∷ ms) e = lost
 
   -- a primitive that isn't local is asked for
-  uses_shared : (p : Name) (line : ℕ) (next : Block) (s : Source) → s.now ≡ word line (Primitive p) next → programs_of s ≡ ps → (b : Bool) → is_local p ≡ b → Holds ps (cond b (step.answered (primitive p (scope_of (record s { now = next })) s.stack) (record s { now = next })) (asks p s))
+  uses_shared : (p : Name) (line : ℕ) (next : Block) (s : Source) → s.now ≡ word line (Primitive p) next → programs_of s ≡ ps → (b : Bool) → is_local p ≡ b → Holds ps (cond b (step.primitive_answered (primitive p (scope_of (record s { now = next })) s.stack) (record s { now = next })) (asks p s))
   uses_shared p line next s at e true l =
       answers (primitive p (scope_of (record s { now = next })) s.stack) (record s { now = next }) e
   uses_shared p line next s at e false l =
-      asking e (record { line = line; next = next; at = at; asked = ap (λ b. step.act (step.settle_at b s)) at ∙ ap (λ b. step.act_at b s) at ∙ ap (λ b. cond b (step.answered (primitive p (scope_of (record s { now = next })) s.stack) (record s { now = next })) (asks p s)) l })
+      asking e (record { line = line; next = next; at = at; asked = ap (λ b. step.act (step.settle_at b s)) at ∙ ap (λ b. step.act_at b s) at ∙ ap (λ b. cond b (step.primitive_answered (primitive p (scope_of (record s { now = next })) s.stack) (record s { now = next })) (asks p s)) l })
 
   words : (w : Word) (line : ℕ) (next : Block) (s : Source) → s.now ≡ word line w next → programs_of s ≡ ps → Holds ps (step.word_unit w s (record s { now = next }))
-  words (Literal l) line next s at e = answers (fitting (step.constant l ∷ s.stack)) (record s { now = next }) e
-  words (Variable v) line next s at e = answers (fitting (variable v.0 ∷ s.stack)) (record s { now = next }) e
-  words (Address w) line next s at e = answers (fitting (address s.program.number w ∷ s.stack)) (record s { now = next }) e
+  words (Literal l) line next s at e = answers (stack_fitting (step.constant l ∷ s.stack)) (record s { now = next }) e
+  words (Variable v) line next s at e = answers (stack_fitting (variable v.0 ∷ s.stack)) (record s { now = next }) e
+  words (Address w) line next s at e = answers (stack_fitting (address s.program.number w ∷ s.stack)) (record s { now = next }) e
   words (Primitive p) line next s at e = uses_shared p line next s at e (is_local p) refl
   words (Call w) line next s at e = calls_word (slice_get s.program.tree.words w) (record s { now = next }) e
   words (Bind n) line next s at e =
-      either (nat_lt (length s.stack) (locked_of s.marks + n)) (step.fault (too_few n s.stack) (record s { now = next })) (goes 0 (record s { now = next; stack = drop n s.stack; variables = reverse (take n s.stack) ++ drop n s.variables })) (faults (too_few n s.stack) (record s { now = next }) e) (on e)
+      either (nat_lt (length s.stack) (locked_of s.marks + n)) (step.fault_met (too_few n s.stack) (record s { now = next })) (goes 0 (record s { now = next; stack = drop n s.stack; variables = reverse (take n s.stack) ++ drop n s.variables })) (faults (too_few n s.stack) (record s { now = next }) e) (on e)
   words (Store v) line next s at e =
-      answers (needing 1 (locked_of s.marks) s.stack (step.kept v.0 s.stack (record s { now = next }))) (record s { now = next }) e
+      answers (needing 1 (locked_of s.marks) s.stack (step.top_kept v.0 s.stack (record s { now = next }))) (record s { now = next }) e
   words Exit line next s at e = leaves_word (record s { now = next }) s.marks e
   words Break line next s at e = leaves_loop (record s { now = next }) s.marks e
   words Continue line next s at e = turns (record s { now = next }) s.marks e
@@ -161,7 +161,7 @@ module _ (ps : List Program) where
   closers Semicolon s e = leaves_word s s.marks e
   closers Repeat s e = turns s s.marks e
   closers Until s e =
-      tests s (λ t. step.leave_loop t t.marks) (λ t. step.next_turn t t.marks) e (λ rest. leaves_loop (record s { stack = rest }) s.marks e) (λ rest. turns (record s { stack = rest }) s.marks e)
+      tests s (λ t. step.leave_loop t t.marks) (λ t. step.next_round t t.marks) e (λ rest. leaves_loop (record s { stack = rest }) s.marks e) (λ rest. turns (record s { stack = rest }) s.marks e)
 
   ends_try : (s : Source) (ms : List Mark) → s.program ∷ callers_of ms ≡ ps → Holds ps (step.end_try s ms)
   ends_try s [] e = lost
@@ -170,15 +170,15 @@ module _ (ps : List Program) where
   ends_try s (calling saved next end ∷ ms) e = lost
   ends_try s (entering caller saved next end ∷ ms) e = lost
 
-  ends : (end : End) (s : Source) → programs_of s ≡ ps → Holds ps (step.end_unit end s)
+  ends : (end : BlockEnd) (s : Source) → programs_of s ≡ ps → Holds ps (step.end_unit end s)
   ends (closes c line) s e = closers c s e
   ends (hops if_word line next end) s e = on e
   ends (hops try_word line next end) s e = ends_try (record s { now = next; end = end }) s.marks e
 
-  tries : (stack : List Datum) (s : Source) (block : Block) (end : End) (handler : Block) → programs_of s ≡ ps → Holds ps (step.try_count stack s block end handler)
+  tries : (stack : List Datum) (s : Source) (block : Block) (end : BlockEnd) (handler : Block) → programs_of s ≡ ps → Holds ps (step.try_count stack s block end handler)
   tries [] s block end handler e = faults BadType s e
   tries (int (pos n) ∷ rest) s block end handler e =
-      either (nat_lt (length s.stack) (locked_of s.marks + (n + 1))) (step.fault (too_few (n + 1) s.stack) s) (step.opening s (record s { stack = rest; now = block; end = end; marks = trying (length rest - n) handler s.end ∷ s.marks })) (faults (too_few (n + 1) s.stack) s e) (opens s (record s { stack = rest; now = block; end = end; marks = trying (length rest - n) handler s.end ∷ s.marks }) e e)
+      either (nat_lt (length s.stack) (locked_of s.marks + (n + 1))) (step.fault_met (too_few (n + 1) s.stack) s) (step.construct_opening s (record s { stack = rest; now = block; end = end; marks = trying (length rest - n) handler s.end ∷ s.marks })) (faults (too_few (n + 1) s.stack) s e) (opens s (record s { stack = rest; now = block; end = end; marks = trying (length rest - n) handler s.end ∷ s.marks }) e e)
   tries (int (negsuc n) ∷ rest) s block end handler e = faults BadArgument s e
   tries (text t ∷ rest) s block end handler e = faults BadType s e
   tries (object d ∷ rest) s block end handler e = faults BadType s e
@@ -193,7 +193,7 @@ module _ (ps : List Program) where
   forks if_word a mid b s e =
       tests s (λ t. goes 0 (record t { now = a; end = hops if_word mid t.now t.end })) (λ t. goes 0 (record t { now = then_block b t.now })) e (λ rest. on e) (λ rest. on e)
   forks try_word a mid b s e =
-      either (nat_lt (length s.stack) (locked_of s.marks + 1)) (step.fault (too_few 1 s.stack) s) (step.try_count s.stack s a (hops try_word mid s.now s.end) (then_block b s.now)) (faults (too_few 1 s.stack) s e) (tries s.stack s a (hops try_word mid s.now s.end) (then_block b s.now) e)
+      either (nat_lt (length s.stack) (locked_of s.marks + 1)) (step.fault_met (too_few 1 s.stack) s) (step.try_count s.stack s a (hops try_word mid s.now s.end) (then_block b s.now)) (faults (too_few 1 s.stack) s e) (tries s.stack s a (hops try_word mid s.now s.end) (then_block b s.now) e)
 
   fors : (stack : List Datum) (s : Source) (body : Block) (c : Closer) (last : ℕ) → programs_of s ≡ ps → Holds ps (step.for_count stack s body c last)
   fors (int by ∷ int to ∷ int from ∷ rest) s body c last e =
@@ -201,16 +201,16 @@ module _ (ps : List Program) where
   fors _ s body c last e = faults BadType s e
 
   eaches : (stack : List Datum) (s : Source) (body : Block) (c : Closer) (last : ℕ) → programs_of s ≡ ps → Holds ps (step.each_count stack s body c last)
-  eaches (items ds ∷ rest) s body c last e = opens s (step.turning (pairs (step.numbered 0 ds)) rest body c last s) e e
+  eaches (items ds ∷ rest) s body c last e = opens s (step.turning (pairs (step.values_numbered 0 ds)) rest body c last s) e e
   eaches (dict qs ∷ rest) s body c last e = opens s (step.turning (pairs (step.keyed qs)) rest body c last s) e e
   eaches _ s body c last e = faults BadType s e
 
   rings : (k : Ring) (body : Block) (c : Closer) (last : ℕ) (s : Source) → programs_of s ≡ ps → Holds ps (step.ring_unit k body c last s)
   rings begin_word body c last s e = lost
   rings for_word body c last s e =
-      either (nat_lt (length s.stack) (locked_of s.marks + 3)) (step.fault (too_few 3 s.stack) s) (step.for_count s.stack s body c last) (faults (too_few 3 s.stack) s e) (fors s.stack s body c last e)
+      either (nat_lt (length s.stack) (locked_of s.marks + 3)) (step.fault_met (too_few 3 s.stack) s) (step.for_count s.stack s body c last) (faults (too_few 3 s.stack) s e) (fors s.stack s body c last e)
   rings each_word body c last s e =
-      either (nat_lt (length s.stack) (locked_of s.marks + 1)) (step.fault (too_few 1 s.stack) s) (step.each_count s.stack s body c last) (faults (too_few 1 s.stack) s e) (eaches s.stack s body c last e)
+      either (nat_lt (length s.stack) (locked_of s.marks + 1)) (step.fault_met (too_few 1 s.stack) s) (step.each_count s.stack s body c last) (faults (too_few 1 s.stack) s e) (eaches s.stack s body c last e)
 
   acts : (now : Block) (s : Source) → s.now ≡ now → programs_of s ≡ ps → Holds ps (step.act_at now s)
   acts stop s at e = ends s.end s e
@@ -248,8 +248,8 @@ unit_keeps s =
     holds (programs_of s) (unit s) (settled_acts (programs_of s) (step.settle s) (settles (programs_of s) s.now s refl))
 
 -- and so does a fault
-pub fault_keeps : (f : MufFault) (s : Source) → Keeps (programs_of s) (step.fault f s)
-fault_keeps f s = holds (programs_of s) (step.fault f s) (faults (programs_of s) f s refl)
+pub fault_keeps : (f : MufFault) (s : Source) → Keeps (programs_of s) (step.fault_met f s)
+fault_keeps f s = holds (programs_of s) (step.fault_met f s) (faults (programs_of s) f s refl)
 
 -- many units leave as many programs as they say, too
 then_keeps : (ps : List Program) (m : ℕ) (o : Outcome) → ((t : Source) → programs_of t ≡ ps → Keeps ps (units m t)) → Keeps ps o → Keeps ps (and_then o (units m))

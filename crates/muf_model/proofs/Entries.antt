@@ -1,15 +1,16 @@
 -- Keys and entries of dictionaries, and what putting an entry does.
-use Rattle.std.proofs.Common.{◌≡◌, ◌≤◌, ℕ, zero, suc, Bool, true, false, List, [], ◌∷◌, Some, None, if◌then◌else◌, refl, ap, sym, subst, ◌∙◌, rules, map, insert, bytes_eq, int_lt, slice_get, slice_set, length, arith}
-use Rattle.std.specs.Prelude.{ℤ}
+use Rattle.std.proofs.Common.{◌≡◌, ◌≤◌, ℕ, suc, Bool, true, false, List, [], ◌∷◌, Some, None, if◌then◌else◌, refl, ap, sym, subst, ◌∙◌, rules, map, insert, bytes_eq, int_lt, slice_get, slice_set, length, arith}
 use Rattle.std.specs.declared.cmp.Ordering.{Ordering}
 use Rattle.std.specs.declared.cmp.Ordering.TheVariants.{Less, Equal, Greater}
-use Rattle.std.specs.Ordering.{is_lt, is_eq, int_eq, nat_cmp, ordering_reverse}
+use Rattle.std.specs.Ordering.{is_lt, is_eq, nat_cmp, ordering_reverse}
 use Rattle.std.specs.Cmp.Lexicographic.{slice_cmp}
 use Rattle.std.proofs.lemmas.Cmp.{nat_list_cmp_total}
 use Rattle.std.proofs.lemmas.Map.Text.{is_eq-slice_cmp}
 use Rattle.std.proofs.lemmas.Bool.Decides.{Decides-int_eq}
 use Rattle.std.proofs.lemmas.Slice.Eq.{bytes_eq-Decides}
 use Rattle.std.proofs.lemmas.List.{map-set}
+use Rattle.muck_laws.proofs.Numbers.{number_above, place_at_most}
+use Rattle.muck_laws.proofs.Places.{map_insert}
 use Rattle.muf_model.specs.declared.value.MapKey.{MapKey}
 use Rattle.muf_model.specs.declared.value.MapKey.TheVariants.{Number, Name}
 use Rattle.muf_model.specs.declared.value.Pair.{Pair}
@@ -17,7 +18,7 @@ use Rattle.muf_model.specs.declared.value.Value.{Value}
 use Rattle.muf_model.specs.Datum.{Datum}
 use Rattle.muf_model.specs.inner.View.{view, pair_view}
 use Rattle.muf_model.specs.Measures.{key_below, text_below}
-use Rattle.muf_model.specs.Entries.{key_same, entry_of, with_entry, entry_place, has_key, IsAhead, Rising}
+use Rattle.muf_model.specs.Entries.{key_same, value_of_key, with_entry, entry_place, has_key, IsAhead, Rising}
 
 pub same_is : (k l : MapKey) → key_same k l ≡ true → k ≡ l
 same_is (Number m) (Number n) e = ap Number ((Decides-int_eq m n).0 e)
@@ -28,11 +29,6 @@ same_is (Name s) (Name t) e = ap Name ((bytes_eq-Decides s t).0 e)
 same_itself : (k : MapKey) → key_same k k ≡ true
 same_itself (Number n) = (Decides-int_eq n n).1 refl
 same_itself (Name t) = (bytes_eq-Decides t t).1 refl
-
-number_above : (m n : ℤ) (b c : Bool) → int_lt m n ≡ b → int_lt n m ≡ c → int_eq m n ≡ false → b ≡ false → c ≡ true
-number_above m n true c e f h l = search (rules, l)
-number_above m n false true e f h l = refl
-number_above m n false false e f h l = search (rules, e, f, h)
 
 text_above : (s t : List ℕ) (o : Ordering) → slice_cmp nat_cmp s t ≡ o → bytes_eq s t ≡ false → is_lt o ≡ false → text_below t s ≡ true
 text_above s t Less e h l = search (rules, l)
@@ -46,29 +42,29 @@ above (Number m) (Name t) h l = search (rules, l)
 above (Name s) (Number n) h l = refl
 above (Name s) (Name t) h l = text_above s t (slice_cmp nat_cmp s t) refl h l
 
-found_first : (k : MapKey) (x : Datum) (es : List (MapKey × Datum)) (b : Bool) → b ≡ true → (if b then Some x else entry_of k es) ≡ Some x
+found_first : (k : MapKey) (x : Datum) (es : List (MapKey × Datum)) (b : Bool) → b ≡ true → (if b then Some x else value_of_key k es) ≡ Some x
 found_first k x es true e = refl
 found_first k x es false e = search (rules, e)
 
-found_cases : (k l : MapKey) (x y : Datum) (es : List (MapKey × Datum)) (b c : Bool) → key_same k l ≡ b → entry_of k (with_entry k x es) ≡ Some x → entry_of k (if b then (k, x) ∷ es else (if c then (k, x) ∷ (l, y) ∷ es else (l, y) ∷ with_entry k x es)) ≡ Some x
+found_cases : (k l : MapKey) (x y : Datum) (es : List (MapKey × Datum)) (b c : Bool) → key_same k l ≡ b → value_of_key k (with_entry k x es) ≡ Some x → value_of_key k (if b then (k, x) ∷ es else (if c then (k, x) ∷ (l, y) ∷ es else (l, y) ∷ with_entry k x es)) ≡ Some x
 found_cases k l x y es true c e h = found_first k x es (key_same k k) (same_itself k)
 found_cases k l x y es false true e h = found_first k x ((l, y) ∷ es) (key_same k k) (same_itself k)
-found_cases k l x y es false false e h = ap (λ b. if b then Some y else entry_of k (with_entry k x es)) e ∙ h
+found_cases k l x y es false false e h = ap (λ b. if b then Some y else value_of_key k (with_entry k x es)) e ∙ h
 
 -- the key that was put has the value
-pub found : (k : MapKey) (x : Datum) (es : List (MapKey × Datum)) → entry_of k (with_entry k x es) ≡ Some x
+pub found : (k : MapKey) (x : Datum) (es : List (MapKey × Datum)) → value_of_key k (with_entry k x es) ≡ Some x
 found k x [] = found_first k x [] (key_same k k) (same_itself k)
 found k x ((l, y) ∷ es) = found_cases k l x y es (key_same k l) (key_below k l) refl (found k x es)
 
-others_cases : (m k l : MapKey) (x y : Datum) (es : List (MapKey × Datum)) (b c : Bool) → key_same k l ≡ b → key_same m k ≡ false → entry_of m (with_entry k x es) ≡ entry_of m es → entry_of m (if b then (k, x) ∷ es else (if c then (k, x) ∷ (l, y) ∷ es else (l, y) ∷ with_entry k x es)) ≡ entry_of m ((l, y) ∷ es)
+others_cases : (m k l : MapKey) (x y : Datum) (es : List (MapKey × Datum)) (b c : Bool) → key_same k l ≡ b → key_same m k ≡ false → value_of_key m (with_entry k x es) ≡ value_of_key m es → value_of_key m (if b then (k, x) ∷ es else (if c then (k, x) ∷ (l, y) ∷ es else (l, y) ∷ with_entry k x es)) ≡ value_of_key m ((l, y) ∷ es)
 others_cases m k l x y es true c e h i =
-    ap (λ b. if b then Some x else entry_of m es) h
-    ∙ sym (ap (λ b. if b then Some y else entry_of m es) (ap (key_same m) (sym (same_is k l e)) ∙ h))
-others_cases m k l x y es false true e h i = ap (λ b. if b then Some x else entry_of m ((l, y) ∷ es)) h
+    ap (λ b. if b then Some x else value_of_key m es) h
+    ∙ sym (ap (λ b. if b then Some y else value_of_key m es) (ap (key_same m) (sym (same_is k l e)) ∙ h))
+others_cases m k l x y es false true e h i = ap (λ b. if b then Some x else value_of_key m ((l, y) ∷ es)) h
 others_cases m k l x y es false false e h i = ap (λ r. if key_same m l then Some y else r) i
 
 -- and each other key what it had
-pub others : (m k : MapKey) (x : Datum) (es : List (MapKey × Datum)) → key_same m k ≡ false → entry_of m (with_entry k x es) ≡ entry_of m es
+pub others : (m k : MapKey) (x : Datum) (es : List (MapKey × Datum)) → key_same m k ≡ false → value_of_key m (with_entry k x es) ≡ value_of_key m es
 others m k x [] h = ap (λ b. if b then Some x else None) h
 others m k x ((l, y) ∷ es) h = others_cases m k l x y es (key_same k l) (key_below k l) refl h (others m k x es h)
 
@@ -111,11 +107,6 @@ pub inserted : (k : MapKey) (x : Datum) (es : List (MapKey × Datum)) → has_ke
 inserted k x [] n = refl
 inserted k x ((m, z) ∷ es) n = insert_cases k m x z es (key_same k m) (key_below k m) refl (inserted k x es) n
 
-pub map_insert : {A B : Type 0} → (f : A → B) (xs : List A) (i : ℕ) (x : A) → map f (insert xs i x) ≡ insert (map f xs) i (f x)
-map_insert f xs zero x = refl
-map_insert f [] (suc i) x = refl
-map_insert f (y ∷ xs) (suc i) x = ap (λ r. f y ∷ r) (map_insert f xs i x)
-
 -- the same of pairs
 pub put_there : (ps : List Pair) (i : ℕ) (k : MapKey) (v : Value) (q : Pair) → pair_view q ≡ (k, view v) → i ≡ entry_place k (map pair_view ps) → has_key k (slice_get (map pair_view ps) i) ≡ true → map pair_view (slice_set ps i q) ≡ with_entry k (view v) (map pair_view ps)
 put_there ps i k v q p e t =
@@ -131,11 +122,6 @@ put_new ps i k v q p e n =
     ∙ ap (λ j. insert (map pair_view ps) j (k, view v)) e
     ∙ inserted k (view v) (map pair_view ps) (ap (λ j. has_key k (slice_get (map pair_view ps) j)) (sym e) ∙ n)
 
-pub place_cases : (n m : ℕ) (b c : Bool) → n ≤ m → (if b then 0 else (if c then 0 else suc n)) ≤ suc m
-place_cases n m true c h = omega arith
-place_cases n m false true h = omega arith
-place_cases n m false false h = omega arith
-
 pub place_within : (k : MapKey) (es : List (MapKey × Datum)) → entry_place k es ≤ length es
 place_within k [] = omega arith
-place_within k ((l, x) ∷ es) = place_cases (entry_place k es) (length es) (key_same k l) (key_below k l) (place_within k es)
+place_within k ((l, x) ∷ es) = place_at_most (entry_place k es) (length es) (key_same k l) (key_below k l) (place_within k es)

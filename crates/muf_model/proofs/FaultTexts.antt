@@ -8,7 +8,7 @@ use Rattle.std.proofs.lemmas.Fmt.{decimal-digits_of, decimal_digit, length-decim
 use Rattle.std.proofs.lemmas.Int.Digits.{all_below_base_digits_of}
 use Rattle.muck_model.specs.Bytes.{is_outside, text_fault, text_most}
 use Rattle.muf_model.specs.declared.fault.MufFault.TheVariants.{Denied}
-use Rattle.muf_model.specs.Faults.{text_of}
+use Rattle.muf_model.specs.Faults.{fault_text}
 
 abbrev pub is_inside : ℕ → Bool
 is_inside b = not (is_outside b)
@@ -47,7 +47,7 @@ from_inside xs h le =
     let past : length xs ≤ position_or_len is_outside xs = omega (arith, h) in
     rw (le-ltb (position_or_len is_outside xs) (length xs) past, le-ltb text_most (length xs) le) refl
 
-pub denied_is_text : (rule : ℕ) → rule < 2 ^ 8 → text_fault (text_of (Denied rule)) ≡ None
+pub denied_is_text : (rule : ℕ) → rule < 2 ^ 8 → text_fault (fault_text (Denied rule)) ≡ None
 denied_is_text rule l =
-    from_inside (text_of (Denied rule)) (inside-append (codes "Permission denied (P") (decimal rule ++ codes ").") refl (inside-append (decimal rule) (codes ").") (inside-decimal rule (omega (arith, l))) refl))
+    from_inside (fault_text (Denied rule)) (inside-append (codes "Permission denied (P") (decimal rule ++ codes ").") refl (inside-append (decimal rule) (codes ").") (inside-decimal rule (omega (arith, l))) refl))
     (rw (length-append (codes "Permission denied (P") (decimal rule ++ codes ").")) (rw (length-append (decimal rule) (codes ").")) (omega (arith, length-decimal-le 3 rule (omega arith) (omega arith) (omega arith)))))

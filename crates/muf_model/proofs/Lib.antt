@@ -7,6 +7,5 @@ pub mod Sized
 pub mod Edited
 pub mod Truth
 pub mod Unique
-mod Naming
 pub mod Places
 pub mod Chains

@@ -11,12 +11,12 @@ use Rattle.muf_model.specs.declared.prims.Primitive.{Primitive as Name}
 use Rattle.muf_model.specs.Prims.{is_local}
 use Rattle.muf_model.specs.Faults.{is_final}
 use Rattle.muf_model.specs.Datum.{Datum, int, variable, address, items, dict}
-use Rattle.muf_model.specs.Answer.{Answer, gives, stores, calls, refuses, owned_first, call_first, too_few, needing, fitting}
+use Rattle.muf_model.specs.Answer.{Answer, gives, stores, calls, refuses, owned_first, call_first, too_few, needing, stack_fitting}
 use Rattle.muf_model.specs.Rows.{primitive}
-use Rattle.muf_model.specs.Tree.{Fork, if_word, try_word, begin_word, for_word, each_word, Block, stop, word, when, fork, ring, End, closes, hops, then_block, Definition}
+use Rattle.muf_model.specs.Tree.{Fork, if_word, try_word, begin_word, for_word, each_word, Block, stop, word, when, fork, ring, BlockEnd, closes, hops, then_block, Definition}
 use Rattle.muf_model.specs.inner.Nesting.{Place, outside, inside, counting, keying, turn_of, behind, IsFree, EndsTurn, NestedBlock, NestedWords, NestedTree}
 use Rattle.muf_model.specs.inner.Nested.{ring_of, place_in, turn_in, NestedItems, NestedEnd, NestedMarks, Nested, StaysNested}
-use Rattle.muf_model.specs.Source.{Turns, plain, indices, pairs, Program, Mark, looping, trying, calling, entering, Source, locked_of, calls_of, with_variable, with_owned, owned_by, scope_of, open_of, called, entered, started, passed, passed_at}
+use Rattle.muf_model.specs.Source.{Turns, plain, indices, pairs, Program, Mark, looping, trying, calling, entering, Source, locked_of, calls_running, with_variable, with_owned, variables_owned_by, scope_of, open_of, word_called, program_entered, started, item_passed, passed_at}
 use Rattle.muf_model.specs.Unit as step
 use Rattle.muf_model.specs.Unit.{Outcome, goes, ended, faulted, asks, stuck, unit, units, and_then, Settled, ready, crowded}
 
@@ -100,13 +100,13 @@ keys : (ms : List Mark) (X Y : Type 0) → ((place_in ms ≡ keying) × X) ⊎ (
 keys ms X Y (inl n) = absurd ((never_at (place_in ms) (place_free ms)).1 n.0)
 keys ms X Y (inr n) = n.0
 
-turn_end : (t : Turns) (round : Block) (c : Closer) (last : ℕ) (next : Block) (end : End) (ms : List Mark) → EndsTurn (ring_of t) c → NestedEnd (closes c last) (looping t round c last next end ∷ ms)
+turn_end : (t : Turns) (round : Block) (c : Closer) (last : ℕ) (next : Block) (end : BlockEnd) (ms : List Mark) → EndsTurn (ring_of t) c → NestedEnd (closes c last) (looping t round c last next end ∷ ms)
 turn_end t round Semicolon last next end ms h = absurd h
 turn_end t round Repeat last next end ms h = refl
 turn_end t round Until last next end ms h = refl
 
 -- what ends the items doesn't ask what their loop counts
-end_turns : (at : End) (t u : Turns) (round : Block) (c : Closer) (last : ℕ) (next : Block) (end : End) (ms : List Mark) → NestedEnd at (looping t round c last next end ∷ ms) → NestedEnd at (looping u round c last next end ∷ ms)
+end_turns : (at : BlockEnd) (t u : Turns) (round : Block) (c : Closer) (last : ℕ) (next : Block) (end : BlockEnd) (ms : List Mark) → NestedEnd at (looping t round c last next end ∷ ms) → NestedEnd at (looping u round c last next end ∷ ms)
 end_turns (closes Semicolon line) t u round c last next end ms h = h
 end_turns (closes Repeat line) t u round c last next end ms h = h
 end_turns (closes Until line) t u round c last next end ms h = h
@@ -154,7 +154,7 @@ unwinds f k s (calling saved next end ∷ ms) t m = unwinds f k (record s { vari
 unwinds f k s (entering caller saved next end ∷ ms) t m =
     unwinds f (suc k) (record s { variables = saved; program = caller }) ms m.0 m.3
 
-faults : (f : MufFault) (s : Source) → NestedTree s.program.tree → NestedMarks s.marks → StaysNested (step.fault f s)
+faults : (f : MufFault) (s : Source) → NestedTree s.program.tree → NestedMarks s.marks → StaysNested (step.fault_met f s)
 faults f s t m = either (is_final f) (faulted f) (step.unwind f 0 s s.marks) tt (unwinds f 0 s s.marks t m)
 
 leaves_word : (s : Source) (ms : List Mark) → NestedTree s.program.tree → NestedMarks ms → StaysNested (step.leave_word s ms)
@@ -171,7 +171,7 @@ leaves_loop s (trying locked next end ∷ ms) e t m = leaves_loop s ms e t m.2
 leaves_loop s (calling saved next end ∷ ms) e t m = absurd cc
 leaves_loop s (entering caller saved next end ∷ ms) e t m = absurd cc
 
-turns : (s : Source) (ms : List Mark) → place_in ms ≡ inside → NestedTree s.program.tree → NestedMarks ms → StaysNested (step.next_turn s ms)
+turns : (s : Source) (ms : List Mark) → place_in ms ≡ inside → NestedTree s.program.tree → NestedMarks ms → StaysNested (step.next_round s ms)
 turns s [] e t m = absurd cc
 turns s (looping u round c last next end ∷ ms) e t m =
     record { now = inr m.1; end = turn_end u round c last next end ms m.0; marks = m; tree = t }
@@ -179,28 +179,28 @@ turns s (trying locked next end ∷ ms) e t m = turns s ms e t m.2
 turns s (calling saved next end ∷ ms) e t m = absurd cc
 turns s (entering caller saved next end ∷ ms) e t m = absurd cc
 
-tests_of : (stack : List Datum) (s : Source) (f g : Source → Outcome) → NestedTree s.program.tree → NestedMarks s.marks → ((rest : List Datum) → StaysNested (f (record s { stack = rest }))) → ((rest : List Datum) → StaysNested (g (record s { stack = rest }))) → StaysNested (step.tested stack s f g)
+tests_of : (stack : List Datum) (s : Source) (f g : Source → Outcome) → NestedTree s.program.tree → NestedMarks s.marks → ((rest : List Datum) → StaysNested (f (record s { stack = rest }))) → ((rest : List Datum) → StaysNested (g (record s { stack = rest }))) → StaysNested (step.item_tested stack s f g)
 tests_of [] s f g t m h k = faults StackEmpty s t m
 tests_of (x ∷ rest) s f g t m h k = either _ (f (record s { stack = rest })) (g (record s { stack = rest })) (h rest) (k rest)
 
 tests : (s : Source) (f g : Source → Outcome) → NestedTree s.program.tree → NestedMarks s.marks → ((rest : List Datum) → StaysNested (f (record s { stack = rest }))) → ((rest : List Datum) → StaysNested (g (record s { stack = rest }))) → StaysNested (step.test s f g)
 tests s f g t m h k =
-    either (nat_lt (length s.stack) (locked_of s.marks + 1)) (step.fault (too_few 1 s.stack) s) (step.tested s.stack s f g) (faults (too_few 1 s.stack) s t m) (tests_of s.stack s f g t m h k)
+    either (nat_lt (length s.stack) (locked_of s.marks + 1)) (step.fault_met (too_few 1 s.stack) s) (step.item_tested s.stack s f g) (faults (too_few 1 s.stack) s t m) (tests_of s.stack s f g t m h k)
 
 -- a word is called from behind the item that calls it
-called_nested : (d : Definition) (s : Source) → NestedBlock outside d.body → Nested s → Nested (called d s)
+called_nested : (d : Definition) (s : Source) → NestedBlock outside d.body → Nested s → Nested (word_called d s)
 called_nested d s n h = record { now = inl n; end = tt; marks = (h.now, h.end, h.marks); tree = h.tree }
 
-pub entered_nested : (p : Program) (d : Definition) (s : Source) → NestedTree p.tree → NestedBlock outside d.body → Nested s → Nested (entered p d s)
+pub entered_nested : (p : Program) (d : Definition) (s : Source) → NestedTree p.tree → NestedBlock outside d.body → Nested s → Nested (program_entered p d s)
 entered_nested p d s t n h = record { now = inl n; end = tt; marks = (h.tree, h.now, h.end, h.marks); tree = t }
 
 pub started_nested : (p : Program) (d : Definition) (common : List Datum) (argument : List ℕ) → NestedTree p.tree → NestedBlock outside d.body → Nested (started p d common argument)
 started_nested p d common argument t n = record { now = inl n; end = tt; marks = tt; tree = t }
 
-calls_word : (ds : List Definition) (w : ℕ) (s : Source) → NestedWords ds → Nested s → StaysNested (step.call (slice_get ds w) s)
+calls_word : (ds : List Definition) (w : ℕ) (s : Source) → NestedWords ds → Nested s → StaysNested (step.word_call (slice_get ds w) s)
 calls_word [] w s n h = faults BadAddress s h.tree h.marks
 calls_word (d ∷ ds) zero s n h =
-    either (nat_lt (calls_of s.marks) step.calls_most) (goes 0 (called d s)) (step.fault CallsFull s) (called_nested d s n.0 h) (faults CallsFull s h.tree h.marks)
+    either (nat_lt (calls_running s.marks) step.calls_most) (goes 0 (word_called d s)) (step.fault_met CallsFull s) (called_nested d s n.0 h) (faults CallsFull s h.tree h.marks)
 calls_word (d ∷ ds) (suc w) s n h = calls_word ds w s n.1 h
 
 chooses : (b : Bool) (s t : Source) → Nested s → Nested t → Nested (cond b s t)
@@ -212,24 +212,24 @@ stacked stack s h = record { now = h.now; end = h.end; marks = h.marks; tree = h
 
 keeps_variable : (v : ℕ) (x : Datum) (s : Source) → Nested s → Nested (with_variable v x s)
 keeps_variable v x s h =
-    chooses (nat_lt v owned_first) (record s { common = slice_set s.common v x }) _ (record { now = h.now; end = h.end; marks = h.marks; tree = h.tree }) (chooses (nat_lt v call_first) (record s { owned = with_owned s.program.number (slice_set (owned_by s.program.number s.owned) (v - owned_first) x) s.owned }) (record s { variables = slice_set s.variables (v - call_first) x }) (record { now = h.now; end = h.end; marks = h.marks; tree = h.tree }) (record { now = h.now; end = h.end; marks = h.marks; tree = h.tree }))
+    chooses (nat_lt v owned_first) (record s { common = slice_set s.common v x }) _ (record { now = h.now; end = h.end; marks = h.marks; tree = h.tree }) (chooses (nat_lt v call_first) (record s { owned = with_owned s.program.number (slice_set (variables_owned_by s.program.number s.owned) (v - owned_first) x) s.owned }) (record s { variables = slice_set s.variables (v - call_first) x }) (record { now = h.now; end = h.end; marks = h.marks; tree = h.tree }) (record { now = h.now; end = h.end; marks = h.marks; tree = h.tree }))
 
-answers : (a : Answer) (s : Source) → Nested s → StaysNested (step.answered a s)
+answers : (a : Answer) (s : Source) → Nested s → StaysNested (step.primitive_answered a s)
 answers (gives stack) s h = stacked stack s h
 answers (stores v x stack) s h = keeps_variable v x (record s { stack = stack }) (stacked stack s h)
 answers (calls w stack) s h = calls_word s.program.tree.words w (record s { stack = stack }) h.tree (stacked stack s h)
 answers (refuses f) s h = faults f s h.tree h.marks
 
-opens : (before after : Source) → Nested before → Nested after → StaysNested (step.opening before after)
+opens : (before after : Source) → Nested before → Nested after → StaysNested (step.construct_opening before after)
 opens before after h k =
-    either (nat_lt (open_of before.marks) step.open_most) (goes 0 after) (step.fault CallsFull before) k (faults CallsFull before h.tree h.marks)
+    either (nat_lt (open_of before.marks) step.open_most) (goes 0 after) (step.fault_met CallsFull before) k (faults CallsFull before h.tree h.marks)
 
 index_tests : (s : Source) (ms : List Mark) → turn_in ms ≡ counting → NestedBlock (place_in ms) s.now → NestedEnd s.end ms → NestedMarks ms → NestedTree s.program.tree → StaysNested (step.index_test s ms)
 index_tests s [] e n d m t = absurd cc
 index_tests s (looping plain round c last next end ∷ ms) e n d m t = absurd cc
 index_tests s (looping (indices (Some i) to by) round c last next end ∷ ms) e n d m t =
     let turned : Source = record s { marks = looping (indices (step.next_index i by) to by) round c last next end ∷ ms } in
-    either (step.has_turn i to by) (step.answered (fitting (int i ∷ s.stack)) turned) (goes 0 (record s { now = next; end = end; marks = ms })) (answers (fitting (int i ∷ s.stack)) turned (record { now = inl n; end = end_turns s.end (indices (Some i) to by) (indices (step.next_index i by) to by) round c last next end ms d; marks = m; tree = t })) (record { now = inl m.2; end = m.3; marks = m.4; tree = t })
+    either (step.has_turn i to by) (step.primitive_answered (stack_fitting (int i ∷ s.stack)) turned) (goes 0 (record s { now = next; end = end; marks = ms })) (answers (stack_fitting (int i ∷ s.stack)) turned (record { now = inl n; end = end_turns s.end (indices (Some i) to by) (indices (step.next_index i by) to by) round c last next end ms d; marks = m; tree = t })) (record { now = inl m.2; end = m.3; marks = m.4; tree = t })
 index_tests s (looping (indices None to by) round c last next end ∷ ms) e n d m t =
     record { now = inl m.2; end = m.3; marks = m.4; tree = t }
 index_tests s (looping (pairs left) round c last next end ∷ ms) e n d m t = absurd cc
@@ -244,27 +244,27 @@ pair_tests s (looping (indices i to by) round c last next end ∷ ms) e n d m t 
 pair_tests s (looping (pairs []) round c last next end ∷ ms) e n d m t =
     record { now = inl m.2; end = m.3; marks = m.4; tree = t }
 pair_tests s (looping (pairs ((k, x) ∷ left)) round c last next end ∷ ms) e n d m t =
-    answers (fitting (x ∷ k ∷ s.stack)) (record s { marks = looping (pairs left) round c last next end ∷ ms }) (record { now = inl n; end = end_turns s.end (pairs ((k, x) ∷ left)) (pairs left) round c last next end ms d; marks = m; tree = t })
+    answers (stack_fitting (x ∷ k ∷ s.stack)) (record s { marks = looping (pairs left) round c last next end ∷ ms }) (record { now = inl n; end = end_turns s.end (pairs ((k, x) ∷ left)) (pairs left) round c last next end ms d; marks = m; tree = t })
 pair_tests s (trying locked next end ∷ ms) e n d m t = absurd ((never_at (place_in ms) (place_free ms)).1 e)
 pair_tests s (calling saved next end ∷ ms) e n d m t = absurd cc
 pair_tests s (entering caller saved next end ∷ ms) e n d m t = absurd cc
 
 -- a primitive, from the state at it and the state behind it
-uses : (p : Name) (at s : Source) (b : Bool) → Nested at → Nested s → StaysNested (cond b (step.answered (primitive p (scope_of s) s.stack) s) (asks p at))
+uses : (p : Name) (at s : Source) (b : Bool) → Nested at → Nested s → StaysNested (cond b (step.primitive_answered (primitive p (scope_of s) s.stack) s) (asks p at))
 uses p at s true h k = answers (primitive p (scope_of s) s.stack) s k
 uses p at s false h k = h
 
 -- what a word does, from the state at it
 words : (w : Word) (line : ℕ) (next : Block) (at : Source) → Nested at → NestedItems (word line w next) at.marks → Rests (record at { now = next }) → StaysNested (step.word_unit w at (record at { now = next }))
-words (Literal l) line next at h n k = answers (fitting (step.constant l ∷ at.stack)) (record at { now = next }) (rested _ k)
-words (Variable v) line next at h n k = answers (fitting (variable v.0 ∷ at.stack)) (record at { now = next }) (rested _ k)
-words (Address w) line next at h n k = answers (fitting (address at.program.number w ∷ at.stack)) (record at { now = next }) (rested _ k)
+words (Literal l) line next at h n k = answers (stack_fitting (step.constant l ∷ at.stack)) (record at { now = next }) (rested _ k)
+words (Variable v) line next at h n k = answers (stack_fitting (variable v.0 ∷ at.stack)) (record at { now = next }) (rested _ k)
+words (Address w) line next at h n k = answers (stack_fitting (address at.program.number w ∷ at.stack)) (record at { now = next }) (rested _ k)
 words (Primitive p) line next at h n k = uses p at (record at { now = next }) (is_local p) h (rested _ k)
 words (Call w) line next at h n k = calls_word at.program.tree.words w (record at { now = next }) k.tree (rested _ k)
 words (Bind n) line next at h i k =
-    either (nat_lt (length at.stack) (locked_of at.marks + n)) (step.fault (too_few n at.stack) (record at { now = next })) (goes 0 (record at { now = next; stack = drop n at.stack; variables = reverse (take n at.stack) ++ drop n at.variables })) (faults (too_few n at.stack) (record at { now = next }) k.tree k.marks) (record { now = inl k.now; end = k.end; marks = k.marks; tree = k.tree })
+    either (nat_lt (length at.stack) (locked_of at.marks + n)) (step.fault_met (too_few n at.stack) (record at { now = next })) (goes 0 (record at { now = next; stack = drop n at.stack; variables = reverse (take n at.stack) ++ drop n at.variables })) (faults (too_few n at.stack) (record at { now = next }) k.tree k.marks) (record { now = inl k.now; end = k.end; marks = k.marks; tree = k.tree })
 words (Store v) line next at h n k =
-    answers (needing 1 (locked_of at.marks) at.stack (step.kept v.0 at.stack (record at { now = next }))) (record at { now = next }) (rested _ k)
+    answers (needing 1 (locked_of at.marks) at.stack (step.top_kept v.0 at.stack (record at { now = next }))) (record at { now = next }) (rested _ k)
 words Exit line next at h n k = leaves_word (record at { now = next }) at.marks k.tree k.marks
 words Break line next at h n k = leaves_loop (record at { now = next }) at.marks (in_loop at.marks _ _ n) k.tree k.marks
 words Continue line next at h n k = turns (record at { now = next }) at.marks (in_loop at.marks _ _ n) k.tree k.marks
@@ -279,16 +279,16 @@ closers : (c : Closer) (line : ℕ) (s : Source) → NestedEnd (closes c line) s
 closers Semicolon line s e t m = leaves_word s s.marks t m
 closers Repeat line s e t m = turns s s.marks (repeats_in_loop line s.marks e) t m
 closers Until line s e t m =
-    tests s (λ t. step.leave_loop t t.marks) (λ t. step.next_turn t t.marks) t m (λ rest. leaves_loop (record s { stack = rest }) s.marks (untils_in_loop line s.marks e) t m) (λ rest. turns (record s { stack = rest }) s.marks (untils_in_loop line s.marks e) t m)
+    tests s (λ t. step.leave_loop t t.marks) (λ t. step.next_round t t.marks) t m (λ rest. leaves_loop (record s { stack = rest }) s.marks (untils_in_loop line s.marks e) t m) (λ rest. turns (record s { stack = rest }) s.marks (untils_in_loop line s.marks e) t m)
 
-ends_try : (s : Source) (line : ℕ) (next : Block) (end : End) (ms : List Mark) → NestedEnd (hops try_word line next end) ms → NestedTree s.program.tree → NestedMarks ms → StaysNested (step.end_try (record s { now = next; end = end }) ms)
+ends_try : (s : Source) (line : ℕ) (next : Block) (end : BlockEnd) (ms : List Mark) → NestedEnd (hops try_word line next end) ms → NestedTree s.program.tree → NestedMarks ms → StaysNested (step.end_try (record s { now = next; end = end }) ms)
 ends_try s line next end [] e t m = absurd e
 ends_try s line next end (looping u round c last after back ∷ ms) e t m = absurd e
 ends_try s line next end (trying locked after back ∷ ms) e t m = record { now = inl e.0; end = e.1; marks = m.2; tree = t }
 ends_try s line next end (calling saved after back ∷ ms) e t m = absurd e
 ends_try s line next end (entering caller saved after back ∷ ms) e t m = absurd e
 
-ends : (end : End) (s : Source) → NestedEnd end s.marks → NestedTree s.program.tree → NestedMarks s.marks → StaysNested (step.end_unit end s)
+ends : (end : BlockEnd) (s : Source) → NestedEnd end s.marks → NestedTree s.program.tree → NestedMarks s.marks → StaysNested (step.end_unit end s)
 ends (closes c line) s e t m = closers c line s e t m
 ends (hops if_word line next end) s e t m = record { now = inl e.0; end = e.1; marks = m; tree = t }
 ends (hops try_word line next end) s e t m = ends_try s line next end s.marks e t m
@@ -297,7 +297,7 @@ ends (hops try_word line next end) s e t m = ends_try s line next end s.marks e 
 
 tries : (stack : List Datum) (s : Source) (block : Block) (mid : ℕ) (handler : Block) → Rests s → NestedBlock (place_in s.marks) block → NestedBlock (place_in s.marks) handler → StaysNested (step.try_count stack s block (hops try_word mid s.now s.end) handler)
 tries (int (pos n) ∷ rest) s block mid handler h b c =
-    either (nat_lt (length s.stack) (locked_of s.marks + (n + 1))) (step.fault (too_few (n + 1) s.stack) s) (step.opening s (record s { stack = rest; now = block; end = hops try_word mid s.now s.end; marks = trying (length rest - n) handler s.end ∷ s.marks })) (faults (too_few (n + 1) s.stack) s h.tree h.marks) (opens s (record s { stack = rest; now = block; end = hops try_word mid s.now s.end; marks = trying (length rest - n) handler s.end ∷ s.marks }) (rested s h) (record { now = inl b; end = (h.now, h.end); marks = (c, h.end, h.marks); tree = h.tree }))
+    either (nat_lt (length s.stack) (locked_of s.marks + (n + 1))) (step.fault_met (too_few (n + 1) s.stack) s) (step.construct_opening s (record s { stack = rest; now = block; end = hops try_word mid s.now s.end; marks = trying (length rest - n) handler s.end ∷ s.marks })) (faults (too_few (n + 1) s.stack) s h.tree h.marks) (opens s (record s { stack = rest; now = block; end = hops try_word mid s.now s.end; marks = trying (length rest - n) handler s.end ∷ s.marks }) (rested s h) (record { now = inl b; end = (h.now, h.end); marks = (c, h.end, h.marks); tree = h.tree }))
 tries (int (negsuc n) ∷ rest) s block mid handler h b c = faults BadArgument s h.tree h.marks
 tries _ s block mid handler h b c = faults BadType s h.tree h.marks
 
@@ -305,7 +305,7 @@ forks : (k : Fork) (a : Block) (mid : ℕ) (b : Block) (s : Source) → Rests s 
 forks if_word a mid b s h x y =
     tests s (λ t. goes 0 (record t { now = a; end = hops if_word mid t.now t.end })) (λ t. goes 0 (record t { now = then_block b t.now })) h.tree h.marks (λ rest. record { now = inl x; end = (h.now, h.end); marks = h.marks; tree = h.tree }) (λ rest. record { now = inl y; end = h.end; marks = h.marks; tree = h.tree })
 forks try_word a mid b s h x y =
-    either (nat_lt (length s.stack) (locked_of s.marks + 1)) (step.fault (too_few 1 s.stack) s) (step.try_count s.stack s a (hops try_word mid s.now s.end) (then_block b s.now)) (faults (too_few 1 s.stack) s h.tree h.marks) (tries s.stack s a mid (then_block b s.now) h x y)
+    either (nat_lt (length s.stack) (locked_of s.marks + 1)) (step.fault_met (too_few 1 s.stack) s) (step.try_count s.stack s a (hops try_word mid s.now s.end) (then_block b s.now)) (faults (too_few 1 s.stack) s h.tree h.marks) (tries s.stack s a mid (then_block b s.now) h x y)
 
 begun : (t : Turns) (stack : List Datum) (body : Block) (c : Closer) (last : ℕ) (s : Source) → EndsTurn (ring_of t) c → NestedBlock (turn_of (ring_of t)) body → Rests s → Nested (step.turning t stack body c last s)
 begun t stack body c last s e b h =
@@ -318,7 +318,7 @@ fors _ s body c last e b h = faults BadType s h.tree h.marks
 
 eaches : (stack : List Datum) (s : Source) (body : Block) (c : Closer) (last : ℕ) → EndsTurn each_word c → NestedBlock keying body → Rests s → StaysNested (step.each_count stack s body c last)
 eaches (items ds ∷ rest) s body c last e b h =
-    opens s (step.turning (pairs (step.numbered 0 ds)) rest body c last s) (rested s h) (begun (pairs (step.numbered 0 ds)) rest body c last s e b h)
+    opens s (step.turning (pairs (step.values_numbered 0 ds)) rest body c last s) (rested s h) (begun (pairs (step.values_numbered 0 ds)) rest body c last s e b h)
 eaches (dict qs ∷ rest) s body c last e b h =
     opens s (step.turning (pairs (step.keyed qs)) rest body c last s) (rested s h) (begun (pairs (step.keyed qs)) rest body c last s e b h)
 eaches _ s body c last e b h = faults BadType s h.tree h.marks
@@ -343,10 +343,10 @@ acts (fork k line a mid c next) s at b h =
 acts (ring begin_word line body c last next) s at b h = absurd (b tt)
 acts (ring for_word line body c last next) s at b h =
     let n : NestedBlock (place_in s.marks) (ring for_word line body c last next) = resting s.marks (ring for_word line body c last next) (subst (λ x. NestedItems x s.marks) at h.now) (λ k. k.0) in
-    either (nat_lt (length s.stack) (locked_of s.marks + 3)) (step.fault (too_few 3 s.stack) (record s { now = next })) (step.for_count s.stack (record s { now = next }) body c last) (faults (too_few 3 s.stack) (record s { now = next }) h.tree h.marks) (fors s.stack (record s { now = next }) body c last n.1 n.2 (record { now = n.3; end = h.end; marks = h.marks; tree = h.tree }))
+    either (nat_lt (length s.stack) (locked_of s.marks + 3)) (step.fault_met (too_few 3 s.stack) (record s { now = next })) (step.for_count s.stack (record s { now = next }) body c last) (faults (too_few 3 s.stack) (record s { now = next }) h.tree h.marks) (fors s.stack (record s { now = next }) body c last n.1 n.2 (record { now = n.3; end = h.end; marks = h.marks; tree = h.tree }))
 acts (ring each_word line body c last next) s at b h =
     let n : NestedBlock (place_in s.marks) (ring each_word line body c last next) = resting s.marks (ring each_word line body c last next) (subst (λ x. NestedItems x s.marks) at h.now) (λ k. k.0) in
-    either (nat_lt (length s.stack) (locked_of s.marks + 1)) (step.fault (too_few 1 s.stack) (record s { now = next })) (step.each_count s.stack (record s { now = next }) body c last) (faults (too_few 1 s.stack) (record s { now = next }) h.tree h.marks) (eaches s.stack (record s { now = next }) body c last n.1 n.2 (record { now = n.3; end = h.end; marks = h.marks; tree = h.tree }))
+    either (nat_lt (length s.stack) (locked_of s.marks + 1)) (step.fault_met (too_few 1 s.stack) (record s { now = next })) (step.each_count s.stack (record s { now = next }) body c last) (faults (too_few 1 s.stack) (record s { now = next }) h.tree h.marks) (eaches s.stack (record s { now = next }) body c last n.1 n.2 (record { now = n.3; end = h.end; marks = h.marks; tree = h.tree }))
 
 -- a settled state is nested, and no BEGIN comes next there
 abbrev SettlesNested : Settled → Type 0
@@ -377,7 +377,7 @@ pub unit_nested : (s : Source) → Nested s → StaysNested (unit s)
 unit_nested s h = settled_acts (step.settle s) (settles s.now s refl h)
 
 -- a fault that is caught, too
-pub fault_nested : (f : MufFault) (s : Source) → Nested s → StaysNested (step.fault f s)
+pub fault_nested : (f : MufFault) (s : Source) → Nested s → StaysNested (step.fault_met f s)
 fault_nested f s h = faults f s h.tree h.marks
 
 -- and many units
@@ -402,5 +402,5 @@ passes (when line a next) s at h = h
 passes (fork k line a mid b next) s at h = h
 passes (ring k line body c last next) s at h = h
 
-pub passed_nested : (s : Source) → Nested s → Nested (passed s)
+pub passed_nested : (s : Source) → Nested s → Nested (item_passed s)
 passed_nested s h = passes s.now s refl h

@@ -1,9 +1,10 @@
 -- Weight, nesting and rising keys of lists and dictionaries that are changed.
 use Rattle.std.proofs.Common.{◌≡◌, ℕ, zero, suc, ◌+◌, ◌<◌, ◌≤◌, max, Bool, true, false, List, [], ◌∷◌, ◌++◌, length, map, take, get_or, set, refl, sym, ◌∙◌, ap, subst, arith, ◌-◌}
-use Rattle.std.specs.Prelude.{nat_lt, nat_le, ◌&&◌, if◌then◌else◌, slice_get}
+use Rattle.std.specs.Prelude.{nat_le, ◌&&◌, if◌then◌else◌, slice_get}
 use Rattle.std.proofs.lemmas.List.{map-set, length-map, length-set}
 use Rattle.std.specs.List.{insert}
-use Rattle.std.proofs.lemmas.Bool.Decides.{nat_tests}
+use Rattle.muck_laws.proofs.Numbers.{beyond, both_within, fitting}
+use Rattle.muck_laws.proofs.Places.{map_insert, mapped_read}
 use Rattle.muf_model.specs.declared.size.Size.{Size}
 use Rattle.muf_model.specs.declared.value.MapKey.{MapKey}
 use Rattle.muf_model.specs.declared.value.Pair.{Pair}
@@ -11,20 +12,14 @@ use Rattle.muf_model.specs.Datum.{Datum, int, text, object, variable, address, l
 use Rattle.muf_model.specs.inner.View.{view, pair_view, value_view}
 use Rattle.muf_model.specs.Measures.{weight, data_weight, pairs_weight, nesting, data_nesting, pairs_nesting, key_below}
 use Rattle.muf_model.specs.Entries.{key_same, with_entry, entry_place, has_key, Rising}
-use Rattle.muf_model.proofs.Entries.{rising, replaced, inserted, map_insert}
-use Rattle.muf_model.specs.Values.{fits, size_fits, KeysRise, RiseInData, RiseInPairs, IsValue, IsSized}
+use Rattle.muf_model.proofs.Entries.{rising, replaced, inserted}
+use Rattle.muf_model.specs.Values.{value_fits, size_fits, KeysRise, RiseInData, RiseInPairs, IsValue, IsSized}
 
 -- ---- what fits
-
-pub fitting : (w n a b : ℕ) → a ≡ 1 + w → b ≡ 1 + n → (nat_le a 65536 && nat_le b 64) ≡ (nat_lt w 65536 && nat_lt n 64)
-fitting w n a b e f = grind (arith, nat_tests, e, f)
 
 pub sized : (d : Datum) (size : Size) → weight d ≡ 1 + size.weight → nesting d ≡ 1 + size.nesting → KeysRise d → size_fits size ≡ true → IsSized d size
 sized d size w n r h =
     record { weighs = w; nests = n; is_value = record { fitting = fitting size.weight size.nesting _ _ w n ∙ h; rising = r } }
-
-both_within : (w n : ℕ) → (nat_le (1 + w) 65536 && nat_le (1 + n) 64) ≡ true → (w ≤ 65535) × (n ≤ 63)
-both_within w n h = (grind (arith, nat_tests, h), grind (arith, nat_tests, h))
 
 pub within : (d : Datum) (size : Size) → IsSized d size → (size.weight ≤ 65535) × (size.nesting ≤ 63)
 within d size s =
@@ -102,12 +97,6 @@ weight_one i [] was h e = absurd (omega arith)
 weight_one zero (x ∷ ds) was h e = rw e (omega arith)
 weight_one (suc i) (x ∷ ds) was h e = omega (arith, weight_one i ds was (omega arith) e)
 
--- what is read of a list that is mapped
-pub mapped_read : {A B : Type 0} → (f : A → B) (i : ℕ) (xs : List A) (x : A) → x ≡ get_or xs i x → f x ≡ get_or (map f xs) i (f x)
-mapped_read f i [] x e = refl
-mapped_read f zero (y ∷ xs) x e = ap f e
-mapped_read f (suc i) (y ∷ xs) x e = mapped_read f i xs x e
-
 pub weight_within : {A : Type 0} → (f : A → Datum) (xs : List A) (at : ℕ) (x : A) (w all : ℕ) → at < length xs → x ≡ get_or xs at x → w ≡ weight (f x) → all ≡ data_weight (data_of (map f xs)) → w ≤ all
 weight_within f xs at x w all h e i a = omega (arith, i, a, weight_one at (map f xs) (f x) (omega (arith, h, length-map xs f)) (mapped_read f at xs x e))
 
@@ -153,9 +142,6 @@ part_nesting zero ds = omega arith
 part_nesting (suc i) [] = omega arith
 part_nesting (suc i) (d ∷ ds) = omega (arith, part_nesting i ds)
 
-beyond : (w n a b : ℕ) → a ≤ w → b ≤ n → (nat_lt a 65536 && nat_lt b 64) ≡ false → (nat_le (1 + w) 65536 && nat_le (1 + n) 64) ≡ false
-beyond w n a b e f h = grind (arith, nat_tests, e, f, h)
-
 -- the front of a list with one value more
 pub part_fits : (i : ℕ) (ds : List Datum) (d : Datum) (s t : Size) → i < length ds → d ≡ get_or ds i d → IsSized (items (data_of (take i ds))) s → IsValue d → t.weight ≡ s.weight + weight d → t.nesting ≡ max s.nesting (nesting d) → size_fits t ≡ true →
     IsSized (items (data_of (take (i + 1) ds))) t
@@ -167,7 +153,7 @@ part_fits i ds d s t h e z v w n f =
       rise_part (suc i) (x ∷ ds) d h e r k = let j : suc i + 1 ≡ suc (i + 1) = omega arith in rw j (r.0, rise_part i ds d (omega arith) e r.1 k)
 
 pub part_unfit : (i : ℕ) (ds : List Datum) (d : Datum) (s t : Size) → i < length ds → d ≡ get_or ds i d → IsSized (items (data_of (take i ds))) s → t.weight ≡ s.weight + weight d → t.nesting ≡ max s.nesting (nesting d) → size_fits t ≡ false →
-    fits (items (data_of ds)) ≡ false
+    value_fits (items (data_of ds)) ≡ false
 part_unfit i ds d s t h e z w n f =
     beyond (data_weight (data_of ds)) (data_nesting (data_of ds)) t.weight t.nesting (omega (arith, part_weight (i + 1) ds, weight_part i ds d h e, z.weighs, w)) (omega (arith, part_nesting (i + 1) ds, nesting_part i ds d h e, z.nests, n)) f
 

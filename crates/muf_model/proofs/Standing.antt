@@ -5,7 +5,7 @@ use Rattle.muf_model.specs.declared.code.Instr.{Instr}
 use Rattle.muf_model.specs.declared.code.Instr.TheVariants.{Unset}
 use Rattle.muf_model.specs.declared.code.Placed.{Placed}
 use Rattle.muf_model.specs.declared.code.CodeWord.{CodeWord}
-use Rattle.muf_model.specs.Tree.{Fork, if_word, try_word, Ring, begin_word, for_word, each_word, Block, stop, word, when, fork, ring, End, closes, hops, then_block, Definition}
+use Rattle.muf_model.specs.Tree.{Fork, if_word, try_word, Ring, begin_word, for_word, each_word, Block, stop, word, when, fork, ring, BlockEnd, closes, hops, then_block, Definition}
 use Rattle.muf_model.specs.inner.Stands.{Stands, EndStands, Remains, IsAt, fork_instr, ring_instr, hop_instr, WordsStand, InRow}
 
 module _ (code : List Placed) where
@@ -58,12 +58,12 @@ module _ (code other : List Placed) (x : Extends code other) where
   stands_kept (ring k line a c last r) place f g t h =
       (h.0, ring_kept k place line h.0 h.1, h.2, stands_kept a (place + 1) _ _ (λ p e. (e.0, x.kept p last _ (λ e. cc) e.1)) h.3, stands_kept r h.0 f g t h.4)
 
-  pub end_kept : (e : End) (place : ℕ) → EndStands code place e → EndStands other place e
+  pub end_kept : (e : BlockEnd) (place : ℕ) → EndStands code place e → EndStands other place e
   end_kept (closes c line) place h = x.kept place line _ (λ e. cc) h
   end_kept (hops k line next e) place h =
       (h.0, hop_kept k place line h.0 h.1, h.2, stands_kept next h.0 _ _ (λ p g. end_kept e p g) h.3)
 
-  pub remains_kept : (now : Block) (e : End) (place : ℕ) → Remains code place now e → Remains other place now e
+  pub remains_kept : (now : Block) (e : BlockEnd) (place : ℕ) → Remains code place now e → Remains other place now e
   remains_kept now e place h = stands_kept now place _ _ (λ p g. end_kept e p g) h
 
   pub words_kept : (ws : List CodeWord) (ds : List Definition) → WordsStand code ws ds → WordsStand other ws ds

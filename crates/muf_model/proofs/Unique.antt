@@ -9,7 +9,7 @@ use Rattle.muf_model.specs.declared.code.Instr.TheVariants.{Close}
 use Rattle.muf_model.specs.declared.code.Placed.{Placed}
 use Rattle.muf_model.specs.declared.code.CodeWord.{CodeWord}
 use Rattle.muf_model.specs.declared.code.Code.{Code}
-use Rattle.muf_model.specs.Tree.{Fork, if_word, try_word, Ring, begin_word, for_word, each_word, Block, stop, word, when, fork, ring, End, closes, hops, Definition, Tree}
+use Rattle.muf_model.specs.Tree.{Fork, if_word, try_word, Ring, begin_word, for_word, each_word, Block, stop, word, when, fork, ring, BlockEnd, closes, hops, Definition, Tree}
 use Rattle.muf_model.specs.inner.Stands.{Stands, EndStands, Remains, IsAt, fork_instr, hop_instr, ring_instr, WordStands, WordsStand, TreeStands}
 use Rattle.muf_model.specs.inner.Decode.{block, item, rest, rest_at, before, ending, placed_at, Rest, remains_at, definition_at, tree_of}
 
@@ -84,7 +84,7 @@ module _ (code : List Placed) where
   pub inside : (place line : ℕ) (i : Instr) → IsAt code place line i → place < length code
   inside place line i h = slice_get_within code place (record { line = line; instr = i }) h
 
-  end_inside : (e : End) (place : ℕ) → EndStands code place e → place ≤ length code
+  end_inside : (e : BlockEnd) (place : ℕ) → EndStands code place e → place ≤ length code
   end_inside (closes c line) place h = let l = inside place line _ h in omega arith
   end_inside (hops k line next e) place h = let l = inside place line _ h.1 in omega arith
 
@@ -101,7 +101,7 @@ module _ (code : List Placed) where
   hop_rest if_word go on place line to = refl
   hop_rest try_word go on place line to = refl
 
-  pub same_rest : (f : ℕ) (b : Block) (e : End) (place : ℕ) → length code ≤ place + f → Stands code place b (λ q. EndStands code q e) → rest f code place ≡ record { now = b; end = e }
+  pub same_rest : (f : ℕ) (b : Block) (e : BlockEnd) (place : ℕ) → length code ≤ place + f → Stands code place b (λ q. EndStands code q e) → rest f code place ≡ record { now = b; end = e }
   same_rest zero stop (closes c line) place le h = let l = inside place line _ h in absurd (omega arith)
   same_rest zero stop (hops k line next e) place le h = let l = inside place line _ h.1 in absurd (omega arith)
   same_rest zero (word line w next) e place le h = let l = inside place line _ h.0 in absurd (omega arith)
@@ -130,7 +130,7 @@ module _ (code : List Placed) where
       rw h.1 (ring_rest k (block f code) (rest f code) place line last h.0 c (closing body c last place h.0 h.3) ∙ ap (λ x. before (rest f code h.0) (ring k line x c last)) (same_block body f (place + 1) (h.0 - 1) _ (λ p g. (let e = g.0 in omega arith)) (omega arith) h.3) ∙ ap (λ r. before r (ring k line body c last)) (same_rest f next e h.0 (omega arith) h.4))
 
   -- what remains at a place is what is read there
-  pub remains_read : (place : ℕ) (now : Block) (end : End) → Remains code place now end → remains_at code place ≡ record { now = now; end = end }
+  pub remains_read : (place : ℕ) (now : Block) (end : BlockEnd) → Remains code place now end → remains_at code place ≡ record { now = now; end = end }
   remains_read place now end h = same_rest (length code) now end place (omega arith) h
 
   pub definition_read : (w : CodeWord) (d : Definition) → WordStands code w d → definition_at code w ≡ d

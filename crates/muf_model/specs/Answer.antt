@@ -30,9 +30,9 @@ pub record Scope : Type 0 where
 
 -- What a primitive does behind the tests that all begin with: most see the items that they take and no more, and a few
 -- the whole stack and what stands beside it.
-pub data Deed : Type 0 where
-  plain : (List Datum → Made) → Deed
-  whole : (Scope → List Datum → Answer) → Deed
+pub data PrimitiveEffect : Type 0 where
+  plain : (List Datum → Made) → PrimitiveEffect
+  whole : (Scope → List Datum → Answer) → PrimitiveEffect
 
 -- the number of the first variable of the program, and of the call
 abbrev pub owned_first : ℕ
@@ -60,15 +60,15 @@ abbrev pub needing : ℕ → ℕ → List Datum → Answer → Answer
 needing n locked stack answer = if nat_lt (length stack) (locked + n) then refuses (too_few n stack) else answer
 
 -- a stack, or the fault of one that is too long
-abbrev pub fitting : List Datum → Answer
-fitting stack = if nat_lt stack_most (length stack) then refuses StackFull else gives stack
+abbrev pub stack_fitting : List Datum → Answer
+stack_fitting stack = if nat_lt stack_most (length stack) then refuses StackFull else gives stack
 
 -- what is made takes the place of n items, and a stack that grows by it has to fit
-abbrev pub put : ℕ → Made → List Datum → Answer
-put n (makes items) rest = if nat_lt n (length items) then fitting (items ++ rest) else gives (items ++ rest)
-put n (rejects f) rest = refuses f
+abbrev pub items_put : ℕ → Made → List Datum → Answer
+items_put n (makes items) rest = if nat_lt n (length items) then stack_fitting (items ++ rest) else gives (items ++ rest)
+items_put n (rejects f) rest = refuses f
 
 -- behind a test that may have refused
-abbrev pub unless : Option MufFault → Answer → Answer
-unless (Some f) answer = refuses f
-unless None answer = answer
+abbrev pub answer_unless : Option MufFault → Answer → Answer
+answer_unless (Some f) answer = refuses f
+answer_unless None answer = answer

@@ -30,9 +30,9 @@ abbrev pub data_of : List Datum → Data
 data_of [] = no_data
 data_of (d ∷ ds) = datum d (data_of ds)
 
-abbrev pub list_of : Data → List Datum
-list_of no_data = []
-list_of (datum d ds) = d ∷ list_of ds
+abbrev pub data_list : Data → List Datum
+data_list no_data = []
+data_list (datum d ds) = d ∷ data_list ds
 
 abbrev pub pairs_of : List (MapKey × Datum) → Pairs
 pairs_of [] = no_pairs

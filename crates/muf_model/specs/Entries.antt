@@ -19,9 +19,9 @@ key_same (Name s) (Number n) = false
 key_same (Name s) (Name t) = bytes_eq s t
 
 -- the value of a key
-abbrev pub entry_of : MapKey → List (MapKey × Datum) → Option Datum
-entry_of k [] = None
-entry_of k ((l, x) ∷ es) = if key_same k l then Some x else entry_of k es
+abbrev pub value_of_key : MapKey → List (MapKey × Datum) → Option Datum
+value_of_key k [] = None
+value_of_key k ((l, x) ∷ es) = if key_same k l then Some x else value_of_key k es
 
 -- the entries with this value of a key, which stands before the first greater key where it is new
 abbrev pub with_entry : MapKey → Datum → List (MapKey × Datum) → List (MapKey × Datum)
@@ -51,14 +51,14 @@ has_key k (Some e) = key_same k e.0
 has_key k None = false
 
 -- the entries without that of a key
-abbrev pub without : MapKey → List (MapKey × Datum) → List (MapKey × Datum)
-without k [] = []
-without k ((l, x) ∷ es) = if key_same k l then es else (l, x) ∷ without k es
+abbrev pub without_key : MapKey → List (MapKey × Datum) → List (MapKey × Datum)
+without_key k [] = []
+without_key k ((l, x) ∷ es) = if key_same k l then es else (l, x) ∷ without_key k es
 
 -- the entries of greater keys
-abbrev pub above : MapKey → List (MapKey × Datum) → List (MapKey × Datum)
-above k [] = []
-above k ((l, x) ∷ es) = if key_below k l then (l, x) ∷ es else above k es
+abbrev pub entries_above : MapKey → List (MapKey × Datum) → List (MapKey × Datum)
+entries_above k [] = []
+entries_above k ((l, x) ∷ es) = if key_below k l then (l, x) ∷ es else entries_above k es
 
 -- pairs as entries, of which those that stand before win
 abbrev pub gathered : List (MapKey × Datum) → List (MapKey × Datum)

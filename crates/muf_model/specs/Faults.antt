@@ -27,27 +27,27 @@ number_of (Aborted text) = 58
 number_of WorldFull = 59
 
 -- the text that a TRY gets to see
-abbrev pub text_of : MufFault → List ℕ
-text_of StackEmpty = codes "Stack underflow."
-text_of StackFull = codes "Stack overflow."
-text_of StackLocked = codes "Stack protection fault."
-text_of CallsFull = codes "Call stack overflow."
-text_of BadType = codes "Wrong type of argument."
-text_of BadArgument = codes "Invalid argument."
-text_of NoSuchObject = codes "Invalid object."
-text_of (Denied rule) = codes "Permission denied (P" ++ (decimal rule ++ codes ").")
-text_of TooManyUnits = codes "Too many instructions."
-text_of PreemptTooLong = codes "Preempt section too long."
-text_of NotCompiled = codes "Program not compiled."
-text_of NotPublic = codes "Word not public."
-text_of BadAddress = codes "Invalid address."
-text_of BadSleep = codes "Sleep of negative time."
-text_of CannotRead = codes "Read in background."
-text_of ProcessLimit = codes "Too many processes."
-text_of TextTooLong = codes "Text too long."
-text_of TooHeavy = codes "Value too large."
-text_of (Aborted text) = text
-text_of WorldFull = codes "World full."
+abbrev pub fault_text : MufFault → List ℕ
+fault_text StackEmpty = codes "Stack underflow."
+fault_text StackFull = codes "Stack overflow."
+fault_text StackLocked = codes "Stack protection fault."
+fault_text CallsFull = codes "Call stack overflow."
+fault_text BadType = codes "Wrong type of argument."
+fault_text BadArgument = codes "Invalid argument."
+fault_text NoSuchObject = codes "Invalid object."
+fault_text (Denied rule) = codes "Permission denied (P" ++ (decimal rule ++ codes ").")
+fault_text TooManyUnits = codes "Too many instructions."
+fault_text PreemptTooLong = codes "Preempt section too long."
+fault_text NotCompiled = codes "Program not compiled."
+fault_text NotPublic = codes "Word not public."
+fault_text BadAddress = codes "Invalid address."
+fault_text BadSleep = codes "Sleep of negative time."
+fault_text CannotRead = codes "Read in background."
+fault_text ProcessLimit = codes "Too many processes."
+fault_text TextTooLong = codes "Text too long."
+fault_text TooHeavy = codes "Value too large."
+fault_text (Aborted text) = text
+fault_text WorldFull = codes "World full."
 
 -- the faults that end a process even inside a TRY
 abbrev pub is_final : MufFault → Bool
@@ -59,4 +59,4 @@ is_final _ = false
 abbrev pub IsFixedText : MufFault → List ℕ → Type 0
 IsFixedText (Denied rule) bytes = Unit {0}
 IsFixedText (Aborted text) bytes = Unit {0}
-IsFixedText f bytes = (bytes ≡ text_of f) × (text_fault bytes ≡ None)
+IsFixedText f bytes = (bytes ≡ fault_text f) × (text_fault bytes ≡ None)

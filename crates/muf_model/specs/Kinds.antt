@@ -8,16 +8,16 @@ use Rattle.muf_model.specs.declared.prims.Primitive.{Primitive}
 use Rattle.muf_model.specs.declared.prims.Primitive.TheVariants.{IsInt, IsString, IsDbref, IsArray, IsDictionary, IsAddress, IsLock}
 use Rattle.muf_model.specs.Datum.{Datum, int, text, object, variable, address, lock, items, dict, mark}
 
-abbrev pub kind_of : Datum → ItemKind
-kind_of (int n) = kind.Int
-kind_of (text t) = kind.Text
-kind_of (object d) = kind.Object
-kind_of (variable v) = kind.Variable
-kind_of (address program word) = kind.Address
-kind_of (lock l) = kind.Lock
-kind_of (items ds) = kind.List
-kind_of (dict ps) = kind.Dictionary
-kind_of mark = kind.Mark
+abbrev pub kind_of_item : Datum → ItemKind
+kind_of_item (int n) = kind.Int
+kind_of_item (text t) = kind.Text
+kind_of_item (object d) = kind.Object
+kind_of_item (variable v) = kind.Variable
+kind_of_item (address program word) = kind.Address
+kind_of_item (lock l) = kind.Lock
+kind_of_item (items ds) = kind.List
+kind_of_item (dict ps) = kind.Dictionary
+kind_of_item mark = kind.Mark
 
 -- whether a test of kinds is true of a kind; ARRAY? is true of lists and dictionaries
 abbrev pub is_kind : Primitive → ItemKind → Bool
@@ -32,8 +32,8 @@ is_kind IsLock kind.Lock = true
 is_kind _ _ = false
 
 -- whether a test of kinds is true of a value
-abbrev pub is_so : Primitive → Datum → Bool
-is_so test d = is_kind test (kind_of d)
+abbrev pub is_kind_so : Primitive → Datum → Bool
+is_kind_so test d = is_kind test (kind_of_item d)
 
 -- whether an item of a kind is what is wanted
 abbrev pub suits : Want → ItemKind → Bool

@@ -5,7 +5,7 @@ use Rattle.muf_model.specs.declared.fault.MufFault.{MufFault}
 use Rattle.muf_model.specs.declared.fault.MufFault.TheVariants.{BadType, BadArgument, NoSuchObject}
 use Rattle.muf_model.specs.declared.needs.Need.{Need}
 use Rattle.muf_model.specs.Datum.{Datum, int, object}
-use Rattle.muf_model.specs.Kinds.{kind_of, suits}
+use Rattle.muf_model.specs.Kinds.{kind_of_item, suits}
 use Rattle.muf_model.specs.Answer.{too_few}
 use Rattle.muf_model.specs.Needs.{Many, Needs}
 
@@ -20,14 +20,14 @@ times zero each = []
 times (suc n) each = each ++ times n each
 
 -- how many the first of these items counts
-abbrev pub counted : List Datum → ℕ
-counted (int (pos n) ∷ rest) = n
-counted _ = 0
+abbrev pub count_on_top : List Datum → ℕ
+count_on_top (int (pos n) ∷ rest) = n
+count_on_top _ = 0
 
 -- what each item must be, from the top down: the fixed ones, and those under them that one of these counts
 abbrev with_counted : List Need → Option Many → List Datum → List Need
 with_counted fixed None stack = fixed
-with_counted fixed (Some m) stack = fixed ++ (times (counted (drop m.at stack)) m.each ++ m.under)
+with_counted fixed (Some m) stack = fixed ++ (times (count_on_top (drop m.at stack)) m.each ++ m.under)
 
 abbrev pub wanted : Needs → List Datum → List Need
 wanted needs stack = with_counted needs.fixed needs.many stack
@@ -48,22 +48,22 @@ abbrev pub too_short : Needs → ℕ → List Datum → Option MufFault
 too_short needs locked stack = short_of needs.fixed needs.many locked stack
 
 -- the first refusal of a test, from the top down
-abbrev pub walk : (Need → Datum → Option MufFault) → List Need → List Datum → Option MufFault
-walk test [] stack = None
-walk test (n ∷ ns) [] = None
-walk test (n ∷ ns) (x ∷ xs) = option_or (test n x) (walk test ns xs)
+abbrev pub first_refusal : (Need → Datum → Option MufFault) → List Need → List Datum → Option MufFault
+first_refusal test [] stack = None
+first_refusal test (n ∷ ns) [] = None
+first_refusal test (n ∷ ns) (x ∷ xs) = option_or (test n x) (first_refusal test ns xs)
 
 -- an item that isn't of its kind
 abbrev pub unfit : Need → Datum → Option MufFault
-unfit n x = if suits n.kind (kind_of x) then None else Some BadType
+unfit n x = if suits n.kind (kind_of_item x) then None else Some BadType
 
 -- an object that must be there and isn't
-abbrev gone : (ℤ → Bool) → Datum → Option MufFault
-gone there (object d) = if there d then None else Some NoSuchObject
-gone there _ = None
+abbrev object_gone : (ℤ → Bool) → Datum → Option MufFault
+object_gone there (object d) = if there d then None else Some NoSuchObject
+object_gone there _ = None
 
 abbrev pub absent : (ℤ → Bool) → Need → Datum → Option MufFault
-absent there n x = if n.there then gone there x else None
+absent there n x = if n.there then object_gone there x else None
 
 -- an object that must be near and isn't
 abbrev afar : (ℤ → Option MufFault) → Datum → Option MufFault
@@ -79,12 +79,12 @@ abbrev pub ladder : ℕ → Needs → (ℕ → Option MufFault) → (ℤ → Boo
 ladder level needs may there locked stack =
     option_or (too_short needs locked stack)
     (option_or (may level)
-    (option_or (walk unfit (wanted needs stack) stack)
-    (walk (absent there) (wanted needs stack) stack)))
+    (option_or (first_refusal unfit (wanted needs stack) stack)
+    (first_refusal (absent there) (wanted needs stack) stack)))
 
 -- The objects that must be near, from the top, behind what a primitive asks of its arguments.
 abbrev pub nearby : Needs → (ℤ → Option MufFault) → List Datum → Option MufFault
-nearby needs near stack = walk (distant near) (wanted needs stack) stack
+nearby needs near stack = first_refusal (distant near) (wanted needs stack) stack
 
 -- tests that always pass, for what needs no world
 abbrev pub any_level : ℕ → Option MufFault

@@ -8,28 +8,28 @@ use Rattle.muf_model.specs.declared.value.MapKey.{MapKey}
 use Rattle.muf_model.specs.declared.value.MapKey.TheVariants.{Number, Name}
 use Rattle.muf_model.specs.Datum.{Datum, int, text, object, variable, address, lock, items, dict, mark, Data, no_data, datum, Pairs, no_pairs, pair}
 
-abbrev pub is_free : Lock → Bool
-is_free Free = true
-is_free _ = false
+abbrev pub is_free_lock : Lock → Bool
+is_free_lock Free = true
+is_free_lock _ = false
 
 -- 0, the empty text, `#-1`, the free lock, the empty list and dictionary and a mark are false, and all else is true
-abbrev pub is_true : Datum → Bool
-is_true (int (pos zero)) = false
-is_true (int (pos (suc n))) = true
-is_true (int (negsuc n)) = true
-is_true (text []) = false
-is_true (text (b ∷ bytes)) = true
-is_true (object (negsuc zero)) = false
-is_true (object (negsuc (suc n))) = true
-is_true (object (pos n)) = true
-is_true (variable v) = true
-is_true (address program word) = true
-is_true (lock l) = not (is_free l)
-is_true (items no_data) = false
-is_true (items (datum d ds)) = true
-is_true (dict no_pairs) = false
-is_true (dict (pair k d ps)) = true
-is_true mark = false
+abbrev pub is_true_item : Datum → Bool
+is_true_item (int (pos zero)) = false
+is_true_item (int (pos (suc n))) = true
+is_true_item (int (negsuc n)) = true
+is_true_item (text []) = false
+is_true_item (text (b ∷ bytes)) = true
+is_true_item (object (negsuc zero)) = false
+is_true_item (object (negsuc (suc n))) = true
+is_true_item (object (pos n)) = true
+is_true_item (variable v) = true
+is_true_item (address program word) = true
+is_true_item (lock l) = not (is_free_lock l)
+is_true_item (items no_data) = false
+is_true_item (items (datum d ds)) = true
+is_true_item (dict no_pairs) = false
+is_true_item (dict (pair k d ps)) = true
+is_true_item mark = false
 
 abbrev mutual
   -- 1, and for a list or dictionary also the weights of its values

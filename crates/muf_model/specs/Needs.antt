@@ -17,8 +17,8 @@ pub record Needs : Type 0 where
   pub fixed : List Need
   pub many : Option Many
 
-abbrev pub takes : List Need → Option Needs
-takes fixed = Some (record { fixed = fixed; many = None })
+abbrev pub takes_items : List Need → Option Needs
+takes_items fixed = Some (record { fixed = fixed; many = None })
 
 abbrev pub counts_at : ℕ → List Need → List Need → List Need → Option Needs
 counts_at at fixed each under = Some (record { fixed = fixed; many = Some (record { at = at; each = each; under = under }) })
@@ -30,8 +30,8 @@ counts fixed each under = counts_at 0 fixed each under
 abbrev of_kind : Want → Need
 of_kind kind = record { kind = kind; there = false; near = false }
 
-abbrev pub any : Need
-any = of_kind Anything
+abbrev pub anything : Need
+anything = of_kind Anything
 
 abbrev pub an_int : Need
 an_int = of_kind Int
@@ -65,8 +65,8 @@ a_key = of_kind Key
 abbrev pub int_or_object : Need
 int_or_object = of_kind IntOrObject
 
-abbrev pub numbered : Need
-numbered = of_kind Numbered
+abbrev pub a_number : Need
+a_number = of_kind Numbered
 
 -- an object that must be there, and one that must be near besides
 abbrev pub one_there : Need

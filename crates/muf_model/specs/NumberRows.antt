@@ -1,25 +1,15 @@
 -- What each primitive of numbers does. Results wrap to 32 bits.
-use Rattle.std.specs.Prelude.{suc, List, [], ◌∷◌, Option, Some, None, Bool, true, false, not, ◌&&◌, ◌||◌, nat_lt, int_lt, int_le, int_rem, if◌then◌else◌, ℤ, pos, negsuc}
+use Rattle.std.specs.Prelude.{suc, List, [], ◌∷◌, Option, Some, None, Bool, true, false, not, ◌&&◌, ◌||◌, nat_lt, int_lt, int_le, if◌then◌else◌, ℤ, pos, negsuc}
 use Rattle.std.specs.Ordering.{int_eq}
-use Rattle.std.specs.Int.{w32, cast_signed, int_wrapping_add, int_wrapping_sub, int_wrapping_mul, int_wrapping_div, int_wrapping_neg, int_signum, int_bit_and, int_bit_or, int_bit_xor, int_shl, int_shr}
+use Rattle.std.specs.Int.{w32, cast_signed, int_wrapping_add, int_wrapping_sub, int_wrapping_mul, int_signum, int_bit_and, int_bit_or, int_bit_xor, int_shl, int_shr}
+use Rattle.muck_model.specs.Division.{quotient, remainder, magnitude}
 use Rattle.muf_model.specs.declared.fault.MufFault.TheVariants.{StackEmpty, BadType}
 use Rattle.muf_model.specs.declared.prims.Primitive.{Primitive}
 use Rattle.muf_model.specs.declared.prims.Primitive.TheVariants.{Add, Subtract, Multiply, Divide, Modulo, Increment, Decrement, Abs, Sign, BitOr, BitAnd, BitXor, BitShift, Equal, Unequal, Less, Greater, LessEqual, GreaterEqual, Not, And, Or, Xor, ToInt, ToDbref, DbCmp}
 use Rattle.muf_model.specs.Datum.{Datum, int, object, variable}
-use Rattle.muf_model.specs.Measures.{is_true}
-use Rattle.muf_model.specs.Answer.{Deed, plain, Made, makes, rejects}
-use Rattle.muf_model.specs.StackRows.{truth, judged}
-
--- toward zero, and 0 where the divisor is 0
-abbrev pub quotient : ℤ → ℤ → ℤ
-quotient i j = if int_eq j (pos 0) then pos 0 else int_wrapping_div w32 i j
-
--- with the sign of i, and 0 where the divisor is 0
-abbrev pub remainder : ℤ → ℤ → ℤ
-remainder i j = if int_eq j (pos 0) then pos 0 else int_rem i j
-
-abbrev pub magnitude : ℤ → ℤ
-magnitude i = if int_lt i (pos 0) then int_wrapping_neg w32 i else i
+use Rattle.muf_model.specs.Measures.{is_true_item}
+use Rattle.muf_model.specs.Answer.{PrimitiveEffect, plain, Made, makes, rejects}
+use Rattle.muf_model.specs.StackRows.{truth_item, item_judged}
 
 -- left by a positive number, else right with the sign
 abbrev pub shifted : ℤ → ℤ → ℤ
@@ -42,27 +32,27 @@ two_ints f _ = rejects BadType
 
 -- of two integers or two objects, by number
 abbrev pub compared : (ℤ → ℤ → Bool) → List Datum → Made
-compared f (int j ∷ int i ∷ []) = makes (truth (f i j) ∷ [])
-compared f (object j ∷ object i ∷ []) = makes (truth (f i j) ∷ [])
+compared f (int j ∷ int i ∷ []) = makes (truth_item (f i j) ∷ [])
+compared f (object j ∷ object i ∷ []) = makes (truth_item (f i j) ∷ [])
 compared f _ = rejects BadType
 
 -- of two truths
 abbrev pub two_truths : (Bool → Bool → Bool) → List Datum → Made
-two_truths f (y ∷ x ∷ []) = makes (truth (f (is_true x) (is_true y)) ∷ [])
+two_truths f (y ∷ x ∷ []) = makes (truth_item (f (is_true_item x) (is_true_item y)) ∷ [])
 two_truths f _ = rejects StackEmpty
 
-abbrev pub number_of : List Datum → Made
-number_of (int i ∷ []) = makes (int i ∷ [])
-number_of (object d ∷ []) = makes (int d ∷ [])
-number_of (variable v ∷ []) = makes (int (cast_signed w32 v) ∷ [])
-number_of _ = rejects BadType
+abbrev pub to_integer : List Datum → Made
+to_integer (int i ∷ []) = makes (int i ∷ [])
+to_integer (object d ∷ []) = makes (int d ∷ [])
+to_integer (variable v ∷ []) = makes (int (cast_signed w32 v) ∷ [])
+to_integer _ = rejects BadType
 
-abbrev pub object_of : List Datum → Made
-object_of (int i ∷ []) = makes (object i ∷ [])
-object_of _ = rejects BadType
+abbrev pub to_object : List Datum → Made
+to_object (int i ∷ []) = makes (object i ∷ [])
+to_object _ = rejects BadType
 
 abbrev pub objects_equal : List Datum → Made
-objects_equal (object j ∷ object i ∷ []) = makes (truth (int_eq i j) ∷ [])
+objects_equal (object j ∷ object i ∷ []) = makes (truth_item (int_eq i j) ∷ [])
 objects_equal _ = rejects BadType
 
 -- What a primitive of numbers does, by what it takes: an integer, two integers, two integers or objects to compare, two truths, or
@@ -95,16 +85,16 @@ number_table Less = compares int_lt
 number_table Greater = compares (λ i j. int_lt j i)
 number_table LessEqual = compares int_le
 number_table GreaterEqual = compares (λ i j. int_le j i)
-number_table Not = items (judged (λ x. not (is_true x)))
+number_table Not = items (item_judged (λ x. not (is_true_item x)))
 number_table And = truths (λ a b. a && b)
 number_table Or = truths (λ a b. a || b)
 number_table Xor = truths unlike
-number_table ToInt = items number_of
-number_table ToDbref = items object_of
+number_table ToInt = items to_integer
+number_table ToDbref = items to_object
 number_table DbCmp = items objects_equal
 number_table _ = absent
 
-abbrev pub number_deed : NumberRow → Option Deed
+abbrev pub number_deed : NumberRow → Option PrimitiveEffect
 number_deed (an_int f) = Some (plain (one_int f))
 number_deed (ints f) = Some (plain (two_ints f))
 number_deed (compares f) = Some (plain (compared f))
@@ -112,5 +102,5 @@ number_deed (truths f) = Some (plain (two_truths f))
 number_deed (items f) = Some (plain f)
 number_deed absent = None
 
-abbrev pub number_row : Primitive → Option Deed
+abbrev pub number_row : Primitive → Option PrimitiveEffect
 number_row p = number_deed (number_table p)

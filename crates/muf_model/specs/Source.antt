@@ -4,7 +4,7 @@ use Rattle.std.specs.Ordering.{int_eq}
 use Rattle.muf_model.specs.declared.code.Closer.{Closer}
 use Rattle.muf_model.specs.declared.code.Closer.TheVariants.{Semicolon}
 use Rattle.muf_model.specs.Datum.{Datum, int, text}
-use Rattle.muf_model.specs.Tree.{Block, word, End, closes, Definition, Tree}
+use Rattle.muf_model.specs.Tree.{Block, word, BlockEnd, closes, Definition, Tree}
 use Rattle.muf_model.specs.Answer.{Scope, owned_first, call_first, stack_most}
 
 -- What a loop counts. FOR has its next index, which is none where it left 32 bits, its end and its step. FOREACH has
@@ -22,13 +22,13 @@ pub record Program : Type 0 where
 -- What encloses the items that are being run.
 pub data Mark : Type 0 where
   -- a loop: what it counts, the items of a turn with the word that closes them and its line, and what follows the loop
-  looping : Turns → Block → Closer → ℕ → Block → End → Mark
+  looping : Turns → Block → Closer → ℕ → Block → BlockEnd → Mark
   -- a TRY: how many items it locks, and what a fault goes on with
-  trying : ℕ → Block → End → Mark
+  trying : ℕ → Block → BlockEnd → Mark
   -- a call of a word: the variables of the call that it came from, and what follows there
-  calling : List Datum → Block → End → Mark
+  calling : List Datum → Block → BlockEnd → Mark
   -- a call of this program: the program that it came from, the variables of the call there, and what follows there
-  entering : Program → List Datum → Block → End → Mark
+  entering : Program → List Datum → Block → BlockEnd → Mark
 
 -- the variables that a program has in a process
 pub record Owned : Type 0 where
@@ -44,13 +44,13 @@ pub record Source : Type 0 where
   pub variables : List Datum
   pub program : Program
   pub now : Block
-  pub end : End
+  pub end : BlockEnd
   pub marks : List Mark
 
 -- the variables of the program with this number
-abbrev pub owned_by : ℤ → List Owned → List Datum
-owned_by number [] = []
-owned_by number (o ∷ os) = if int_eq o.program number then o.values else owned_by number os
+abbrev pub variables_owned_by : ℤ → List Owned → List Datum
+variables_owned_by number [] = []
+variables_owned_by number (o ∷ os) = if int_eq o.program number then o.values else variables_owned_by number os
 
 -- the same variables with other values
 abbrev pub with_owned : ℤ → List Datum → List Owned → List Owned
@@ -68,7 +68,7 @@ fitted n values = take n (values ++ zeros n)
 
 -- the variables once a program is entered
 abbrev pub entered_owned : Program → List Owned → List Owned
-entered_owned p owned = with_owned p.number (fitted p.tree.variables (owned_by p.number owned)) owned
+entered_owned p owned = with_owned p.number (fitted p.tree.variables (variables_owned_by p.number owned)) owned
 
 -- how many items the nearest TRY locks
 abbrev pub locked_of : List Mark → ℕ
@@ -79,12 +79,12 @@ locked_of (calling saved next end ∷ ms) = locked_of ms
 locked_of (entering caller saved next end ∷ ms) = locked_of ms
 
 -- how many calls are running, beside the first word
-abbrev pub calls_of : List Mark → ℕ
-calls_of [] = 0
-calls_of (looping t round c last next end ∷ ms) = calls_of ms
-calls_of (trying locked next end ∷ ms) = calls_of ms
-calls_of (calling saved next end ∷ ms) = suc (calls_of ms)
-calls_of (entering caller saved next end ∷ ms) = suc (calls_of ms)
+abbrev pub calls_running : List Mark → ℕ
+calls_running [] = 0
+calls_running (looping t round c last next end ∷ ms) = calls_running ms
+calls_running (trying locked next end ∷ ms) = calls_running ms
+calls_running (calling saved next end ∷ ms) = suc (calls_running ms)
+calls_running (entering caller saved next end ∷ ms) = suc (calls_running ms)
 
 -- how many loops and TRYs are open
 abbrev pub open_of : List Mark → ℕ
@@ -98,7 +98,7 @@ open_of (entering caller saved next end ∷ ms) = open_of ms
 abbrev pub scope_of : Source → Scope
 scope_of s = record {
   common = s.common;
-  owned = owned_by s.program.number s.owned;
+  owned = variables_owned_by s.program.number s.owned;
   variables = s.variables;
   program = s.program.number;
   words = length s.program.tree.words;
@@ -110,7 +110,7 @@ abbrev pub with_variable : ℕ → Datum → Source → Source
 with_variable v x s =
     if nat_lt v owned_first then record s { common = slice_set s.common v x }
     else (if nat_lt v call_first
-    then record s { owned = with_owned s.program.number (slice_set (owned_by s.program.number s.owned) (v - owned_first) x) s.owned }
+    then record s { owned = with_owned s.program.number (slice_set (variables_owned_by s.program.number s.owned) (v - owned_first) x) s.owned }
     else record s { variables = slice_set s.variables (v - call_first) x })
 
 -- the state behind the word that comes next
@@ -118,12 +118,12 @@ abbrev pub passed_at : Block → Source → Source
 passed_at (word line w next) s = record s { now = next }
 passed_at _ s = s
 
-abbrev pub passed : Source → Source
-passed s = passed_at s.now s
+abbrev pub item_passed : Source → Source
+item_passed s = passed_at s.now s
 
 -- a call of a word, from the state behind the item that calls it
-abbrev pub called : Definition → Source → Source
-called d s = record s {
+abbrev pub word_called : Definition → Source → Source
+word_called d s = record s {
   variables = zeros d.variables;
   now = d.body;
   end = closes Semicolon d.last;
@@ -131,8 +131,8 @@ called d s = record s {
 }
 
 -- a call of a word of a program, from the state behind the item that calls it
-abbrev pub entered : Program → Definition → Source → Source
-entered p d s = record s {
+abbrev pub program_entered : Program → Definition → Source → Source
+program_entered p d s = record s {
   owned = entered_owned p s.owned;
   variables = zeros d.variables;
   program = p;

@@ -5,9 +5,9 @@ use Rattle.muf_model.specs.declared.fault.MufFault.TheVariants.{StackEmpty, BadT
 use Rattle.muf_model.specs.declared.prims.Primitive.{Primitive}
 use Rattle.muf_model.specs.declared.prims.Primitive.TheVariants.{Pop, Dup, DupTrue, Swap, Over, Rot, Rotate, Pick, Put, Nip, Tuck, DupN, LDup, PopN, Reverse, Depth, OpenMark, CloseMark, Fetch, Store, IsInt, IsString, IsDbref, IsArray, IsDictionary, IsAddress, IsLock, Execute, Abort}
 use Rattle.muf_model.specs.Datum.{Datum, int, text, variable, address, mark}
-use Rattle.muf_model.specs.Measures.{is_true}
-use Rattle.muf_model.specs.Kinds.{is_so}
-use Rattle.muf_model.specs.Answer.{Answer, gives, stores, calls, refuses, Scope, Deed, plain, whole, Made, makes, rejects, variable_at, needing, fitting}
+use Rattle.muf_model.specs.Measures.{is_true_item}
+use Rattle.muf_model.specs.Kinds.{is_kind_so}
+use Rattle.muf_model.specs.Answer.{Answer, gives, stores, calls, refuses, Scope, PrimitiveEffect, plain, whole, Made, makes, rejects, variable_at, needing, stack_fitting}
 
 abbrev pub popped : List Datum → Made
 popped _ = makes []
@@ -17,7 +17,7 @@ doubled (x ∷ []) = makes (x ∷ x ∷ [])
 doubled _ = rejects StackEmpty
 
 abbrev pub doubled_true : List Datum → Made
-doubled_true (x ∷ []) = makes (if is_true x then x ∷ x ∷ [] else x ∷ [])
+doubled_true (x ∷ []) = makes (if is_true_item x then x ∷ x ∷ [] else x ∷ [])
 doubled_true _ = rejects StackEmpty
 
 abbrev pub swapped : List Datum → Made
@@ -28,9 +28,9 @@ abbrev pub overed : List Datum → Made
 overed (y ∷ x ∷ []) = makes (x ∷ y ∷ x ∷ [])
 overed _ = rejects StackEmpty
 
-abbrev pub turned : List Datum → Made
-turned (z ∷ y ∷ x ∷ []) = makes (x ∷ z ∷ y ∷ [])
-turned _ = rejects StackEmpty
+abbrev pub items_rotated : List Datum → Made
+items_rotated (z ∷ y ∷ x ∷ []) = makes (x ∷ z ∷ y ∷ [])
+items_rotated _ = rejects StackEmpty
 
 abbrev pub nipped : List Datum → Made
 nipped (y ∷ x ∷ []) = makes (y ∷ [])
@@ -62,22 +62,22 @@ by_count answer s (int (pos n) ∷ rest) = answer rest n
 by_count answer s _ = refuses BadType
 
 -- the n-th item from the top, from 1
-abbrev pub picked : List Datum → ℕ → Answer
-picked rest zero = refuses BadArgument
-picked rest (suc n) = gives (take 1 (drop n rest) ++ rest)
+abbrev pub item_picked : List Datum → ℕ → Answer
+item_picked rest zero = refuses BadArgument
+item_picked rest (suc n) = gives (take 1 (drop n rest) ++ rest)
 
 -- the n-th item below y, from 1, becomes y
-abbrev pub put_at : List Datum → ℕ → Answer
-put_at rest zero = refuses BadArgument
-put_at [] (suc n) = refuses StackEmpty
-put_at (y ∷ rest) (suc n) = gives (slice_set rest n y)
+abbrev pub item_put_at : List Datum → ℕ → Answer
+item_put_at rest zero = refuses BadArgument
+item_put_at [] (suc n) = refuses StackEmpty
+item_put_at (y ∷ rest) (suc n) = gives (slice_set rest n y)
 
 -- n items once more, and with their count between and behind
 abbrev pub doubled_many : List Datum → ℕ → Answer
-doubled_many rest n = fitting (take n rest ++ rest)
+doubled_many rest n = stack_fitting (take n rest ++ rest)
 
 abbrev pub doubled_list : List Datum → ℕ → Answer
-doubled_list rest n = fitting (int (pos n) ∷ (take n rest ++ (int (pos n) ∷ rest)))
+doubled_list rest n = stack_fitting (int (pos n) ∷ (take n rest ++ (int (pos n) ∷ rest)))
 
 abbrev pub popped_many : List Datum → ℕ → Answer
 popped_many rest n = gives (drop n rest)
@@ -90,13 +90,13 @@ is_mark mark = true
 is_mark _ = false
 
 -- the items above the locked part
-abbrev pub above : ℕ → List Datum → List Datum
-above locked stack = take (length stack - locked) stack
+abbrev pub above_locked : ℕ → List Datum → List Datum
+above_locked locked stack = take (length stack - locked) stack
 
 -- the mark gives way to the count of the items above it
-abbrev pub unmarked : Option ℕ → List Datum → Answer
-unmarked (Some n) stack = gives (int (pos n) ∷ (take n stack ++ drop (n + 1) stack))
-unmarked None stack = refuses BadArgument
+abbrev pub mark_counted : Option ℕ → List Datum → Answer
+mark_counted (Some n) stack = gives (int (pos n) ∷ (take n stack ++ drop (n + 1) stack))
+mark_counted None stack = refuses BadArgument
 
 abbrev pub fetched : Option Datum → List Datum → Answer
 fetched (Some x) rest = gives (x ∷ rest)
@@ -106,22 +106,22 @@ abbrev pub fetching : Scope → List Datum → Answer
 fetching s (variable v ∷ rest) = fetched (variable_at v s) rest
 fetching s _ = refuses BadType
 
-abbrev pub stored : Option Datum → ℕ → Datum → List Datum → Answer
-stored (Some old) v x rest = stores v x rest
-stored None v x rest = refuses BadArgument
+abbrev pub item_stored : Option Datum → ℕ → Datum → List Datum → Answer
+item_stored (Some old) v x rest = stores v x rest
+item_stored None v x rest = refuses BadArgument
 
-abbrev pub storing : Scope → List Datum → Answer
-storing s (variable v ∷ x ∷ rest) = stored (variable_at v s) v x rest
-storing s _ = refuses BadType
+abbrev pub variable_storing : Scope → List Datum → Answer
+variable_storing s (variable v ∷ x ∷ rest) = item_stored (variable_at v s) v x rest
+variable_storing s _ = refuses BadType
 
-abbrev pub truth : Bool → Datum
-truth true = int (pos 1)
-truth false = int (pos 0)
+abbrev pub truth_item : Bool → Datum
+truth_item true = int (pos 1)
+truth_item false = int (pos 0)
 
 -- the answer of a test
-abbrev pub judged : (Datum → Bool) → List Datum → Made
-judged test (x ∷ []) = makes (truth (test x) ∷ [])
-judged test _ = rejects StackEmpty
+abbrev pub item_judged : (Datum → Bool) → List Datum → Made
+item_judged test (x ∷ []) = makes (truth_item (test x) ∷ [])
+item_judged test _ = rejects StackEmpty
 
 -- the word at an address of the running program
 abbrev pub executed : Scope → List Datum → Answer
@@ -135,24 +135,24 @@ aborted _ = rejects BadType
 
 -- how many items stand above the locked part
 abbrev pub counted_above : Scope → List Datum → Answer
-counted_above s stack = fitting (int (pos (length stack - s.locked)) ∷ stack)
+counted_above s stack = stack_fitting (int (pos (length stack - s.locked)) ∷ stack)
 
-abbrev pub marked : List Datum → Made
-marked _ = makes (mark ∷ [])
+abbrev pub mark_put : List Datum → Made
+mark_put _ = makes (mark ∷ [])
 
-abbrev pub closed : Scope → List Datum → Answer
-closed s stack = unmarked (position is_mark (above s.locked stack)) stack
+abbrev pub mark_closed : Scope → List Datum → Answer
+mark_closed s stack = mark_counted (position is_mark (above_locked s.locked stack)) stack
 
-abbrev pub stack_row : Primitive → Option Deed
+abbrev pub stack_row : Primitive → Option PrimitiveEffect
 stack_row Pop = Some (plain popped)
 stack_row Dup = Some (plain doubled)
 stack_row DupTrue = Some (plain doubled_true)
 stack_row Swap = Some (plain swapped)
 stack_row Over = Some (plain overed)
-stack_row Rot = Some (plain turned)
+stack_row Rot = Some (plain items_rotated)
 stack_row Rotate = Some (whole rotated)
-stack_row Pick = Some (whole (by_count picked))
-stack_row Put = Some (whole (by_count put_at))
+stack_row Pick = Some (whole (by_count item_picked))
+stack_row Put = Some (whole (by_count item_put_at))
 stack_row Nip = Some (plain nipped)
 stack_row Tuck = Some (plain tucked)
 stack_row DupN = Some (whole (by_count doubled_many))
@@ -160,17 +160,17 @@ stack_row LDup = Some (whole (by_count doubled_list))
 stack_row PopN = Some (whole (by_count popped_many))
 stack_row Reverse = Some (whole (by_count reversed))
 stack_row Depth = Some (whole counted_above)
-stack_row OpenMark = Some (plain marked)
-stack_row CloseMark = Some (whole closed)
+stack_row OpenMark = Some (plain mark_put)
+stack_row CloseMark = Some (whole mark_closed)
 stack_row Fetch = Some (whole fetching)
-stack_row Store = Some (whole storing)
-stack_row IsInt = Some (plain (judged (is_so IsInt)))
-stack_row IsString = Some (plain (judged (is_so IsString)))
-stack_row IsDbref = Some (plain (judged (is_so IsDbref)))
-stack_row IsArray = Some (plain (judged (is_so IsArray)))
-stack_row IsDictionary = Some (plain (judged (is_so IsDictionary)))
-stack_row IsAddress = Some (plain (judged (is_so IsAddress)))
-stack_row IsLock = Some (plain (judged (is_so IsLock)))
+stack_row Store = Some (whole variable_storing)
+stack_row IsInt = Some (plain (item_judged (is_kind_so IsInt)))
+stack_row IsString = Some (plain (item_judged (is_kind_so IsString)))
+stack_row IsDbref = Some (plain (item_judged (is_kind_so IsDbref)))
+stack_row IsArray = Some (plain (item_judged (is_kind_so IsArray)))
+stack_row IsDictionary = Some (plain (item_judged (is_kind_so IsDictionary)))
+stack_row IsAddress = Some (plain (item_judged (is_kind_so IsAddress)))
+stack_row IsLock = Some (plain (item_judged (is_kind_so IsLock)))
 stack_row Execute = Some (whole executed)
 stack_row Abort = Some (plain aborted)
 stack_row _ = None

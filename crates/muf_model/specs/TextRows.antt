@@ -7,14 +7,14 @@ use Rattle.muf_model.specs.declared.fault.MufFault.TheVariants.{BadType, BadArgu
 use Rattle.muf_model.specs.declared.prims.Primitive.{Primitive}
 use Rattle.muf_model.specs.declared.prims.Primitive.TheVariants.{StrCat, StrCmp, StringCmp, StrNCmp, StrLen, StrCut, MidStr, InStr, RInStr, InString, RInString, Explode, Split, RSplit, Subst, ToUpper, ToLower, StripLead, StripTail, AToI, IntToStr, CharToInt, IntToChar}
 use Rattle.muf_model.specs.Datum.{Datum, int, text, object}
-use Rattle.muf_model.specs.Answer.{Deed, plain, Made, makes, rejects}
-use Rattle.muf_model.specs.Texts.{difference, first_place, last_place, pieces, substituted, lead_stripped, tail_stripped, number_in, first_byte, one_byte}
+use Rattle.muf_model.specs.Answer.{PrimitiveEffect, plain, Made, makes, rejects}
+use Rattle.muf_model.specs.Texts.{difference, first_place, last_place, text_pieces, substituted, lead_stripped, tail_stripped, number_in_text, first_byte, one_byte}
 
 -- What is made.
 
 -- a text, or the fault of one that is too long
-abbrev pub sized : List ℕ → Made
-sized t = if nat_lt text_most (length t) then rejects TextTooLong else makes (text t ∷ [])
+abbrev pub text_within : List ℕ → Made
+text_within t = if nat_lt text_most (length t) then rejects TextTooLong else makes (text t ∷ [])
 
 abbrev pub number : ℤ → Made
 number i = makes (int i ∷ [])
@@ -77,11 +77,11 @@ one_number f _ = rejects BadType
 
 abbrev pub of_text : Primitive → List ℕ → Made
 of_text StrLen s = number (pos (length s))
-of_text ToUpper s = sized (map to_ascii_uppercase s)
-of_text ToLower s = sized (map to_ascii_lowercase s)
-of_text StripLead s = sized (lead_stripped s)
-of_text StripTail s = sized (tail_stripped s)
-of_text AToI s = number (number_in s)
+of_text ToUpper s = text_within (map to_ascii_uppercase s)
+of_text ToLower s = text_within (map to_ascii_lowercase s)
+of_text StripLead s = text_within (lead_stripped s)
+of_text StripTail s = text_within (tail_stripped s)
+of_text AToI s = number (number_in_text s)
 of_text CharToInt s = number (pos (first_byte s))
 of_text _ s = rejects BadArgument
 
@@ -89,7 +89,7 @@ abbrev pub lower : List ℕ → List ℕ
 lower s = map to_ascii_lowercase s
 
 abbrev pub of_texts : Primitive → List ℕ → List ℕ → Made
-of_texts StrCat s t = sized (s ++ t)
+of_texts StrCat s t = text_within (s ++ t)
 of_texts StrCmp s t = number (difference s t)
 of_texts StringCmp s t = number (difference (lower s) (lower t))
 of_texts _ s t = rejects BadArgument
@@ -102,7 +102,7 @@ of_sought InString s t = place (first_place (lower t) (lower s))
 of_sought RInString s t = place (last_place (lower t) (lower s))
 of_sought Split s t = around s (length t) (first_place t s)
 of_sought RSplit s t = around s (length t) (last_place t s)
-of_sought Explode s t = counted_texts (pieces t s)
+of_sought Explode s t = counted_texts (text_pieces t s)
 of_sought _ s t = rejects BadArgument
 
 -- what is sought may not be empty
@@ -111,37 +111,37 @@ seeking f s [] = rejects BadArgument
 seeking f s (b ∷ t) = f s (b ∷ t)
 
 abbrev pub subst : List ℕ → List ℕ → List ℕ → Made
-subst s t u = sized (substituted s t u)
+subst s t u = text_within (substituted s t u)
 
 -- A count is never below 0, and a place never below 1.
 
-abbrev pub cut_behind : List ℕ → ℤ → Made
-cut_behind s (pos n) = two_parts (take n s) (drop n s)
-cut_behind s (negsuc n) = rejects BadArgument
+abbrev pub text_cut_behind : List ℕ → ℤ → Made
+text_cut_behind s (pos n) = two_parts (take n s) (drop n s)
+text_cut_behind s (negsuc n) = rejects BadArgument
 
 abbrev pub first_compared : List ℕ → List ℕ → ℤ → Made
 first_compared s t (pos n) = number (difference (take n s) (take n t))
 first_compared s t (negsuc n) = rejects BadArgument
 
-abbrev pub middle : List ℕ → ℤ → ℤ → Made
-middle s (pos p) (pos n) = if p == 0 then rejects BadArgument else sized (take n (drop (p - 1) s))
-middle s _ _ = rejects BadArgument
+abbrev pub text_middle : List ℕ → ℤ → ℤ → Made
+text_middle s (pos p) (pos n) = if p == 0 then rejects BadArgument else text_within (take n (drop (p - 1) s))
+text_middle s _ _ = rejects BadArgument
 
 -- in decimal, with a `-` where it is negative
 abbrev pub in_decimal : ℤ → Made
-in_decimal i = sized (signed_decimal i)
+in_decimal i = text_within (signed_decimal i)
 
 abbrev pub character : ℤ → Made
-character i = sized (one_byte i)
+character i = text_within (one_byte i)
 
-abbrev pub text_row : Primitive → Option Deed
+abbrev pub text_row : Primitive → Option PrimitiveEffect
 text_row StrCat = Some (plain (two_texts (of_texts StrCat)))
 text_row StrCmp = Some (plain (two_texts (of_texts StrCmp)))
 text_row StringCmp = Some (plain (two_texts (of_texts StringCmp)))
 text_row StrNCmp = Some (plain (texts_and_int first_compared))
 text_row StrLen = Some (plain (one_text (of_text StrLen)))
-text_row StrCut = Some (plain (text_and_int cut_behind))
-text_row MidStr = Some (plain (text_and_ints middle))
+text_row StrCut = Some (plain (text_and_int text_cut_behind))
+text_row MidStr = Some (plain (text_and_ints text_middle))
 text_row InStr = Some (plain (two_texts (seeking (of_sought InStr))))
 text_row RInStr = Some (plain (two_texts (seeking (of_sought RInStr))))
 text_row InString = Some (plain (two_texts (seeking (of_sought InString))))

@@ -15,18 +15,18 @@ difference (b ∷ s) (c ∷ t) = if b == c then difference s t else pos b -ℤ p
 difference s t = pos (first_byte s) -ℤ pos (first_byte t)
 
 -- whether t stands in s at a place, from 0
-abbrev pub stands_at : List ℕ → List ℕ → ℕ → Bool
-stands_at t s k = nat_le (k + length t) (length s) && bytes_eq (take (length t) (drop k s)) t
+abbrev pub text_stands_at : List ℕ → List ℕ → ℕ → Bool
+text_stands_at t s k = nat_le (k + length t) (length s) && bytes_eq (take (length t) (drop k s)) t
 
 -- the first of n places, from k on, where t stands in s
 abbrev pub first_from : List ℕ → List ℕ → ℕ → ℕ → Option ℕ
 first_from t s k zero = None
-first_from t s k (suc n) = if stands_at t s k then Some k else first_from t s (k + 1) n
+first_from t s k (suc n) = if text_stands_at t s k then Some k else first_from t s (k + 1) n
 
 -- the last of the first n places where t stands in s
 abbrev pub last_below : List ℕ → List ℕ → ℕ → Option ℕ
 last_below t s zero = None
-last_below t s (suc n) = if stands_at t s n then Some n else last_below t s n
+last_below t s (suc n) = if text_stands_at t s n then Some n else last_below t s n
 
 -- the first place, from 0, where t stands in s, and the last
 unfoldable pub first_place : List ℕ → List ℕ → Option ℕ
@@ -41,24 +41,24 @@ cut_at t s go (Some k) = take k s ∷ go (drop (k + length t) s)
 cut_at t s go None = s ∷ []
 
 -- s cut at its first t's, n of them at most
-unfoldable pub cut : ℕ → List ℕ → List ℕ → List (List ℕ)
-cut zero t s = s ∷ []
-cut (suc n) t s = cut_at t s (cut n t) (first_place t s)
+unfoldable pub text_cut : ℕ → List ℕ → List ℕ → List (List ℕ)
+text_cut zero t s = s ∷ []
+text_cut (suc n) t s = cut_at t s (text_cut n t) (first_place t s)
 
 -- what stands between the t's in s, left to right; there are no more t's than bytes
-abbrev pub pieces : List ℕ → List ℕ → List (List ℕ)
-pieces t s = cut (length s) t s
+abbrev pub text_pieces : List ℕ → List ℕ → List (List ℕ)
+text_pieces t s = text_cut (length s) t s
 
 -- pieces with u between each two
-abbrev pub joined : List ℕ → List (List ℕ) → List ℕ
-joined u [] = []
-joined u (p ∷ []) = p
-joined u (p ∷ q ∷ ps) = p ++ (u ++ joined u (q ∷ ps))
+abbrev pub texts_joined : List ℕ → List (List ℕ) → List ℕ
+texts_joined u [] = []
+texts_joined u (p ∷ []) = p
+texts_joined u (p ∷ q ∷ ps) = p ++ (u ++ texts_joined u (q ∷ ps))
 
 -- s with a t for each u in it, left to right; s itself where u is empty
 abbrev pub substituted : List ℕ → List ℕ → List ℕ → List ℕ
 substituted s t [] = s
-substituted s t (b ∷ u) = joined t (pieces (b ∷ u) s)
+substituted s t (b ∷ u) = texts_joined t (text_pieces (b ∷ u) s)
 
 abbrev pub is_space : ℕ → Bool
 is_space b = b == 32
@@ -75,9 +75,9 @@ abbrev pub amount : ℕ → ℕ → List ℕ → ℕ
 amount most n bytes = if list_all is_digit bytes && nat_le (value_from n bytes) most then value_from n bytes else 0
 
 -- the number that a whole text writes, an optional `-` and digits, in 32 bits; else 0
-abbrev pub number_in : List ℕ → ℤ
-number_in [] = pos 0
-number_in (b ∷ bytes) = if b == 45 then neg_ℤ (pos (amount 2147483648 0 bytes)) else pos (amount 2147483647 0 (b ∷ bytes))
+abbrev pub number_in_text : List ℕ → ℤ
+number_in_text [] = pos 0
+number_in_text (b ∷ bytes) = if b == 45 then neg_ℤ (pos (amount 2147483648 0 bytes)) else pos (amount 2147483647 0 (b ∷ bytes))
 
 -- the text of one byte, where texts have such a byte, else the empty one
 abbrev pub one_byte : ℤ → List ℕ

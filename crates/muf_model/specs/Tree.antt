@@ -26,9 +26,9 @@ pub data Block : Type 0 where
   ring : Ring → ℕ → Block → Closer → ℕ → Block → Block
 
 -- How the items that remain end: by the word that closes them, or by ELSE or CATCH, which goes on after the choice.
-pub data End : Type 0 where
-  closes : Closer → ℕ → End
-  hops : Fork → ℕ → Block → End → End
+pub data BlockEnd : Type 0 where
+  closes : Closer → ℕ → BlockEnd
+  hops : Fork → ℕ → Block → BlockEnd → BlockEnd
 
 -- one block, and where it stops the other
 abbrev pub then_block : Block → Block → Block

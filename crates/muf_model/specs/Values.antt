@@ -8,8 +8,8 @@ use Rattle.muf_model.specs.Measures.{weight, nesting}
 use Rattle.muf_model.specs.Entries.{Rising}
 
 -- it isn't too heavy, and not nested too deep
-abbrev pub fits : Datum → Bool
-fits d = nat_le (weight d) 65536 && nat_le (nesting d) 64
+abbrev pub value_fits : Datum → Bool
+value_fits d = nat_le (weight d) 65536 && nat_le (nesting d) 64
 
 abbrev mutual
   -- the keys of each dictionary in it rise
@@ -34,7 +34,7 @@ abbrev mutual
 
 -- a value: it isn't too heavy, not nested too deep, and the keys of each dictionary in it rise
 pub record IsValue (d : Datum) : Type 0 where
-  pub fitting : fits d ≡ true
+  pub fitting : value_fits d ≡ true
   pub rising : KeysRise d
 
 -- a list or dictionary of values of this size isn't too heavy, and not nested too deep
@@ -50,15 +50,15 @@ pub record IsSized (d : Datum) (size : Size) : Type 0 where
 -- the size of a list, where that fits
 abbrev pub HasSize : List Datum → Option Size → Type 0
 HasSize ds (Some size) = IsSized (items (data_of ds)) size
-HasSize ds None = fits (items (data_of ds)) ≡ false
+HasSize ds None = value_fits (items (data_of ds)) ≡ false
 
 -- What is made: this, or nothing where it doesn't fit.
 abbrev pub Makes : {X : Type 0} → (X → Datum) → X → Option X → Type 0
-Makes whole wanted (Some made) = (fits (whole wanted) ≡ true) × (made ≡ wanted)
-Makes whole wanted None = fits (whole wanted) ≡ false
+Makes whole wanted (Some made) = (value_fits (whole wanted) ≡ true) × (made ≡ wanted)
+Makes whole wanted None = value_fits (whole wanted) ≡ false
 
 -- What becomes of what was: what is wanted, where that fits; else, and where memory was wanted, nothing has changed.
 abbrev pub Becomes : {X : Type 0} {U : Type 0} → (X → Datum) → X → X → X → Result U ValueFault → Type 0
-Becomes whole wanted old new (Ok _) = (fits (whole wanted) ≡ true) × (new ≡ wanted)
-Becomes whole wanted old new (Err TooHeavy) = (fits (whole wanted) ≡ false) × (new ≡ old)
-Becomes whole wanted old new (Err NoMemory) = (fits (whole wanted) ≡ true) × (new ≡ old)
+Becomes whole wanted old new (Ok _) = (value_fits (whole wanted) ≡ true) × (new ≡ wanted)
+Becomes whole wanted old new (Err TooHeavy) = (value_fits (whole wanted) ≡ false) × (new ≡ old)
+Becomes whole wanted old new (Err NoMemory) = (value_fits (whole wanted) ≡ true) × (new ≡ old)

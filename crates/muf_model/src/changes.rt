@@ -4,9 +4,9 @@ ghost use Rattle.std.specs.List.{insert, remove};
 ghost use Rattle.muf_model.specs.Datum.{items as list, dict, data_of, pairs_of};
 ghost use Rattle.muf_model.specs.inner.View.{view, pair_view};
 ghost use Rattle.muf_model.specs.Measures.{data_weight, data_nesting};
-ghost use Rattle.muf_model.specs.Entries.{key_datum, with_entry, without, above, gathered, Rising};
-ghost use Rattle.muf_model.specs.ArrayRows.{key_of};
-ghost use Rattle.muf_model.specs.Values.{fits, IsValue, IsSized, Makes, Becomes};
+ghost use Rattle.muf_model.specs.Entries.{key_datum, with_entry, without_key, entries_above, gathered, Rising};
+ghost use Rattle.muf_model.specs.ArrayRows.{map_key_of};
+ghost use Rattle.muf_model.specs.Values.{value_fits, IsValue, IsSized, Makes, Becomes};
 
 use crate::dicts::{entry_place, has_key, put_entry, size_put};
 use crate::held::{Held, size_with};
@@ -42,7 +42,7 @@ fn size_inserted(values: &[Value], size: Size, at: usize, value: &Value) -> Size
 }
 
 // One value more, at a place.
-#[tactic(auto, using(crate::proofs::Entries::map_insert))]
+#[tactic(auto, using(muck_laws::proofs::Places::map_insert))]
 fn insert_value(values: &mut Vec<Value>, at: usize, value: Value) -> Result<(), NoMemory>
     requires { at ≤ length values.old.items }
     ensures ok { OnOk result (map view values.new.items ≡ insert (map view values.old.items) at (view value)) }
@@ -53,7 +53,7 @@ fn insert_value(values: &mut Vec<Value>, at: usize, value: Value) -> Result<(), 
 }
 
 // The values without the one at a place.
-#[tactic(auto, using(crate::proofs::Edited::map_remove))]
+#[tactic(auto, using(muck_laws::proofs::Places::map_remove))]
 fn remove_value(values: &mut Vec<Value>, at: usize)
     requires { at < length values.old.items }
     ensures { map view values.new.items ≡ remove (map view values.old.items) at }
@@ -62,7 +62,7 @@ fn remove_value(values: &mut Vec<Value>, at: usize)
 }
 
 // The pairs without the one at a place.
-#[tactic(auto, using(crate::proofs::Edited::map_remove))]
+#[tactic(auto, using(muck_laws::proofs::Places::map_remove))]
 fn remove_pair(pairs: &mut Vec<Pair>, at: usize)
     requires { at < length pairs.old.items }
     ensures { map pair_view pairs.new.items ≡ remove (map pair_view pairs.old.items) at }
@@ -73,7 +73,7 @@ fn remove_pair(pairs: &mut Vec<Pair>, at: usize)
 impl ValueList {
     /// Whether it would be a value with one more, wherever that comes.
     pub fn has_room(&self, value: &Value) -> bool
-        ensures { (at : ℕ) → result ≡ fits (list (data_of (insert self.now at (view value.now)))) }
+        ensures { (at : ℕ) → result ≡ value_fits (list (data_of (insert self.now at (view value.now)))) }
     {
         self.size().with(value).fits()
     }
@@ -81,7 +81,7 @@ impl ValueList {
     /// Whether it would be a value with another one at a place, which is there.
     pub fn has_room_at(&self, at: usize, value: &Value) -> bool
         requires { at < length self.now }
-        ensures { result ≡ fits (list (data_of (slice_set self.now at (view value.now)))) }
+        ensures { result ≡ value_fits (list (data_of (slice_set self.now at (view value.now)))) }
     {
         size_with(&self.items, self.size, at, value).fits()
     }
@@ -115,7 +115,7 @@ impl ValueList {
 // The place of the first greater key, or the length.
 fn place_above(pairs: &[Pair], key: &MapKey) -> usize
     requires { Rising (map pair_view pairs.now) }
-    ensures value { drop result (map pair_view pairs.now) ≡ above key.now (map pair_view pairs.now) }
+    ensures value { drop result (map pair_view pairs.now) ≡ entries_above key.now (map pair_view pairs.now) }
     ensures most { result ≤ length pairs.now }
 {
     let at = entry_place(pairs, key);
@@ -150,7 +150,7 @@ impl ValueMap {
 
     /// Whether it would be a value if a key had this value.
     pub fn has_room(&self, key: &MapKey, value: &Value) -> bool
-        ensures { result ≡ fits (dict (pairs_of (with_entry key.now (view value.now) self.now))) }
+        ensures { result ≡ value_fits (dict (pairs_of (with_entry key.now (view value.now) self.now))) }
     {
         let at = entry_place(&self.pairs, key);
         size_put(&self.pairs, self.size, at, key, value).fits()
@@ -158,7 +158,7 @@ impl ValueMap {
 
     /// The place of the first greater key, or the length.
     pub fn place_above(&self, key: &MapKey) -> usize
-        ensures value { drop result self.now ≡ above key.now self.now }
+        ensures value { drop result self.now ≡ entries_above key.now self.now }
         ensures most { result ≤ length self.now }
     {
         place_above(&self.pairs, key)
@@ -166,7 +166,7 @@ impl ValueMap {
 
     /// Drops the value of a key, where it has one. It takes no memory.
     pub fn remove(&mut self, key: &MapKey)
-        ensures { self.new ≡ without key.now self.old }
+        ensures { self.new ≡ without_key key.now self.old }
     {
         let at = entry_place(&self.pairs, key);
         if has_key(&self.pairs, at, key) {
@@ -192,7 +192,7 @@ impl MapKey {
 impl Value {
     /// The key that it is; `None` exactly where it is none.
     pub fn to_key(&self) -> Result<Option<MapKey>, NoMemory>
-        ensures { IfOk result (λ key. key ≡ key_of (view self.now)) }
+        ensures { IfOk result (λ key. key ≡ map_key_of (view self.now)) }
     {
         match self {
             Value::Int(number) => Ok(Some(MapKey::Number(*number))),

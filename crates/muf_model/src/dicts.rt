@@ -6,7 +6,7 @@ ghost use Rattle.muf_model.specs.declared.value.MapKey.{MapKey as Key};
 ghost use Rattle.muf_model.specs.Datum.{dict as whole, pairs_of};
 ghost use Rattle.muf_model.specs.inner.View.{view, pair_view};
 ghost use Rattle.muf_model.specs.Measures.{pairs_weight, pairs_nesting};
-ghost use Rattle.muf_model.specs.Entries.{key_same, entry_of, with_entry, entry_place, has_key, Rising};
+ghost use Rattle.muf_model.specs.Entries.{key_same, value_of_key, with_entry, entry_place, has_key, Rising};
 ghost use Rattle.muf_model.specs.Values.{IsValue, IsSized, Becomes};
 
 use crate::held::size_with;
@@ -94,7 +94,7 @@ pub(crate) fn has_key(pairs: &[Pair], at: usize, key: &MapKey) -> bool
 // The value of a key among entries whose keys rise.
 fn value_of<'a>(pairs: &'a [Pair], key: &MapKey) -> Option<&'a Value>
     requires { Rising (map pair_view pairs.now) }
-    ensures { option_map view (option_copied result) ≡ entry_of key.now (map pair_view pairs.now) }
+    ensures { option_map view (option_copied result) ≡ value_of_key key.now (map pair_view pairs.now) }
 {
     let at = entry_place(pairs, key);
     if has_key(pairs, at, key) {
@@ -177,7 +177,7 @@ impl ValueMap {
 
     /// The value of a key; `None` exactly where the key has none.
     pub fn get(&self, key: &MapKey) -> Option<&Value>
-        ensures { option_map view (option_copied result) ≡ entry_of key.now self.now }
+        ensures { option_map view (option_copied result) ≡ value_of_key key.now self.now }
     {
         value_of(&self.pairs, key)
     }
@@ -187,8 +187,8 @@ impl ValueMap {
     /// dropped.
     pub fn put(&mut self, key: MapKey, value: Value) -> Result<(), ValueFault>
         ensures entries { Becomes (λ es. whole (pairs_of es)) (with_entry key (view value) self.old) self.old self.new result }
-        ensures found { OnOk result (entry_of key self.new ≡ Some (view value)) }
-        ensures others { OnOk result ((k : Key) → key_same k key ≡ false → entry_of k self.new ≡ entry_of k self.old) }
+        ensures found { OnOk result (value_of_key key self.new ≡ Some (view value)) }
+        ensures others { OnOk result ((k : Key) → key_same k key ≡ false → value_of_key k self.new ≡ value_of_key k self.old) }
     {
         let at = entry_place(&self.pairs, &key);
         let size = size_put(&self.pairs, self.size, at, &key, &value);

@@ -2,7 +2,7 @@
 ghost use Rattle.std.specs.Prelude.{◌≡◌, None, IfOk};
 ghost use Rattle.muck_model.specs.Bytes.{text_fault};
 ghost use Rattle.muf_model.specs.declared.fault.MufFault.TheVariants.{Denied};
-ghost use Rattle.muf_model.specs.Faults.{number_of, text_of, is_final, IsFixedText};
+ghost use Rattle.muf_model.specs.Faults.{number_of, fault_text, is_final, IsFixedText};
 
 use crate::Text;
 use muck_model::{Line, LineFault, NoMemory};
@@ -118,7 +118,7 @@ impl MufFault {
 
     /// Its text, which a TRY that catches it gets to see.
     pub fn text(&self, alloc: Global) -> Result<Text, NoMemory>
-        ensures { IfOk result (λ text. text ≡ text_of self.now) }
+        ensures { IfOk result (λ text. text ≡ fault_text self.now) }
     {
         match self {
             MufFault::Aborted(text) => text.share(),
@@ -143,7 +143,7 @@ fn known_text(alloc: Global, bytes: &[u8]) -> Result<Text, NoMemory>
 // What a denial by a rule says.
 #[tactic(auto, using(crate::proofs::FaultTexts::denied_is_text))]
 fn denial_text(alloc: Global, rule: u8) -> Result<Text, NoMemory>
-    ensures { IfOk result (λ text. text ≡ text_of (Denied rule)) }
+    ensures { IfOk result (λ text. text ≡ fault_text (Denied rule)) }
 {
     let bytes = format!(in alloc; "Permission denied (P{rule}).")?;
     known_text(alloc, bytes.as_bytes())

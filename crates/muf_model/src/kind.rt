@@ -1,7 +1,7 @@
 // The kinds of values.
 ghost use Rattle.std.specs.Prelude.{◌≡◌};
 ghost use Rattle.muf_model.specs.inner.View.{view};
-ghost use Rattle.muf_model.specs.Kinds.{kind_of};
+ghost use Rattle.muf_model.specs.Kinds.{kind_of_item};
 
 use crate::Value;
 
@@ -22,7 +22,7 @@ pub enum ItemKind {
 impl Value {
     /// Its kind.
     pub fn kind(&self) -> ItemKind
-        ensures { result ≡ kind_of (view self.now) }
+        ensures { result ≡ kind_of_item (view self.now) }
     {
         match self {
             Value::Int(_) => ItemKind::Int,

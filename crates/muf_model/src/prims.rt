@@ -4,7 +4,7 @@ ghost use Rattle.std.specs.List.{list_all};
 ghost use Rattle.std.specs.Option.{option_map};
 ghost use Rattle.muf_model.specs.Needs.{shown_needs};
 ghost use Rattle.muf_model.specs.Rows.{is_settled};
-ghost use Rattle.muf_model.specs.Prims.{row_of, shown_row, level_of, is_local, is_there, family_of, needs_of, name_of, primitives, named, is_named, named_in_any_case};
+ghost use Rattle.muf_model.specs.Prims.{row_of_primitive, shown_row, primitive_level, is_local, is_usable, family_of, needs_of, name_of, primitives, named, is_named, named_in_any_case};
 
 use crate::needs::{
     A_COLLECTION, A_LOCK, A_NUMBERED, A_TEXT, A_VARIABLE, AN_ADDRESS, AN_INT, COUNTED_ITEMS,
@@ -230,7 +230,7 @@ impl Primitive {
     /// Its row in the table of all primitives.
     #[inline(always)]
     pub fn row(self) -> Row
-        ensures { shown_row result ≡ row_of self }
+        ensures { shown_row result ≡ row_of_primitive self }
     {
         match self {
             Primitive::Pop => row!(b"POP", 1, Stack, ITEM),
@@ -338,7 +338,7 @@ impl Primitive {
     #[inline(always)]
     fn shared_row(self) -> Row
         requires { is_local self ≡ false }
-        ensures { shown_row result ≡ row_of self }
+        ensures { shown_row result ≡ row_of_primitive self }
     {
         match self {
             Primitive::Name => row!(b"NAME", 1, Object, ONE_NEAR),
@@ -423,7 +423,7 @@ impl Primitive {
 
     /// The level that a program needs to use it.
     pub fn level(self) -> u8
-        ensures { result ≡ level_of self }
+        ensures { result ≡ primitive_level self }
     {
         self.row().level
     }
@@ -454,7 +454,7 @@ impl Primitive {
 
     /// Whether programs may use it; a program that names another one doesn't compile.
     pub fn is_there(self) -> bool
-        ensures { result ≡ is_there self }
+        ensures { result ≡ is_usable self }
     {
         self.needs().is_some()
     }

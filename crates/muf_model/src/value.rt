@@ -1,8 +1,8 @@
 // The values of a program.
 ghost use Rattle.std.specs.Prelude.{◌≡◌, IfOk};
 ghost use Rattle.muf_model.specs.inner.View.{view};
-ghost use Rattle.muf_model.specs.Measures.{is_true, key_below};
-ghost use Rattle.muf_model.specs.StackRows.{truth};
+ghost use Rattle.muf_model.specs.Measures.{is_true_item, key_below};
+ghost use Rattle.muf_model.specs.StackRows.{truth_item};
 
 use crate::{Shared, Size, Text, VarId};
 use muck_model::{Dbref, Lock, NoMemory};
@@ -111,7 +111,7 @@ pub enum MapKey {
 impl Value {
     /// The integer of a truth: 1 or 0.
     pub fn truth(yes: bool) -> Value
-        ensures { view result ≡ truth yes }
+        ensures { view result ≡ truth_item yes }
     {
         if yes { Value::Int(1) } else { Value::Int(0) }
     }
@@ -139,7 +139,7 @@ impl Value {
     /// Whether it counts as true: all do but 0, the empty text, `#-1`, the free lock, the empty list and dictionary,
     /// and a mark.
     pub fn is_true(&self) -> bool
-        ensures { result ≡ is_true (view self.now) }
+        ensures { result ≡ is_true_item (view self.now) }
     {
         match self {
             Value::Int(n) => *n != 0,

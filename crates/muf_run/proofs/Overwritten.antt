@@ -1,10 +1,11 @@
 -- What a variable holds that is stored to, and isn't read before, makes no difference.
 use Rattle.std.proofs.Common.{◌≡◌, ℕ, zero, suc, ◌+◌, ◌-◌, ◌≤◌, ◌<◌, List, [], ◌∷◌, length, drop, Bool, true, false, refl, sym, ap, subst, ◌∙◌, arith}
-use Rattle.std.specs.Prelude.{ℤ, Option, Some, None, slice_get, slice_set, is_some, IfSome, nat_lt, if◌then◌else◌}
+use Rattle.std.specs.Prelude.{ℤ, Option, Some, None, slice_get, slice_set, is_some, nat_lt, if◌then◌else◌}
 use Rattle.std.specs.Ordering.{int_eq}
 use Rattle.std.proofs.lemmas.Bool.{le-ltb}
-use Rattle.std.proofs.lemmas.Bool.Decides.{Decides-int_eq}
 use Rattle.std.proofs.lemmas.List.{set-set, length-drop}
+use Rattle.muck_laws.proofs.Numbers.{int_equal_itself}
+use Rattle.muck_laws.proofs.Places.{get_drop}
 use Rattle.muf_model.specs.declared.code.Code.{Code}
 use Rattle.muf_model.specs.declared.code.VarId.{VarId}
 use Rattle.muf_model.specs.declared.code.Word.{Word}
@@ -13,15 +14,14 @@ use Rattle.muf_model.specs.declared.code.Instr.TheVariants.{Plain, Begin}
 use Rattle.muf_model.specs.declared.prims.Primitive.TheVariants.{Store}
 use Rattle.muf_model.specs.Datum.{Datum, variable}
 use Rattle.muf_model.specs.Answer.{gives, stores, Scope, variable_at, owned_first, call_first}
-use Rattle.muf_model.specs.Needs.{a_variable, any}
-use Rattle.muf_model.specs.StackRows.{stored, storing}
+use Rattle.muf_model.specs.Needs.{a_variable, anything}
+use Rattle.muf_model.specs.StackRows.{item_stored, variable_storing}
 use Rattle.muf_model.specs.Rows.{primitive}
-use Rattle.muf_model.specs.Source.{Owned, owned_by, with_owned}
+use Rattle.muf_model.specs.Source.{Owned, variables_owned_by, with_owned}
 use Rattle.muf_model.specs.inner.Flat.{Flat}
 use Rattle.muf_frame.specs.inner.Shown.{locked_by}
 use Rattle.muf_frame.specs.inner.Moves.{scope_of, with_variable}
 use Rattle.muf_frame.specs.inner.Answers.{Became}
-use Rattle.muf_frame.proofs.Data.{get_drop}
 use Rattle.muf_frame.proofs.Ladders.{used_whole}
 use Rattle.muf_array.specs.declared.changers.Changer.{Changer}
 use Rattle.muf_array.specs.declared.changers.Changer.TheVariants.{SetItem, InsertItem, AppendItem, DelItem}
@@ -35,23 +35,20 @@ use Rattle.muf_run.proofs.GoesOn.{quick_fits}
 
 -- ---- the variables of a program
 
-same_number : (n : ℤ) → int_eq n n ≡ true
-same_number n = (Decides-int_eq n n).1 refl
-
-read_cases : (n : ℤ) (vs : List Datum) (o : Owned) (os : List Owned) (b : Bool) → int_eq o.program n ≡ b → owned_by n (with_owned n vs os) ≡ vs → owned_by n (if b then record { program = n; values = vs } ∷ os else o ∷ with_owned n vs os) ≡ vs
-read_cases n vs o os true e h = rw (same_number n) refl
+read_cases : (n : ℤ) (vs : List Datum) (o : Owned) (os : List Owned) (b : Bool) → int_eq o.program n ≡ b → variables_owned_by n (with_owned n vs os) ≡ vs → variables_owned_by n (if b then record { program = n; values = vs } ∷ os else o ∷ with_owned n vs os) ≡ vs
+read_cases n vs o os true e h = rw (int_equal_itself n) refl
 read_cases n vs o os false e h = rw e h
 
-read_again : (n : ℤ) (vs : List Datum) (os : List Owned) → owned_by n (with_owned n vs os) ≡ vs
-read_again n vs [] = rw (same_number n) refl
+read_again : (n : ℤ) (vs : List Datum) (os : List Owned) → variables_owned_by n (with_owned n vs os) ≡ vs
+read_again n vs [] = rw (int_equal_itself n) refl
 read_again n vs (o ∷ os) = read_cases n vs o os (int_eq o.program n) refl (read_again n vs os)
 
 write_cases : (n : ℤ) (vs ws : List Datum) (o : Owned) (os : List Owned) (b : Bool) → int_eq o.program n ≡ b → with_owned n ws (with_owned n vs os) ≡ with_owned n ws os → with_owned n ws (if b then record { program = n; values = vs } ∷ os else o ∷ with_owned n vs os) ≡ (if b then record { program = n; values = ws } ∷ os else o ∷ with_owned n ws os)
-write_cases n vs ws o os true e h = rw (same_number n) refl
+write_cases n vs ws o os true e h = rw (int_equal_itself n) refl
 write_cases n vs ws o os false e h = rw e (ap (λ r. o ∷ r) h)
 
 write_again : (n : ℤ) (vs ws : List Datum) (os : List Owned) → with_owned n ws (with_owned n vs os) ≡ with_owned n ws os
-write_again n vs ws [] = rw (same_number n) refl
+write_again n vs ws [] = rw (int_equal_itself n) refl
 write_again n vs ws (o ∷ os) = write_cases n vs ws o os (int_eq o.program n) refl (write_again n vs ws os)
 
 -- ---- a variable that is set twice
@@ -60,7 +57,7 @@ write_again n vs ws (o ∷ os) = write_cases n vs ws o os (int_eq o.program n) r
 abbrev written : Bool → Bool → ℕ → Datum → Flat → Flat
 written common owned v x f =
     if common then record f { common = slice_set f.common v x }
-    else (if owned then record f { owned = with_owned f.program (slice_set (owned_by f.program f.owned) (v - owned_first) x) f.owned }
+    else (if owned then record f { owned = with_owned f.program (slice_set (variables_owned_by f.program f.owned) (v - owned_first) x) f.owned }
     else record f { variables = slice_set f.variables (f.base + (v - call_first)) x })
 
 abbrev standing : List Datum → ℕ → Flat → Flat
@@ -70,10 +67,10 @@ twice : (a b : Bool) (v : ℕ) (x y : Datum) (stack : List Datum) (place : ℕ) 
 twice true b v x y stack place f = ap (λ l. record (standing stack place f) { common = l }) (set-set f.common v x y)
 twice false true v x y stack place f =
     let i = v - owned_first in
-    let vs = slice_set (owned_by f.program f.owned) i x in
+    let vs = slice_set (variables_owned_by f.program f.owned) i x in
     ap (λ l. record (standing stack place f) { owned = with_owned f.program (slice_set l i y) (with_owned f.program vs f.owned) }) (read_again f.program vs f.owned)
-    ∙ ap (λ l. record (standing stack place f) { owned = with_owned f.program l (with_owned f.program vs f.owned) }) (set-set (owned_by f.program f.owned) i x y)
-    ∙ ap (λ l. record (standing stack place f) { owned = l }) (write_again f.program vs (slice_set (owned_by f.program f.owned) i y) f.owned)
+    ∙ ap (λ l. record (standing stack place f) { owned = with_owned f.program l (with_owned f.program vs f.owned) }) (set-set (variables_owned_by f.program f.owned) i x y)
+    ∙ ap (λ l. record (standing stack place f) { owned = l }) (write_again f.program vs (slice_set (variables_owned_by f.program f.owned) i y) f.owned)
 twice false false v x y stack place f = ap (λ l. record (standing stack place f) { variables = l }) (set-set f.variables (f.base + (v - call_first)) x y)
 
 kept_marks : (a b : Bool) (v : ℕ) (x : Datum) (f : Flat) → (written a b v x f).marks ≡ f.marks
@@ -107,7 +104,7 @@ still_there : (a b : Bool) (v : ℕ) (x : Datum) (words : ℕ) (f : Flat) → is
 still_there true b v x words f = set_there f.common v x
 still_there false true v x words f =
     let i = v - owned_first in
-    ap (λ l. is_some (slice_get l i)) (read_again f.program (slice_set (owned_by f.program f.owned) i x) f.owned) ∙ set_there (owned_by f.program f.owned) i x
+    ap (λ l. is_some (slice_get l i)) (read_again f.program (slice_set (variables_owned_by f.program f.owned) i x) f.owned) ∙ set_there (variables_owned_by f.program f.owned) i x
 still_there false false v x words f =
     let i = v - call_first in
     ap is_some (get_drop f.base i (slice_set f.variables (f.base + i) x))
@@ -115,11 +112,6 @@ still_there false false v x words f =
     ∙ ap is_some (sym (get_drop f.base i f.variables))
 
 -- ---- the three units
-
--- what is there is as it was asked
-pub some_mapped : {A : Type 0} → (P Q : A → Type 0) (o : Option A) → ((x : A) → P x → Q x) → IfSome o P → IfSome o Q
-some_mapped P Q (Some x) f h = f x h
-some_mapped P Q None f h = h
 
 -- a word that goes on is a unit
 word_ends : (code : Code) (f g : Flat) (w : Word) → HasWord code f.place w → machine.word code w (f.place + 1) f ≡ going 0 g → UnitEnds code f (going 0 g)
@@ -135,15 +127,15 @@ changed_word DelItem code next stack f e = ap (λ a. machine.answered code a (re
 named_word : (v : VarId) (code : Code) (next : ℕ) (f : Flat) → length f.stack < 1024 → machine.word code (Variable v) next f ≡ going 0 (record f { stack = variable v.0 ∷ f.stack; place = next })
 named_word v code next f h = rw (le-ltb 1024 (length (variable v.0 ∷ f.stack)) (omega (arith, h))) refl
 
-some_stored : (o : Option Datum) (v : ℕ) (x : Datum) (rest : List Datum) → is_some o ≡ true → stored o v x rest ≡ stores v x rest
+some_stored : (o : Option Datum) (v : ℕ) (x : Datum) (rest : List Datum) → is_some o ≡ true → item_stored o v x rest ≡ stores v x rest
 some_stored (Some old) v x rest e = refl
 some_stored None v x rest e = cc
 
 store_row : (s : Scope) (v : ℕ) (x : Datum) (rest : List Datum) → s.locked ≤ length rest → is_some (variable_at v s) ≡ true → primitive Store s (variable v ∷ x ∷ rest) ≡ stores v x rest
 store_row s v x rest h e =
     let l : s.locked + 2 ≤ length (variable v ∷ x ∷ rest) = omega (arith, h) in
-    used_whole 1 a_variable (any ∷ []) storing s (variable v ∷ x ∷ rest)
-    ∙ enough 2 s.locked (variable v ∷ x ∷ rest) (stored (variable_at v s) v x rest) l
+    used_whole 1 a_variable (anything ∷ []) variable_storing s (variable v ∷ x ∷ rest)
+    ∙ enough 2 s.locked (variable v ∷ x ∷ rest) (item_stored (variable_at v s) v x rest) l
     ∙ some_stored (variable_at v s) v x rest e
 
 stored_word : (v : ℕ) (code : Code) (next : ℕ) (x : Datum) (rest : List Datum) (f : Flat) → locked_by f.marks ≤ length rest → is_some (variable_at v (scope_of (length code.words) f)) ≡ true → machine.word code (Primitive Store) next (record f { stack = variable v ∷ x ∷ rest }) ≡ going 0 (with_variable v x (record f { stack = rest; place = next }))

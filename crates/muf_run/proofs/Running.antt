@@ -1,6 +1,5 @@
 -- Runs of units.
 use Rattle.std.proofs.Common.{◌≡◌, ℕ, zero, suc, ◌+◌, ◌-◌, ◌<◌, ◌≤◌, List, ◌∷◌, refl, sym, ap, subst, ◌∙◌, arith}
-use Rattle.std.specs.Prelude.{Result, Ok, Err, IfOk}
 use Rattle.muf_model.specs.declared.code.Code.{Code}
 use Rattle.muf_model.specs.Source.{Source}
 use Rattle.muf_model.specs.Unit.{Outcome, goes, ended, faulted, asks, stuck, unit, units, and_then}
@@ -107,14 +106,6 @@ going_far most k n code codes f g s t within l h nested e d =
     let less : most - k - n ≡ most - (k + n) = omega arith in
     let sum : k + (n + taken (most - k - n) r.0) ≡ k + n + taken (most - (k + n)) r.0 = ap (λ j. k + (n + taken j r.0)) less ∙ omega arith in
     (r.0, r.1, r.2, e ∙ r.3 (most - k) within ∙ ap (λ j. units j r.0) less, d ∙ ap (λ j. k + j) (r.4 (most - k) within) ∙ sum)
-
--- what is known of a result, by what it was
-pub over_by : {A E : Type 0} {r : Result A E} {x : A} → (P : A → Type 0) → r ≡ Ok x → IfOk r P → P x
-over_by P e h = subst (λ r. IfOk r P) e h
-
-pub mapped : {A E : Type 0} → (P Q : A → Type 0) (r : Result A E) → ((x : A) → P x → Q x) → IfOk r P → IfOk r Q
-mapped P Q (Ok x) f h = f x h
-mapped P Q (Err e) f h = h
 
 -- the unit with which a run is over
 pub units_over : (n k : ℕ) (codes : List Code) (ran : Ran) (f : Flat) (t : Source) → k < n → (ran ≡ Going 0 → ⊥) → Nested t → EndsAlike codes (next_of ran f) (unit t) → RunsAlike codes (local_of ran) f (units (n - k) t)

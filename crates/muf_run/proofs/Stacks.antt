@@ -2,7 +2,6 @@
 use Rattle.std.proofs.Common.{◌≡◌, ℕ, ◌+◌, ◌≤◌, List, [], ◌∷◌, length, Option, Some, None, true, false, refl, sym, ap, ◌∙◌, arith, length-drop, map}
 use Rattle.std.specs.Prelude.{is_some}
 use Rattle.std.proofs.lemmas.Bool.{le-ltb}
-use Rattle.std.specs.Option.{option_map}
 use Rattle.std.proofs.lemmas.List.{length-map}
 use Rattle.muf_model.specs.declared.value.Value.{Value}
 use Rattle.muf_model.specs.inner.View.{view}
@@ -41,10 +40,6 @@ some_kept v None x rest s e = cc
 pub keep_some : (v : ℕ) (s : Flat) (x : Datum) (rest : List Datum) → s.stack ≡ x ∷ rest → locked_by s.marks + 1 ≤ length s.stack → is_some (variable_at v (scope_of 0 s)) ≡ true → machine.keeping v s ≡ going 0 (with_variable v x (record s { stack = rest }))
 keep_some v s x rest t h e =
     rw (le-ltb _ _ h) (ap (λ l. machine.kept v l s) t ∙ some_kept v (variable_at v (scope_of 0 s)) x rest s e)
-
-pub some_mapped : {A B : Type 0} → (f : A → B) (o : Option A) → is_some (option_map f o) ≡ is_some o
-some_mapped f (Some x) = refl
-some_mapped f None = refl
 
 pub height_alike : (k : ℕ) (xs : List Value) → k ≤ length xs → k ≤ length (map view xs)
 height_alike k xs h = rw (length-map xs view) h

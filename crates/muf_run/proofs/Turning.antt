@@ -8,18 +8,18 @@ use Rattle.muf_model.specs.Datum.{Datum, int, data_of, pairs_of}
 use Rattle.muf_model.specs.inner.View.{view, pair_view}
 use Rattle.muf_model.specs.Source.{pairs}
 use Rattle.muf_model.specs.Entries.{key_datum}
-use Rattle.muf_model.specs.Unit.{numbered, keyed}
+use Rattle.muf_model.specs.Unit.{values_numbered, keyed}
 use Rattle.muf_model.specs.inner.Flat.{FlatMark, loop, Flat}
 use Rattle.muf_run.specs.inner.Machine as machine
 use Rattle.muf_run.specs.inner.Keys.{pull, turn_with}
 
-pub values_end : (xs : List Value) (n at : ℕ) → slice_get xs at ≡ None → drop at (numbered n (data_of (map view xs))) ≡ []
+pub values_end : (xs : List Value) (n at : ℕ) → slice_get xs at ≡ None → drop at (values_numbered n (data_of (map view xs))) ≡ []
 values_end [] n zero e = refl
 values_end [] n (suc at) e = refl
 values_end (x ∷ xs) n zero e = cc
 values_end (x ∷ xs) n (suc at) e = values_end xs (suc n) at e
 
-pub values_next : (xs : List Value) (n at : ℕ) (x : Value) → slice_get xs at ≡ Some x → drop at (numbered n (data_of (map view xs))) ≡ (int (pos (n + at)), view x) ∷ drop (at + 1) (numbered n (data_of (map view xs)))
+pub values_next : (xs : List Value) (n at : ℕ) (x : Value) → slice_get xs at ≡ Some x → drop at (values_numbered n (data_of (map view xs))) ≡ (int (pos (n + at)), view x) ∷ drop (at + 1) (values_numbered n (data_of (map view xs)))
 values_next [] n zero x e = cc
 values_next [] n (suc at) x e = cc
 values_next (y ∷ xs) n zero x e =
@@ -53,13 +53,13 @@ pair_turn [] again after s ms = refl
 pair_turn (p ∷ left) again after s ms = refl
 
 -- the same by the data of the collection
-pub no_value : (xs : List Value) (ds : List Datum) (at : ℕ) → map view xs ≡ ds → slice_get xs at ≡ None → pull (drop at (numbered 0 (data_of ds))) ≡ None
+pub no_value : (xs : List Value) (ds : List Datum) (at : ℕ) → map view xs ≡ ds → slice_get xs at ≡ None → pull (drop at (values_numbered 0 (data_of ds))) ≡ None
 no_value xs ds at e n = rw (← e) (ap pull (values_end xs 0 at n))
 
-pub a_value : (xs : List Value) (ds : List Datum) (at : ℕ) (x : Value) → map view xs ≡ ds → slice_get xs at ≡ Some x → pull (drop at (numbered 0 (data_of ds))) ≡ Some ((int (pos at), view x), pairs (drop (at + 1) (numbered 0 (data_of ds))))
+pub a_value : (xs : List Value) (ds : List Datum) (at : ℕ) (x : Value) → map view xs ≡ ds → slice_get xs at ≡ Some x → pull (drop at (values_numbered 0 (data_of ds))) ≡ Some ((int (pos at), view x), pairs (drop (at + 1) (values_numbered 0 (data_of ds))))
 a_value xs ds at x e n =
     let k : 0 + at ≡ at = omega arith in
-    rw (← e) (ap pull (values_next xs 0 at x n) ∙ ap (λ i. Some ((int (pos i), view x), pairs (drop (at + 1) (numbered 0 (data_of (map view xs)))))) k)
+    rw (← e) (ap pull (values_next xs 0 at x n) ∙ ap (λ i. Some ((int (pos i), view x), pairs (drop (at + 1) (values_numbered 0 (data_of (map view xs)))))) k)
 
 pub no_entry : (xs : List Pair) (ds : List (MapKey × Datum)) (at : ℕ) → map pair_view xs ≡ ds → slice_get xs at ≡ None → pull (drop at (keyed (pairs_of ds))) ≡ None
 no_entry xs ds at e n = rw (← e) (ap pull (entries_end xs at n))

@@ -3,7 +3,7 @@ ghost use Rattle.std.specs.Prelude.{◌≡◌, ◌<◌, ◌+◌, ℕ, IfOk, slic
 ghost use Rattle.std.specs.Arc.{arc_value};
 ghost use Rattle.muf_model.specs.Datum.{int, data_of, pairs_of};
 ghost use Rattle.muf_model.specs.inner.View.{view};
-ghost use Rattle.muf_model.specs.Unit.{numbered, keyed};
+ghost use Rattle.muf_model.specs.Unit.{values_numbered, keyed};
 ghost use Rattle.muf_model.specs.inner.Flat.{Flat};
 ghost use Rattle.muf_frame.specs.inner.Shown.{flat, flat_turns, opened_by};
 ghost use Rattle.muf_run.specs.inner.Keys.{pull, pulled_data, turn_with};
@@ -107,7 +107,7 @@ fn number_value(number: usize) -> Value
 
 // A value of a list, with its number.
 fn value_at(of: Arc<ValueList>, at: usize) -> Result<Option<Pulled>, NoMemory>
-    ensures { IfOk result (λ pulled. option_map pulled_data pulled ≡ pull (drop at (numbered 0 (data_of (arc_value of))))) }
+    ensures { IfOk result (λ pulled. option_map pulled_data pulled ≡ pull (drop at (values_numbered 0 (data_of (arc_value of))))) }
 {
     let value = match value_in(of.as_slice(), at) {
         None => return Ok(None),

@@ -1,10 +1,10 @@
 -- What a frame and the codes of its programs stand for after each step.
-use Rattle.std.proofs.Common.{◌≡◌, ℕ, zero, suc, ◌+◌, ◌-◌, ◌<◌, List, [], ◌∷◌, ◌++◌, length, take, drop, map, reverse, Option, Some, None, cond, refl, sym, ap, subst, ◌∙◌, arith}
+use Rattle.std.proofs.Common.{◌≡◌, ℕ, zero, suc, ◌+◌, ◌<◌, List, [], ◌∷◌, ◌++◌, length, drop, map, reverse, Option, Some, None, cond, refl, sym, ap, subst, ◌∙◌, arith}
 use Rattle.std.specs.Prelude.{ℤ, slice_get, slice_set, is_some, true, ◌||◌}
 use Rattle.std.specs.Ordering.{int_eq}
 use Rattle.std.specs.List.{list_any}
 use Rattle.std.specs.Option.{option_map}
-use Rattle.std.proofs.lemmas.List.{drop-map, reverse-reverse, length-reverse}
+use Rattle.std.proofs.lemmas.List.{drop-map}
 use Rattle.std.proofs.lemmas.List.Sorted.{IsPermutation-reverse, list_any-IsPermutation}
 use Rattle.std.proofs.lemmas.Bool.{lt-ltb}
 use Rattle.std.proofs.lemmas.Option.{slice_get-map, slice_get_within, slice_get-get_or}
@@ -19,12 +19,12 @@ use Rattle.muf_model.specs.Datum.{Datum, mark}
 use Rattle.muf_model.specs.inner.Decode.{tree_of, definition_at, placed_or}
 use Rattle.muf_model.specs.inner.Fits.{MarksFit, none, enters, FitsState, fit}
 use Rattle.muf_model.specs.inner.Flat.{FlatMark, Flat, decode, first_code}
-use Rattle.muf_model.specs.Source.{Program, Mark, Owned, Source, handed, passed, passed_at, entered, started, last_word}
+use Rattle.muf_model.specs.Source.{Program, Mark, Owned, Source, handed, item_passed, passed_at, program_entered, started, last_word}
 use Rattle.muf_model.specs.inner.Stands.{Remains, TreeStands, WordStands, WordsStand}
-use Rattle.muf_model.specs.Tree.{Block, stop, word, when, fork, ring, End}
+use Rattle.muf_model.specs.Tree.{Block, stop, word, when, fork, ring, BlockEnd}
 use Rattle.muf_model.specs.inner.Nesting.{outside, NestedBlock, NestedWords}
 use Rattle.muf_model.specs.inner.Nested.{Nested, StaysNested}
-use Rattle.muf_model.specs.Unit.{Outcome, goes, ended, faulted, asks, stuck, units, fault}
+use Rattle.muf_model.specs.Unit.{Outcome, goes, ended, faulted, asks, stuck, units, fault_met}
 use Rattle.muf_model.proofs.Chains.{units_keep, fault_keeps}
 use Rattle.muf_model.proofs.Nesting.{fault_nested, entered_nested, started_nested, passed_nested}
 use Rattle.muf_model.proofs.Decoded.{decoded, fits}
@@ -33,7 +33,6 @@ use Rattle.muf_compile.proofs.SameLine.{same_line}
 use Rattle.muf_frame.specs.inner.Shown.{Shown, flat}
 use Rattle.muf_frame.specs.inner.Moves as moves
 use Rattle.muf_frame.specs.inner.Moves.{caught}
-use Rattle.muf_frame.proofs.Tops.{above_height}
 use Rattle.muf_run.specs.inner.Alike.{EndsAlike}
 use Rattle.muf_run.specs.inner.Machine.{after_fault}
 use Rattle.muf_run.specs.inner.Runs.{RunsAlike}
@@ -121,22 +120,22 @@ uncaught_at cs e (faulted d) r = ap faulted (sym r)
 uncaught_at cs e (asks p t) r = absurd r
 uncaught_at cs e stuck r = absurd r
 
-faults_alike : (cs : List Code) (f : Flat) (s : Source) (e : MufFault) → FitsState cs f s → EndsAlike cs (after_fault e (caught e f)) (fault e s)
+faults_alike : (cs : List Code) (f : Flat) (s : Source) (e : MufFault) → FitsState cs f s → EndsAlike cs (after_fault e (caught e f)) (fault_met e s)
 faults_alike (c ∷ cs) f s e h = fault_fits h e
 faults_alike [] f s e h = absurd (no_codes h)
 
-pub raised_some : (es : List Entered) (f g : Flat) (e : MufFault) (k : ℕ) → ProgramsFit es f → caught e f ≡ Some (k, g) → (t : Source) × LeftAt k es g t × (fault e (decode (codes_of es) f) ≡ goes k t)
+pub raised_some : (es : List Entered) (f g : Flat) (e : MufFault) (k : ℕ) → ProgramsFit es f → caught e f ≡ Some (k, g) → (t : Source) × LeftAt k es g t × (fault_met e (decode (codes_of es) f) ≡ goes k t)
 raised_some es f g e k h c =
     let s : Source = decode (codes_of es) f in
-    caught_at es f g k (fault e s) h (fault_keeps e s) (fault_nested e s h.0.nested) e (subst (λ x. EndsAlike (codes_of es) (after_fault e x) (fault e s)) c (faults_alike (codes_of es) f s e h.0.state))
+    caught_at es f g k (fault_met e s) h (fault_keeps e s) (fault_nested e s h.0.nested) e (subst (λ x. EndsAlike (codes_of es) (after_fault e x) (fault_met e s)) c (faults_alike (codes_of es) f s e h.0.state))
 
-pub raised_none : (es : List Entered) (f : Flat) (e : MufFault) → ProgramsFit es f → caught e f ≡ None → fault e (decode (codes_of es) f) ≡ faulted e
+pub raised_none : (es : List Entered) (f : Flat) (e : MufFault) → ProgramsFit es f → caught e f ≡ None → fault_met e (decode (codes_of es) f) ≡ faulted e
 raised_none es f e h c =
     let s : Source = decode (codes_of es) f in
-    uncaught_at (codes_of es) e (fault e s) (subst (λ x. EndsAlike (codes_of es) (after_fault e x) (fault e s)) c (faults_alike (codes_of es) f s e h.0.state))
+    uncaught_at (codes_of es) e (fault_met e s) (subst (λ x. EndsAlike (codes_of es) (after_fault e x) (fault_met e s)) c (faults_alike (codes_of es) f s e h.0.state))
 
 -- the place behind a primitive
-passing : (code : Code) (codes : List Code) (stack common vars below : List Datum) (owned : List Owned) (place : ℕ) (program : Program) (now : Block) (end : End) (ms : List Mark) (ns : List FlatMark) → IsAtPrimitive now → TreeStands code program.tree → Remains code.placed place now end → MarksFit (code ∷ codes) ms ns below → FitsState (code ∷ codes) (record { stack = stack; common = common; owned = owned; variables = below ++ vars; base = length below; program = program.number; place = place + 1; marks = ns }) (passed (record { stack = stack; common = common; owned = owned; variables = vars; program = program; now = now; end = end; marks = ms })) × (place < length code.placed)
+passing : (code : Code) (codes : List Code) (stack common vars below : List Datum) (owned : List Owned) (place : ℕ) (program : Program) (now : Block) (end : BlockEnd) (ms : List Mark) (ns : List FlatMark) → IsAtPrimitive now → TreeStands code program.tree → Remains code.placed place now end → MarksFit (code ∷ codes) ms ns below → FitsState (code ∷ codes) (record { stack = stack; common = common; owned = owned; variables = below ++ vars; base = length below; program = program.number; place = place + 1; marks = ns }) (item_passed (record { stack = stack; common = common; owned = owned; variables = vars; program = program; now = now; end = end; marks = ms })) × (place < length code.placed)
 passing code codes stack common vars below owned place program (word line w next) end ms ns h p a m =
     (fit p a.1 m, slice_get_within code.placed place _ a.0)
 passing code codes stack common vars below owned place program stop end ms ns h p a m = absurd h
@@ -144,7 +143,7 @@ passing code codes stack common vars below owned place program (when line b next
 passing code codes stack common vars below owned place program (fork k line b mid c next) end ms ns h p a m = absurd h
 passing code codes stack common vars below owned place program (ring k line b c last next) end ms ns h p a m = absurd h
 
-pub passed_fits : {cs : List Code} {f : Flat} {s : Source} → FitsState cs f s → IsAtPrimitive s.now → FitsState cs (record f { place = f.place + 1 }) (passed s) × (f.place < length (first_code cs).placed)
+pub passed_fits : {cs : List Code} {f : Flat} {s : Source} → FitsState cs f s → IsAtPrimitive s.now → FitsState cs (record f { place = f.place + 1 }) (item_passed s) × (f.place < length (first_code cs).placed)
 passed_fits (fit {code} {codes} {stack} {common} {vars} {below} {owned} {place} {program} {now} {end} {ms} {ns} p a m) h =
     passing code codes stack common vars below owned place program now end ms ns h p a m
 
@@ -167,7 +166,7 @@ word_nested code (v ∷ ws) zero w h e =
 word_nested code (v ∷ ws) (suc n) w h e = word_nested code ws n w h.1 e
 
 -- a word of a program is called
-pub entered_fits : {cs : List Code} {f : Flat} {s : Source} → FitsState cs f s → (d : Dbref) (code : Code) (n : ℕ) (w : CodeWord) → TreeStands code (tree_of code) → slice_get code.words n ≡ Some w → FitsState (code ∷ cs) (moves.entered d.0 code.variables w.start w.variables f) (entered (program_with d code) (definition_at code.placed w) s)
+pub entered_fits : {cs : List Code} {f : Flat} {s : Source} → FitsState cs f s → (d : Dbref) (code : Code) (n : ℕ) (w : CodeWord) → TreeStands code (tree_of code) → slice_get code.words n ≡ Some w → FitsState (code ∷ cs) (moves.entered d.0 code.variables w.start w.variables f) (program_entered (program_with d code) (definition_at code.placed w) s)
 entered_fits (fit p a m) d code n w h e = fit h (word_at code.placed code.words n w h.words e).body (enters p a m)
 
 pub entered_programs : (es : List Entered) (f g : Flat) (e : Entered) (s : Source) → ProgramsFit es f → FitsState (codes_of (e ∷ es)) g s → Nested s → numbers_in s ≡ e.program.0 ∷ numbers_in (decode (codes_of es) f) → ProgramsFit (e ∷ es) g × (decode (codes_of (e ∷ es)) g ≡ s)
@@ -191,16 +190,16 @@ starts_in None start h = absurd h
 starts_in (Some w) start h = (w, refl, h.0, h.1)
 
 -- the process once a word of a program is called
-pub call_at : (es : List Entered) (f g : Flat) (d : Dbref) (code : Code) (n : ℕ) (start : Start) → ProgramsFit es f → TreeStands code (tree_of code) → StartsAt code n start → g ≡ moves.entered d.0 start.owned start.place start.variables f → ProgramsFit (record { program = d; code = code } ∷ es) g × (option_map (λ w. entered (program_with d code) w (decode (codes_of es) f)) (slice_get (tree_of code).words n) ≡ Some (decode (codes_of (record { program = d; code = code } ∷ es)) g))
+pub call_at : (es : List Entered) (f g : Flat) (d : Dbref) (code : Code) (n : ℕ) (start : Start) → ProgramsFit es f → TreeStands code (tree_of code) → StartsAt code n start → g ≡ moves.entered d.0 start.owned start.place start.variables f → ProgramsFit (record { program = d; code = code } ∷ es) g × (option_map (λ w. program_entered (program_with d code) w (decode (codes_of es) f)) (slice_get (tree_of code).words n) ≡ Some (decode (codes_of (record { program = d; code = code } ∷ es)) g))
 call_at es f g d code n start h stands at same =
     let w = starts_in (slice_get code.words n) start at.0 in
     let s : Source = decode (codes_of es) f in
-    let next : Source = entered (program_with d code) (definition_at code.placed w.0) s in
+    let next : Source = program_entered (program_with d code) (definition_at code.placed w.0) s in
     let frame : moves.entered d.0 code.variables w.0.start w.0.variables f ≡ g = rw (← at.1, ← w.2, ← w.3) (sym same) in
     let fitting : FitsState (code ∷ codes_of es) g next = subst (λ x. FitsState (code ∷ codes_of es) x next) frame (entered_fits h.0.state d code n w.0 stands w.1) in
     let r = entered_programs es f g (record { program = d; code = code }) next h fitting (entered_nested (program_with d code) (definition_at code.placed w.0) s stands.nested (word_nested code.placed code.words n w.0 stands.nested w.1) h.0.nested) refl in
     let found : slice_get (tree_of code).words n ≡ Some (definition_at code.placed w.0) = slice_get-map (definition_at code.placed) code.words n ∙ ap (option_map (definition_at code.placed)) w.1 in
-    (r.0, ap (option_map (λ x. entered (program_with d code) x s)) found ∙ ap Some (sym r.1))
+    (r.0, ap (option_map (λ x. program_entered (program_with d code) x s)) found ∙ ap Some (sym r.1))
 
 -- the process at the beginning of a program's last word
 pub begin_at : (f g : Flat) (d : Dbref) (code : Code) (common : List Datum) (argument : List ℕ) (n : ℕ) (start : Start) → length code.words ≡ suc n → TreeStands code (tree_of code) → StartsAt code n start → f ≡ record (moves.fresh argument) { common = common } → g ≡ moves.begun d.0 start.place start.variables (moves.owning d.0 start.owned f) → ProgramsFit (record { program = d; code = code } ∷ []) g × (Some (decode (codes_of (record { program = d; code = code } ∷ [])) g) ≡ option_map (λ w. started (program_with d code) w common argument) (last_word (tree_of code).words))
@@ -213,12 +212,6 @@ begin_at f g d code common argument n start count stands at first same =
     let fitting : FitsState (code ∷ []) g next = subst (λ x. FitsState (code ∷ []) x next) frame (begun_fits d code common argument n w.0 stands w.1) in
     let found : last_word (tree_of code).words ≡ Some (definition_at code.placed w.0) = last_read code.placed code.words n count ∙ ap (option_map (definition_at code.placed)) w.1 in
     ((fits fitting (started_nested (program_with d code) (definition_at code.placed w.0) common argument stands.nested (word_nested code.placed code.words n w.0 stands.nested w.1)), ap numbers_in (sym (decoded fitting))), ap Some (decoded fitting) ∙ sym (ap (option_map (λ x. started (program_with d code) x common argument)) found))
-
--- those that are left of a call stack
-pub kept_programs : {A : Type 0} (k : ℕ) (xs : List A) → reverse (take (length xs - k) xs) ≡ drop k (reverse xs)
-kept_programs k xs =
-    let same : take (length xs - k) xs ≡ reverse (drop k (reverse xs)) = sym (above_height k (reverse xs) ∙ ap (λ l. take (l - k) (reverse (reverse xs))) (length-reverse xs) ∙ ap (take (length xs - k)) (reverse-reverse xs)) in
-    ap reverse same ∙ reverse-reverse (drop k (reverse xs))
 
 -- another stack, and other variables of the process and of its programs
 lent_fits : (g : Flat) {cs : List Code} {f : Flat} {s : Source} → FitsState cs f s → FitsState cs (record f { stack = g.stack; common = g.common; owned = g.owned }) (with_frame g s)
@@ -270,11 +263,11 @@ passed_programs (ring k line b c last next) s h = refl
 pub passed_place : (es : List Entered) (f : Shown) → ProgramsFit es (flat f) → IsAtPrimitive (decode (codes_of es) (flat f)).now → f.place < length (first_code (codes_of es)).placed
 passed_place es f h at = (passed_fits h.0.state at).1
 
-pub passed_at_end : (es : List Entered) (f g : Shown) → ProgramsFit es (flat f) → IsAtPrimitive (decode (codes_of es) (flat f)).now → g ≡ record f { place = f.place + 1 } → ProgramsFit es (flat g) × (decode (codes_of es) (flat g) ≡ passed (decode (codes_of es) (flat f)))
+pub passed_at_end : (es : List Entered) (f g : Shown) → ProgramsFit es (flat f) → IsAtPrimitive (decode (codes_of es) (flat f)).now → g ≡ record f { place = f.place + 1 } → ProgramsFit es (flat g) × (decode (codes_of es) (flat g) ≡ item_passed (decode (codes_of es) (flat f)))
 passed_at_end es f g h at same =
     let s : Source = decode (codes_of es) (flat f) in
     let frame : record (flat f) { place = f.place + 1 } ≡ flat g = ap flat (sym same) in
-    same_programs es (flat f) (flat g) (passed s) h (subst (λ x. FitsState (codes_of es) x (passed s)) frame (passed_fits h.0.state at).0) (passed_nested s h.0.nested) (passed_programs s.now s at)
+    same_programs es (flat f) (flat g) (item_passed s) h (subst (λ x. FitsState (codes_of es) x (item_passed s)) frame (passed_fits h.0.state at).0) (passed_nested s h.0.nested) (passed_programs s.now s at)
 
 -- a number among those of a call stack, in either order
 any_number : (k : ℤ) (es : List Entered) → list_any (λ e. int_eq e.program.0 k) es ≡ number_among k (numbers_of es)

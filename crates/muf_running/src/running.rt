@@ -3,7 +3,7 @@ ghost use Rattle.std.specs.Prelude.{◌≡◌, ◌<◌, ◌≤◌, IfOk, drop, l
 ghost use Rattle.std.specs.Option.{option_map};
 ghost use Rattle.muf_model.specs.inner.Decode.{tree_of};
 ghost use Rattle.muf_model.specs.inner.Flat.{decode, first_code};
-ghost use Rattle.muf_model.specs.Source.{calls_of, handed, passed, entered};
+ghost use Rattle.muf_model.specs.Source.{calls_running, handed, item_passed, program_entered};
 ghost use Rattle.muf_model.specs.inner.View.{view};
 ghost use Rattle.muf_model.specs.inner.Stands.{TreeStands};
 ghost use Rattle.muf_model.specs.Chains.{callers_of};
@@ -103,7 +103,7 @@ impl Running {
 
     /// How many calls run, beside the first word.
     pub fn calls(&self) -> usize
-        ensures value { result ≡ calls_of self.now.marks }
+        ensures value { result ≡ calls_running self.now.marks }
         ensures most { result ≤ 511 }
     {
         self.frame.get().calls()
@@ -131,7 +131,7 @@ impl Running {
     /// Goes past a primitive that comes next.
     pub fn pass(&mut self)
         requires { IsAtPrimitive self.old.now }
-        ensures { self.new ≡ passed self.old }
+        ensures { self.new ≡ item_passed self.old }
     {
         let place = self.frame.get().place();
         let length = running_code(&self.programs).placed.len();
@@ -149,10 +149,10 @@ impl Running {
         code: Shared<Code>,
         word: usize,
     ) -> Result<Running, NoMemory>
-        requires calls { calls_of self.marks < 511 }
+        requires calls { calls_running self.marks < 511 }
         requires stands { TreeStands code (tree_of code) }
         requires word { word < length code.words }
-        ensures { IfOk result (λ r. option_map (λ d. entered (program_with program code) d self) (slice_get (tree_of code).words word) ≡ Some r) }
+        ensures { IfOk result (λ r. option_map (λ d. program_entered (program_with program code) d self) (slice_get (tree_of code).words word) ≡ Some r) }
     {
         let Running {
             mut programs,

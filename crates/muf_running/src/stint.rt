@@ -3,7 +3,7 @@ ghost use Rattle.std.specs.Prelude.{◌≡◌, IfOk, List, ◌∷◌, reverse, l
 ghost use Rattle.muf_model.specs.Chains.{taken};
 ghost use Rattle.muf_model.specs.inner.Flat.{decode, Flat};
 ghost use Rattle.muf_model.specs.inner.Nested.{StaysNested};
-ghost use Rattle.muf_model.specs.Unit.{Outcome, units, fault};
+ghost use Rattle.muf_model.specs.Unit.{Outcome, units, fault_met};
 ghost use Rattle.muf_frame.specs.inner.Shown.{flat};
 ghost use Rattle.muf_running.specs.inner.Fitting.{codes_of, ProgramsFit};
 ghost use Rattle.muf_running.specs.inner.Stints.{RanAlike, AskedAt, Raised, LocalFits};

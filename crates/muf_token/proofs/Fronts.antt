@@ -1,12 +1,12 @@
 -- A piece takes a byte at least.
-use Rattle.std.proofs.Common.{◌≡◌, ℕ, ◌≤◌, ◌<◌, ◌+◌, Bool, true, false, not, cond, eqb, List, [], ◌∷◌, ◌++◌, length, drop, Option, Some, None, refl, ap, sym, ◌∙◌, subst, arith, zero, suc, append_assoc}
+use Rattle.std.proofs.Common.{◌≡◌, ℕ, ◌≤◌, ◌<◌, Bool, true, false, cond, eqb, List, [], ◌∷◌, ◌++◌, length, Option, Some, None, refl, ap, sym, ◌∙◌, subst, arith, zero, suc, append_assoc}
 use Rattle.std.proofs.lemmas.Bool.{cond_both}
 use Rattle.std.specs.List.{position_or_len}
+use Rattle.muck_laws.proofs.Parts.{word_rest}
 use Rattle.muf_token.specs.declared.fault.FaultKind.{FaultKind}
 use Rattle.muf_token.specs.declared.piece.Piece.{Piece}
 use Rattle.muf_token.specs.declared.piece.Piece.TheVariants.{Broken}
-use Rattle.muf_token.specs.Pieces.{is_blank, next_line, Front, ended, broken, found, after_byte, quoted, text_found, word_found, piece_here, front, then_pieces, first_pieces}
-use Rattle.muf_token.proofs.Words.{length_drop}
+use Rattle.muf_token.specs.Pieces.{is_blank_byte, line_number_below, Front, ended, broken, found, after_byte, quoted, text_found, word_found, piece_here, piece_ahead, then_source_pieces, first_pieces}
 
 -- what stands behind the piece has fewer than so many bytes
 abbrev pub IsShorter : ℕ → Front → Type 0
@@ -51,41 +51,34 @@ text_shorter : (n line : ℕ) (r : Option (List ℕ × List ℕ)) → EndsWithin
 text_shorter n line None h = tt
 text_shorter n line (Some p) h = h
 
-one_more : (n : ℕ) → suc n ≡ 1 + n
-one_more n = omega arith
+word_shorter : (line b : ℕ) (text : List ℕ) → is_blank_byte b ≡ false → IsShorter (length (b ∷ text)) (word_found line (b ∷ text))
+word_shorter line b text h = word_rest b text (is_blank_byte b) (position_or_len is_blank_byte text) h
 
-word_rest : (b : ℕ) (text : List ℕ) (v : Bool) (n : ℕ) → v ≡ false → length (drop (cond (not v) (1 + n) 0) (b ∷ text)) < length (b ∷ text)
-word_rest b text true n h = cc
-word_rest b text false n h = subst (λ k. length (drop k (b ∷ text)) < length (b ∷ text)) (one_more n) (omega (arith, length_drop n text))
-
-word_shorter : (line b : ℕ) (text : List ℕ) → is_blank b ≡ false → IsShorter (length (b ∷ text)) (word_found line (b ∷ text))
-word_shorter line b text h = word_rest b text (is_blank b) (position_or_len is_blank text) h
-
-here_shorter : (line b : ℕ) (text : List ℕ) → is_blank b ≡ false → IsShorter (length (b ∷ text)) (piece_here line (b ∷ text))
+here_shorter : (line b : ℕ) (text : List ℕ) → is_blank_byte b ≡ false → IsShorter (length (b ∷ text)) (piece_here line (b ∷ text))
 here_shorter line b text h =
     shorter_if _ (eqb b 34) (text_found line (quoted false text)) (word_found line (b ∷ text))
     (λ e. text_shorter _ line (quoted false text) (within_more _ _ (quoted_shorter false text))) (λ e. word_shorter line b text h)
 
-pub front_shorter : (inside : Option ℕ) (line : ℕ) (text : List ℕ) → IsShorter (length text) (front inside line text)
-unfolding front
+pub front_shorter : (inside : Option ℕ) (line : ℕ) (text : List ℕ) → IsShorter (length text) (piece_ahead inside line text)
+unfolding piece_ahead
 front_shorter None line [] = tt
 front_shorter (Some began) line [] = tt
 front_shorter None line (b ∷ text) =
-    shorter_if _ (eqb b 10) (front None (next_line line) text) _ (λ e. shorter_more _ _ _ (omega arith) (front_shorter None (next_line line) text)) (λ e.
-    shorter_if _ (is_blank b) (front None line text) _ (λ e. shorter_more _ _ _ (omega arith) (front_shorter None line text)) (λ blank.
-    shorter_if _ (eqb b 40) (front (Some line) line text) (piece_here line (b ∷ text)) (λ e. shorter_more _ _ _ (omega arith) (front_shorter (Some line) line text)) (λ e.
+    shorter_if _ (eqb b 10) (piece_ahead None (line_number_below line) text) _ (λ e. shorter_more _ _ _ (omega arith) (front_shorter None (line_number_below line) text)) (λ e.
+    shorter_if _ (is_blank_byte b) (piece_ahead None line text) _ (λ e. shorter_more _ _ _ (omega arith) (front_shorter None line text)) (λ blank.
+    shorter_if _ (eqb b 40) (piece_ahead (Some line) line text) (piece_here line (b ∷ text)) (λ e. shorter_more _ _ _ (omega arith) (front_shorter (Some line) line text)) (λ e.
     here_shorter line b text blank)))
 front_shorter (Some began) line (b ∷ text) =
-    shorter_if _ (eqb b 10) (front (Some began) (next_line line) text) _ (λ e. shorter_more _ _ _ (omega arith) (front_shorter (Some began) (next_line line) text)) (λ e.
-    shorter_if _ (eqb b 41) (front None line text) (front (Some began) line text) (λ e. shorter_more _ _ _ (omega arith) (front_shorter None line text)) (λ e.
+    shorter_if _ (eqb b 10) (piece_ahead (Some began) (line_number_below line) text) _ (λ e. shorter_more _ _ _ (omega arith) (front_shorter (Some began) (line_number_below line) text)) (λ e.
+    shorter_if _ (eqb b 41) (piece_ahead None line text) (piece_ahead (Some began) line text) (λ e. shorter_more _ _ _ (omega arith) (front_shorter None line text)) (λ e.
     shorter_more _ _ _ (omega arith) (front_shorter (Some began) line text)))
 
 -- the text behind a piece that was found is shorter
-pub found_shorter : (inside : Option ℕ) (line at there : ℕ) (piece : Piece) (text rest : List ℕ) → front inside line text ≡ found at piece there rest → length rest < length text
+pub found_shorter : (inside : Option ℕ) (line at there : ℕ) (piece : Piece) (text rest : List ℕ) → piece_ahead inside line text ≡ found at piece there rest → length rest < length text
 found_shorter inside line at there piece text rest e = subst (IsShorter (length text)) e (front_shorter inside line text)
 
 -- two ways to go on agree where they agree on each shorter text
-pub pieces_alike : (n : ℕ) (f : Front) (g h : ℕ → List ℕ → List Piece) → IsShorter n f → ((there : ℕ) (rest : List ℕ) → length rest < n → g there rest ≡ h there rest) → then_pieces f g ≡ then_pieces f h
+pub pieces_alike : (n : ℕ) (f : Front) (g h : ℕ → List ℕ → List Piece) → IsShorter n f → ((there : ℕ) (rest : List ℕ) → length rest < n → g there rest ≡ h there rest) → then_source_pieces f g ≡ then_source_pieces f h
 pieces_alike n ended g h s k = refl
 pieces_alike n (broken line kind) g h s k = refl
 pieces_alike n (found line piece there text) g h s k = ap (λ rest. piece ∷ rest) (k there text s)
@@ -95,25 +88,25 @@ pub pieces_enough : (n m line : ℕ) (text : List ℕ) → length text < n → l
 pieces_enough zero m line text h k = absurd (omega (arith, h))
 pieces_enough (suc n) zero line text h k = absurd (omega (arith, k))
 pieces_enough (suc n) (suc m) line text h k =
-    pieces_alike (length text) (front None line text) (first_pieces n) (first_pieces m) (front_shorter None line text)
+    pieces_alike (length text) (piece_ahead None line text) (first_pieces n) (first_pieces m) (front_shorter None line text)
     (λ there rest less. pieces_enough n m there rest (omega (arith, less, h)) (omega (arith, less, k)))
 
 -- the pieces of a text, all of them
 abbrev pub pieces_from : ℕ → List ℕ → List Piece
 pieces_from line text = first_pieces (suc (length text)) line text
 
-pub pieces_ended : (line : ℕ) (text : List ℕ) → front None line text ≡ ended → pieces_from line text ≡ []
-pieces_ended line text e = ap (λ f. then_pieces f (first_pieces (length text))) e
+pub pieces_ended : (line : ℕ) (text : List ℕ) → piece_ahead None line text ≡ ended → pieces_from line text ≡ []
+pieces_ended line text e = ap (λ f. then_source_pieces f (first_pieces (length text))) e
 
-pub pieces_broken : (line at : ℕ) (kind : FaultKind) (text : List ℕ) → front None line text ≡ broken at kind → pieces_from line text ≡ Broken kind ∷ []
-pieces_broken line at kind text e = ap (λ f. then_pieces f (first_pieces (length text))) e
+pub pieces_broken : (line at : ℕ) (kind : FaultKind) (text : List ℕ) → piece_ahead None line text ≡ broken at kind → pieces_from line text ≡ Broken kind ∷ []
+pieces_broken line at kind text e = ap (λ f. then_source_pieces f (first_pieces (length text))) e
 
-pub pieces_found : (line at there : ℕ) (piece : Piece) (text rest : List ℕ) → front None line text ≡ found at piece there rest → pieces_from line text ≡ piece ∷ pieces_from there rest
+pub pieces_found : (line at there : ℕ) (piece : Piece) (text rest : List ℕ) → piece_ahead None line text ≡ found at piece there rest → pieces_from line text ≡ piece ∷ pieces_from there rest
 pieces_found line at there piece text rest e =
-    ap (λ f. then_pieces f (first_pieces (length text))) e
+    ap (λ f. then_source_pieces f (first_pieces (length text))) e
     ∙ ap (λ more. piece ∷ more) (pieces_enough (length text) (suc (length rest)) there rest (found_shorter None line at there piece text rest e) (omega arith))
 
-pub pieces_more : (list : List Piece) (line at there : ℕ) (piece : Piece) (text rest : List ℕ) (whole : List Piece) → front None line text ≡ found at piece there rest
+pub pieces_more : (list : List Piece) (line at there : ℕ) (piece : Piece) (text rest : List ℕ) (whole : List Piece) → piece_ahead None line text ≡ found at piece there rest
     → list ++ pieces_from line text ≡ whole → (list ++ piece ∷ []) ++ pieces_from there rest ≡ whole
 pieces_more list line at there piece text rest whole e h =
     append_assoc list (piece ∷ []) (pieces_from there rest) ∙ ap (λ more. list ++ more) (sym (pieces_found line at there piece text rest e)) ∙ h

@@ -1,29 +1,24 @@
 -- What names mean in layers: the newest of what the source says and of what objects lend.
 use Rattle.std.proofs.Common.{◌≡◌, ℕ, ◌<◌, ◌≤◌, Bool, true, false, cond, nat_lt, List, [], ◌∷◌, ◌++◌, ℤ, Option, Some, None, refl, ap, sym, ◌∙◌, arith}
-use Rattle.std.proofs.lemmas.Bool.Decides.{nat_tests}
-use Rattle.std.proofs.lemmas.Cmp.{int_eq_equiv}
 use Rattle.std.specs.Str.{bytes_eq}
 use Rattle.std.specs.Ordering.{int_eq}
-use Rattle.std.specs.Cmp.{IsEquivalence}
 use Rattle.std.specs.List.{IsDistinct, AllByRecursion}
 use Rattle.std.specs.Map.{lookup, keys_of}
+use Rattle.muck_laws.proofs.Numbers.{int_equal_itself, lt_false, lt_true}
+use Rattle.muck_laws.proofs.Texts.{bytes_equivalence}
 use Rattle.muf_token.specs.declared.includes.Definition.{Definition}
 use Rattle.muf_token.specs.declared.piece.Piece.{Piece}
 use Rattle.muf_token.specs.declared.layers.Lent.{Lent}
 use Rattle.muf_token.specs.declared.layers.Entry.{Entry}
-use Rattle.muf_token.specs.Pieces.{lowered, pieces}
+use Rattle.muf_token.specs.Pieces.{lowered, source_pieces}
 use Rattle.muf_token.specs.inner.Layers.{Timed, at_time, newest, mean_of, with_meaning, told_in, lents_of, of_object, time_of}
-use Rattle.muf_token.proofs.Meanings.{laws}
 use Rattle.muf_token.proofs.Takings.{given}
-
-pub same_objects : IsEquivalence int_eq
-same_objects = int_eq_equiv
 
 -- ---- the names that mean something
 
 absent : (x q : List ℕ) (es : List (List ℕ × Entry)) → AllByRecursion (λ y. bytes_eq x y ≡ false) (keys_of es) → bytes_eq q x ≡ true → lookup (bytes_eq q) es ≡ None
 absent x q [] all h = refl
-absent x q (e ∷ es) all h = ap (λ b. cond b (Some e.1) (lookup (bytes_eq q) es)) (laws.congr q x e.0 h ∙ all.0) ∙ absent x q es all.1 h
+absent x q (e ∷ es) all h = ap (λ b. cond b (Some e.1) (lookup (bytes_eq q) es)) (bytes_equivalence.congr q x e.0 h ∙ all.0) ∙ absent x q es all.1 h
 
 pub told_lookup : (stamps : List (ℤ × ℕ)) (es : List (List ℕ × Entry)) (q : List ℕ) → IsDistinct bytes_eq (keys_of es) → lookup (bytes_eq q) (told_in stamps es) ≡ mean_of stamps (lookup (bytes_eq q) es)
 unfolding IsDistinct
@@ -59,12 +54,6 @@ newest_append : (s : List (ℤ × ℕ)) (xs ys : List Lent) (b : Timed) → newe
 newest_append s [] ys b = refl
 newest_append s (l ∷ xs) ys b = newest_append s xs ys (at_time (lookup (int_eq l.object) s) l.body b)
 
-lt_true : (t u : ℕ) → t < u → nat_lt t u ≡ true
-lt_true t u h = grind (arith, nat_tests)
-
-lt_false : (t u : ℕ) → u ≤ t → nat_lt t u ≡ false
-lt_false t u h = grind (arith, nat_tests)
-
 -- what counts from earlier changes nothing
 earlier : (o : Option ℕ) (body : List Piece) (b : Timed) → time_of o < b.0 → at_time o body b ≡ b
 earlier None body b h = refl
@@ -90,8 +79,8 @@ unknown : (s : List (ℤ × ℕ)) (d : ℤ) (list : List Definition) (q : List �
 unknown s d [] q b h = refl
 unknown s d (x ∷ list) q b h = by (unknown s d list q b h) (bytes_eq (lowered x.name) q)
   where
-    by : newest s (lents_of d list q) b ≡ b → (c : Bool) → newest s (cond c (record { object = d; body = pieces x.text } ∷ lents_of d list q) (lents_of d list q)) b ≡ b
-    by ih true = ap (λ o. newest s (lents_of d list q) (at_time o (pieces x.text) b)) h ∙ ih
+    by : newest s (lents_of d list q) b ≡ b → (c : Bool) → newest s (cond c (record { object = d; body = source_pieces x.text } ∷ lents_of d list q) (lents_of d list q)) b ≡ b
+    by ih true = ap (λ o. newest s (lents_of d list q) (at_time o (source_pieces x.text) b)) h ∙ ih
     by ih false = ih
 
 pub same_behind : (s : List (ℤ × ℕ)) (d : ℤ) (list : List Definition) (q : List ℕ) (ls : List Lent) (b : Timed) → lookup (int_eq d) s ≡ None → newest s (ls ++ lents_of d list q) b ≡ newest s ls b
@@ -108,8 +97,8 @@ pub last_given : (d : ℤ) (list : List Definition) (q : List ℕ) (o : Option (
 last_given d [] q o = refl
 last_given d (x ∷ list) q o = by (last_given d list q) (bytes_eq (lowered x.name) q)
   where
-    by : ((o : Option (List Piece)) → last_of (lents_of d list q) o ≡ given list q o) → (c : Bool) → last_of (cond c (record { object = d; body = pieces x.text } ∷ lents_of d list q) (lents_of d list q)) o ≡ given list q (cond c (Some (pieces x.text)) o)
-    by ih true = ih (Some (pieces x.text))
+    by : ((o : Option (List Piece)) → last_of (lents_of d list q) o ≡ given list q o) → (c : Bool) → last_of (cond c (record { object = d; body = source_pieces x.text } ∷ lents_of d list q) (lents_of d list q)) o ≡ given list q (cond c (Some (source_pieces x.text)) o)
+    by ih true = ih (Some (source_pieces x.text))
     by ih false = ih o
 
 module _ (s n : List (ℤ × ℕ)) (d : ℤ) (c : ℕ) (at : (k : ℤ) → lookup (int_eq k) n ≡ cond (int_eq d k) (Some c) (lookup (int_eq k) s)) (times : (k : ℤ) → time_of (lookup (int_eq k) s) < c) where
@@ -141,18 +130,15 @@ of_append d (l ∷ xs) ys = by (of_append d xs ys) (int_eq d l.object)
     by ih true = ap (λ z. l ∷ z) ih
     by ih false = ih
 
-itself : (d : ℤ) → int_eq d d ≡ true
-itself d = same_objects.refl d
-
 pub of_own : (d : ℤ) (list : List Definition) (q : List ℕ) → of_object d (lents_of d list q) ≡ lents_of d list q
 of_own d [] q = refl
 of_own d (x ∷ list) q = by (of_own d list q) (bytes_eq (lowered x.name) q)
   where
     here : Lent
-    here = record { object = d; body = pieces x.text }
+    here = record { object = d; body = source_pieces x.text }
 
     by : of_object d (lents_of d list q) ≡ lents_of d list q → (b : Bool) → of_object d (cond b (here ∷ lents_of d list q) (lents_of d list q)) ≡ cond b (here ∷ lents_of d list q) (lents_of d list q)
-    by ih true = ap (λ c. cond c (here ∷ of_object d (lents_of d list q)) (of_object d (lents_of d list q))) (itself d) ∙ ap (λ z. here ∷ z) ih
+    by ih true = ap (λ c. cond c (here ∷ of_object d (lents_of d list q)) (of_object d (lents_of d list q))) (int_equal_itself d) ∙ ap (λ z. here ∷ z) ih
     by ih false = ih
 
 pub of_other : (k d : ℤ) (list : List Definition) (q : List ℕ) → int_eq k d ≡ false → of_object k (lents_of d list q) ≡ []
@@ -160,7 +146,7 @@ of_other k d [] q h = refl
 of_other k d (x ∷ list) q h = by (of_other k d list q h) (bytes_eq (lowered x.name) q)
   where
     here : Lent
-    here = record { object = d; body = pieces x.text }
+    here = record { object = d; body = source_pieces x.text }
 
     by : of_object k (lents_of d list q) ≡ [] → (b : Bool) → of_object k (cond b (here ∷ lents_of d list q) (lents_of d list q)) ≡ []
     by ih true = ap (λ c. cond c (here ∷ of_object k (lents_of d list q)) (of_object k (lents_of d list q))) h ∙ ih

@@ -1,25 +1,21 @@
 -- What definitions mean: a name has the body that a look-up finds, whatever the order of the names.
 use Rattle.std.proofs.Common.{◌≡◌, ℕ, Bool, true, false, cond, List, [], ◌∷◌, Some, None, refl, ap, sym, ◌∙◌}
 use Rattle.std.specs.Str.{bytes_eq}
-use Rattle.std.specs.Cmp.{IsEquivalence}
-use Rattle.std.specs.Cmp.Lexicographic.{nat_list_eq_equiv}
 use Rattle.std.specs.List.{IsDistinct, AllByRecursion}
 use Rattle.std.specs.Map.{lookup, keys_of, remove_entry}
 use Rattle.std.proofs.lemmas.Map.{lookup-remove_entry}
+use Rattle.muck_laws.proofs.Texts.{bytes_equivalence}
 use Rattle.indexmap.specs.IndexMap.{insert_entry}
 use Rattle.muf_token.specs.declared.includes.Definition.{Definition}
 use Rattle.muf_token.specs.declared.piece.Piece.{Piece}
-use Rattle.muf_token.specs.Pieces.{lowered, pieces}
+use Rattle.muf_token.specs.Pieces.{lowered, source_pieces}
 use Rattle.muf_token.specs.Expansion.{Definitions}
 use Rattle.muf_token.specs.Source.{with_all}
-
-pub laws : IsEquivalence bytes_eq
-laws = nat_list_eq_equiv
 
 module _ {X : Type 0} where
   -- a name that is defined has the new body; any other has what it had
   pub lookup_inserted : (es : List (List ℕ × X)) (name : List ℕ) (body : X) (q : List ℕ) → lookup (bytes_eq q) (insert_entry bytes_eq es name body) ≡ cond (bytes_eq name q) (Some body) (lookup (bytes_eq q) es)
-  lookup_inserted [] name body q = ap (λ b. cond b (Some body) None) (laws.symm q name)
+  lookup_inserted [] name body q = ap (λ b. cond b (Some body) None) (bytes_equivalence.symm q name)
   lookup_inserted (e ∷ es) name body q = by (bytes_eq name e.0) refl (lookup_inserted es name body q)
     where
       here : bytes_eq name e.0 ≡ true → (b : Bool) → bytes_eq name q ≡ b → cond b (Some body) (lookup (bytes_eq q) es) ≡ cond b (Some body) (cond b (Some e.1) (lookup (bytes_eq q) es))
@@ -32,12 +28,12 @@ module _ {X : Type 0} where
       later false c h = refl
 
       apart : bytes_eq name e.0 ≡ false → bytes_eq name q ≡ true → bytes_eq q e.0 ≡ true → ⊥
-      apart other h k = let both : true ≡ false = sym k ∙ sym (laws.congr name q e.0 h) ∙ other in cc
+      apart other h k = let both : true ≡ false = sym k ∙ sym (bytes_equivalence.congr name q e.0 h) ∙ other in cc
 
       by : (b : Bool) → bytes_eq name e.0 ≡ b → lookup (bytes_eq q) (insert_entry bytes_eq es name body) ≡ cond (bytes_eq name q) (Some body) (lookup (bytes_eq q) es)
           → lookup (bytes_eq q) (cond b ((e.0, body) ∷ es) (e ∷ insert_entry bytes_eq es name body)) ≡ cond (bytes_eq name q) (Some body) (cond (bytes_eq q e.0) (Some e.1) (lookup (bytes_eq q) es))
       by true same rest =
-          let at : bytes_eq q e.0 ≡ bytes_eq name q = laws.symm q e.0 ∙ sym (laws.congr name e.0 q same) in
+          let at : bytes_eq q e.0 ≡ bytes_eq name q = bytes_equivalence.symm q e.0 ∙ sym (bytes_equivalence.congr name e.0 q same) in
           rw at (here same (bytes_eq name q) refl)
       by false other rest =
           ap (λ o. cond (bytes_eq q e.0) (Some e.1) o) rest
@@ -58,7 +54,7 @@ module _ {X : Type 0} where
     where
       by : (b : Bool) → bytes_eq name e.0 ≡ b → IsDistinct bytes_eq (keys_of (insert_entry bytes_eq es name body)) → IsDistinct bytes_eq (keys_of (cond b ((e.0, body) ∷ es) (e ∷ insert_entry bytes_eq es name body)))
       by true h rest = d
-      by false h rest = (all_inserted (λ y. bytes_eq e.0 y ≡ false) es name body d.0 (laws.symm e.0 name ∙ h), rest)
+      by false h rest = (all_inserted (λ y. bytes_eq e.0 y ≡ false) es name body d.0 (bytes_equivalence.symm e.0 name ∙ h), rest)
 
   all_removed : (P : List ℕ → Type 0) (es : List (List ℕ × X)) (test : List ℕ → Bool) → AllByRecursion P (keys_of es) → AllByRecursion P (keys_of (remove_entry test es))
   all_removed P [] test all = tt
@@ -78,7 +74,7 @@ module _ {X : Type 0} where
       by false rest = (all_removed (λ y. bytes_eq e.0 y ≡ false) es test d.0, rest)
 
   pub lookup_removed : (es : List (List ℕ × X)) (name q : List ℕ) → IsDistinct bytes_eq (keys_of es) → lookup (bytes_eq q) (remove_entry (bytes_eq name) es) ≡ cond (bytes_eq name q) None (lookup (bytes_eq q) es)
-  lookup_removed es name q d = lookup-remove_entry laws (bytes_eq name) (λ x y h. laws.congr name x y h) q es d
+  lookup_removed es name q d = lookup-remove_entry bytes_equivalence (bytes_eq name) (λ x y h. bytes_equivalence.congr name x y h) q es d
 
 -- each name stands for the same
 abbrev pub MeanSame : Definitions → Definitions → Type 0
@@ -106,4 +102,4 @@ same_removed a b name h = record {
 
 pub same_with_all : (list : List Definition) (a b : Definitions) → AreSame a b → AreSame (with_all list a) (with_all list b)
 same_with_all [] a b h = h
-same_with_all (d ∷ list) a b h = same_with_all list _ _ (same_defined a b (lowered d.name) (pieces d.text) h)
+same_with_all (d ∷ list) a b h = same_with_all list _ _ (same_defined a b (lowered d.name) (source_pieces d.text) h)

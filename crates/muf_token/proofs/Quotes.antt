@@ -4,7 +4,7 @@ use Rattle.std.proofs.lemmas.Bool.Decides.{nat_tests}
 use Rattle.std.specs.Option.{option_map}
 use Rattle.muck_model.specs.Bytes.{is_outside}
 use Rattle.muf_token.specs.inner.Bytes.{are_inside}
-use Rattle.muf_token.specs.Pieces.{quoted, below, after_byte, escaped_byte}
+use Rattle.muf_token.specs.Pieces.{quoted, lines_below, after_byte, escaped_byte}
 use Rattle.muf_token.proofs.Texts.{inside_append, inside_cons, inside_head, inside_tail}
 
 -- these bytes before those of a text between quotes
@@ -20,7 +20,7 @@ after_none None = refl
 after_none (Some p) = refl
 
 -- where the line ends, a text that is open has no end
-pub quoted_end : (escaped : Bool) (lines : List (List ℕ)) → quoted escaped (below lines) ≡ None
+pub quoted_end : (escaped : Bool) (lines : List (List ℕ)) → quoted escaped (lines_below lines) ≡ None
 quoted_end true [] = refl
 quoted_end false [] = refl
 quoted_end true (line ∷ lines) = refl
@@ -44,7 +44,7 @@ plain_step value b text whole inside quote slash h =
 
 -- the line ended
 pub open_end : (value : List ℕ) (escaped : Bool) (here : List ℕ) (lines : List (List ℕ)) (whole : Option (List ℕ × List ℕ)) → length here ≡ 0
-    → after_bytes value (quoted escaped (here ++ below lines)) ≡ whole → whole ≡ None
+    → after_bytes value (quoted escaped (here ++ lines_below lines)) ≡ whole → whole ≡ None
 open_end value escaped [] lines whole none h = sym h ∙ ap (after_bytes value) (quoted_end escaped lines)
 open_end value escaped (b ∷ here) lines whole none h = absurd (omega (arith, none))
 

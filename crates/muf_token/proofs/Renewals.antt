@@ -1,10 +1,12 @@
 -- What the source says, and an `$include`, in layers: both do what the definition says to what names mean.
-use Rattle.std.proofs.Common.{◌≡◌, ℕ, ◌+◌, ◌≤◌, Bool, true, false, cond, is_some, List, [], ◌∷◌, ◌++◌, ℤ, Option, Some, None, Result, Ok, Err, OnOk, refl, ap, sym, subst, ◌∙◌, arith, append-nil, true≢false}
+use Rattle.std.proofs.Common.{◌≡◌, ℕ, ◌+◌, ◌≤◌, Bool, true, false, cond, is_some, List, [], ◌++◌, ℤ, Option, Some, None, Result, Ok, Err, OnOk, refl, ap, sym, subst, ◌∙◌, arith, append-nil, true≢false}
 use Rattle.std.proofs.lemmas.Int.{ints}
 use Rattle.std.specs.Str.{bytes_eq}
 use Rattle.std.specs.Ordering.{int_eq}
 use Rattle.std.specs.List.{IsDistinct}
 use Rattle.std.specs.Map.{lookup, keys_of, remove_entry}
+use Rattle.muck_laws.proofs.Found.{lookup_equal}
+use Rattle.muck_laws.proofs.Numbers.{int_equivalence}
 use Rattle.muck_model.specs.declared.dbref.Dbref.{Dbref}
 use Rattle.muf_token.specs.declared.includes.Definition.{Definition}
 use Rattle.muf_token.specs.declared.piece.Piece.{Piece}
@@ -12,26 +14,22 @@ use Rattle.muf_token.specs.declared.place.Place.{Place}
 use Rattle.muf_token.specs.declared.reader.Reader.{Reader}
 use Rattle.muf_token.specs.declared.layers.Entry.{Entry}
 use Rattle.muf_token.specs.declared.layers.Layers.{Layers}
-use Rattle.muf_token.specs.Numbers.{kind_of}
+use Rattle.muf_token.specs.Numbers.{token_kind}
 use Rattle.muf_token.specs.Output.{and_then}
-use Rattle.muf_token.specs.Directives.{Spot, Name, name_at}
-use Rattle.muf_token.specs.Source.{State, with_definition, undef_at, object_of, with_all, included, include_at}
+use Rattle.muf_token.specs.Directives.{Spot, Name, name_behind}
+use Rattle.muf_token.specs.Source.{SourceState, with_definition, undef_at, included_object, with_all, included, include_at}
 use Rattle.muf_token.specs.inner.Spots.{spot_of}
 use Rattle.muf_token.specs.inner.Readers.{state_of, LeadsOn, SayTheSame}
 use Rattle.muf_token.specs.inner.Layers.{newest, lent_to, own_of, mean_of, entry_at, own, lents, stamp_at, meant, told, lents_of, of_object, time_of, IsTimed, HasAll, HasBy, AreTaken, LendsOn, IsReady}
-use Rattle.muf_token.proofs.Meanings.{laws, lookup_inserted, distinct_inserted, lookup_removed, distinct_removed}
+use Rattle.muf_token.proofs.Meanings.{lookup_inserted, distinct_inserted, lookup_removed, distinct_removed}
 use Rattle.muf_token.proofs.Alike.{words_alike}
 use Rattle.muf_token.proofs.Takings.{given, lookup_given, distinct_with_all, leads_on, include_is}
-use Rattle.muf_token.proofs.Layered.{same_objects, newest_own, told_lookup, told_distinct, same_behind, last_of, last_given, raised, of_append, of_own, of_other}
+use Rattle.muf_token.proofs.Layered.{newest_own, told_lookup, told_distinct, same_behind, last_of, last_given, raised, of_append, of_own, of_other}
 
 meant_told : (m : Layers) (q : List ℕ) → IsTimed m → lookup (bytes_eq q) (told m) ≡ meant m q
 meant_told m q h = told_lookup m.stamps.entries m.names.entries q h.one
 
 -- ---- an entry
-
-lookup_same : {X : Type 0} (es : List (List ℕ × X)) (a b : List ℕ) → bytes_eq a b ≡ true → lookup (bytes_eq a) es ≡ lookup (bytes_eq b) es
-lookup_same [] a b h = refl
-lookup_same (e ∷ es) a b h = ap (λ c. cond c (Some e.1) (lookup (bytes_eq a) es)) (laws.congr a b e.0 h) ∙ ap (λ o. cond (bytes_eq b e.0) (Some e.1) o) (lookup_same es a b h)
 
 -- one of a name that is taken out and put back
 pub put_back : (name q : List ℕ) (e old mid new : Option Entry) → mid ≡ cond (bytes_eq name q) None old → new ≡ cond (bytes_eq name q) e mid → new ≡ cond (bytes_eq name q) e old
@@ -55,7 +53,7 @@ module _ (old new : Layers) (name : List ℕ) (e : Entry) (h : IsTimed old) (sta
   said_lents q = ap lent_to (at q) ∙ by (bytes_eq name q) refl
     where
       by : (b : Bool) → bytes_eq name q ≡ b → lent_to (cond b (Some e) (entry_at old q)) ≡ lents old q
-      by true k = lent ∙ ap lent_to (lookup_same old.names.entries name q k)
+      by true k = lent ∙ ap lent_to (lookup_equal old.names.entries name q k)
       by false k = refl
 
   pub said_kept : new.clock ≡ old.clock + 1 → IsDistinct bytes_eq (keys_of new.names.entries) → LendsOn old new
@@ -94,12 +92,12 @@ pub defined_by : {E : Type 0} (old new : Reader) (name : List ℕ) (body : List 
 defined_by old new name body (Ok x) h mean kept branches out = defined_alike old new name body h kept.timed mean branches out
 defined_by old new name body (Err e) h mean kept branches out = tt
 
-pub undone : (line : ℕ) (old new : Reader) (spot : Spot) (n : Name) (place : Place) → name_at line spot ≡ Ok n → spot_of place ≡ n.behind → IsTimed old.definitions → IsTimed new.definitions
+pub undone : (line : ℕ) (old new : Reader) (spot : Spot) (n : Name) (place : Place) → name_behind line spot ≡ Ok n → spot_of place ≡ n.behind → IsTimed old.definitions → IsTimed new.definitions
     → ((q : List ℕ) → meant new.definitions q ≡ cond (bytes_eq n.name q) None (meant old.definitions q)) → new.branches ≡ old.branches → new.out ≡ old.out
     → LeadsOn (undef_at line (state_of old) spot) (Ok place) (state_of new)
 undone line old new spot n place at behind h k mean branches out =
-    let s : State = state_of old in
-    let after : State = record s { definitions = remove_entry (bytes_eq n.name) s.definitions } in (
+    let s : SourceState = state_of old in
+    let after : SourceState = record s { definitions = remove_entry (bytes_eq n.name) s.definitions } in (
       after,
       ap (λ r. and_then r (λ m. Ok (record s { definitions = remove_entry (bytes_eq m.name) s.definitions }, m.behind))) at ∙ ap (λ b. Ok (after, b)) (sym behind),
       λ lent there. words_alike lent after (state_of new) there (record {
@@ -165,7 +163,7 @@ ready_first lent d list old new l h unknown more mine one stamps clock = record 
     beside : (k : Dbref) → int_eq d.0 k.0 ≡ false → (q : List ℕ) → of_object k.0 (lents new q) ≡ of_object k.0 (lents old q)
     beside k e q =
         ap (of_object k.0) (more q) ∙ of_append k.0 (lents old q) (lents_of d.0 list q)
-        ∙ ap (λ ys. of_object k.0 (lents old q) ++ ys) (of_other k.0 d.0 list q (same_objects.symm k.0 d.0 ∙ e)) ∙ append-nil (of_object k.0 (lents old q))
+        ∙ ap (λ ys. of_object k.0 (lents old q) ++ ys) (of_other k.0 d.0 list q (int_equivalence.symm k.0 d.0 ∙ e)) ∙ append-nil (of_object k.0 (lents old q))
 
     other : (k : Dbref) → int_eq d.0 k.0 ≡ false → (o : Option ℕ) → HasBy lent k o old → HasBy lent k o new
     other k e None x = λ q. beside k e q ∙ x q
@@ -216,13 +214,13 @@ module _ (lent : Dbref → Option (List Definition)) (d : Dbref) (old mid new : 
       ∙ ap (given ready.all.0 q) (ready.mean q)
 
 -- `$include`
-pub included_on : (lent : Dbref → Option (List Definition)) (line : ℕ) (old new : Reader) (mid : Layers) (spot : Spot) (n : Name) (d : Dbref) (place : Place) → name_at line spot ≡ Ok n → spot_of place ≡ n.behind
-    → object_of line n (kind_of n.name) ≡ Ok d → AreTaken lent old.definitions → IsReady lent d old.definitions mid → IsRenewed d.0 mid new.definitions → new.branches ≡ old.branches → new.out ≡ old.out
+pub included_on : (lent : Dbref → Option (List Definition)) (line : ℕ) (old new : Reader) (mid : Layers) (spot : Spot) (n : Name) (d : Dbref) (place : Place) → name_behind line spot ≡ Ok n → spot_of place ≡ n.behind
+    → included_object line n (token_kind n.name) ≡ Ok d → AreTaken lent old.definitions → IsReady lent d old.definitions mid → IsRenewed d.0 mid new.definitions → new.branches ≡ old.branches → new.out ≡ old.out
     → LeadsOn (include_at lent line (state_of old) spot) (Ok place) (state_of new)
 included_on lent line old new mid spot n d place at behind object h ready now branches out =
-    let s : State = state_of old in
+    let s : SourceState = state_of old in
     let list : List Definition = ready.all.0 in
-    let after : State = record s { definitions = with_all list s.definitions } in
+    let after : SourceState = record s { definitions = with_all list s.definitions } in
     let timed : IsTimed new.definitions = renewed_timed lent d old.definitions mid new.definitions ready now in (
       after,
       include_is lent line s after spot n d at object (ap (included line s) ready.all.1) ∙ ap (λ b. Ok (after, b)) (sym behind),

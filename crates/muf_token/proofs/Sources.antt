@@ -1,6 +1,7 @@
 -- Each piece of a source goes on at a place with less text.
 use Rattle.std.proofs.Common.{◌≡◌, ℕ, ◌≤◌, ◌<◌, Bool, true, false, cond, List, [], length, Option, Some, None, Result, Ok, Err, refl, ap, ◌∙◌, subst, arith, zero, suc}
 use Rattle.std.specs.List.{position_or_len}
+use Rattle.muck_laws.proofs.Parts.{length_drop}
 use Rattle.muck_model.specs.declared.dbref.Dbref.{Dbref}
 use Rattle.muf_token.specs.declared.fault.FaultKind.{FaultKind}
 use Rattle.muf_token.specs.declared.fault.Refusal.{Refusal}
@@ -10,14 +11,13 @@ use Rattle.muf_token.specs.declared.piece.Piece.TheVariants.{Word, Text, Broken}
 use Rattle.muf_token.specs.declared.directive.Directive.{Directive}
 use Rattle.muf_token.specs.declared.directive.Directive.TheVariants.{Def, Define, Undef, Ifdef, Ifndef, Else, Endif, Include}
 use Rattle.muf_token.specs.declared.includes.Definition.{Definition}
-use Rattle.muf_token.specs.Pieces.{Front, ended, broken, found, front}
-use Rattle.muf_token.specs.Numbers.{kind_of}
+use Rattle.muf_token.specs.Pieces.{Front, ended, broken, found, piece_ahead}
+use Rattle.muf_token.specs.Numbers.{token_kind}
 use Rattle.muf_token.specs.Output.{refuse, and_then}
 use Rattle.muf_token.specs.Expansion.{is_directive}
 use Rattle.muf_token.specs.Branches.{is_taking, outermost}
-use Rattle.muf_token.specs.Directives.{directive_of, Spot, Name, name_in, name_at, is_line_end, is_enddef, Body, after_piece, body_in, body_within, body_at}
-use Rattle.muf_token.specs.Source.{State, Step, def_at, define_at, undef_at, conditional_at, else_at, endif_at, object_of, included, include_at, directed, put_out, taken, skipped, stepped, words_unless, at_front, words_within, words_from}
-use Rattle.muf_token.proofs.Words.{length_drop}
+use Rattle.muf_token.specs.Directives.{directive_of, Spot, Name, name_in, name_behind, is_line_end, is_enddef, DefinitionBody, after_piece, definition_body_in, body_within, body_at}
+use Rattle.muf_token.specs.Source.{SourceState, Step, def_at, define_at, undef_at, conditional_at, else_at, endif_at, included_object, included, include_at, directed, put_out, piece_taken, skipped, piece_stepped, words_unless, at_front, words_within, words_from}
 use Rattle.muf_token.proofs.Fronts.{IsShorter, front_shorter, found_shorter}
 
 -- what comes next has at most so many bytes
@@ -42,10 +42,10 @@ within_if f n false x y h k = k
 abbrev name_spot : Name → Spot
 name_spot n = n.behind
 
-abbrev body_spot : Body → Spot
+abbrev body_spot : DefinitionBody → Spot
 body_spot body = body.1
 
-abbrev step_spot : State × Spot → Spot
+abbrev step_spot : SourceState × Spot → Spot
 step_spot p = p.1
 
 name_within_front : (n line : ℕ) (f : Front) → IsShorter n f → IsWithin name_spot n (name_in line f)
@@ -56,14 +56,14 @@ name_within_front n line (found at (Word name) there text) h =
 name_within_front n line (found at (Text name) there text) h = tt
 name_within_front n line (found at (Broken kind) there text) h = tt
 
-name_within : (line : ℕ) (spot : Spot) → IsWithin name_spot (length spot.text) (name_at line spot)
-name_within line spot = name_within_front (length spot.text) line (front None spot.line spot.text) (front_shorter None spot.line spot.text)
+name_within : (line : ℕ) (spot : Spot) → IsWithin name_spot (length spot.text) (name_behind line spot)
+name_within line spot = name_within_front (length spot.text) line (piece_ahead None spot.line spot.text) (front_shorter None spot.line spot.text)
 
-body_within_more : (n : ℕ) (piece : Piece) (rest : Result Body Refusal) → IsWithin body_spot n rest → IsWithin body_spot n (after_piece piece rest)
+body_within_more : (n : ℕ) (piece : Piece) (rest : Result DefinitionBody Refusal) → IsWithin body_spot n rest → IsWithin body_spot n (after_piece piece rest)
 body_within_more n piece (Ok body) h = h
 body_within_more n piece (Err refusal) h = tt
 
-body_within_front : (n line : ℕ) (rest : ℕ → List ℕ → Result Body Refusal) (f : Front) → IsShorter n f → ((there : ℕ) (text : List ℕ) → length text ≤ n → IsWithin body_spot n (rest there text)) → IsWithin body_spot n (body_in rest line f)
+body_within_front : (n line : ℕ) (rest : ℕ → List ℕ → Result DefinitionBody Refusal) (f : Front) → IsShorter n f → ((there : ℕ) (text : List ℕ) → length text ≤ n → IsWithin body_spot n (rest there text)) → IsWithin body_spot n (definition_body_in rest line f)
 body_within_front n line rest ended h k = tt
 body_within_front n line rest (broken at kind) h k = tt
 body_within_front n line rest (found at piece there text) h k =
@@ -78,38 +78,38 @@ shorter_still n m (found line piece there text) h s = omega (arith, h, s)
 body_within_text : (most n line at : ℕ) (text : List ℕ) → length text ≤ n → IsWithin body_spot n (body_within most line at text)
 body_within_text zero n line at text h = tt
 body_within_text (suc most) n line at text h =
-    body_within_front n line (body_within most line) (front None at text) (shorter_still _ _ (front None at text) h (front_shorter None at text))
+    body_within_front n line (body_within most line) (piece_ahead None at text) (shorter_still _ _ (piece_ahead None at text) h (front_shorter None at text))
     (λ there rest less. body_within_text most n line there rest less)
 
 body_within_spot : (line n : ℕ) (spot : Spot) → length spot.text ≤ n → IsWithin body_spot n (body_at line spot)
 unfolding body_at
 body_within_spot line n spot h = body_within_text (suc (length spot.text)) n line spot.line spot.text h
 
-def_within : (line : ℕ) (s : State) (spot : Spot) → IsWithin step_spot (length spot.text) (def_at line s spot)
-def_within line s spot = within_then name_spot step_spot _ (name_at line spot) _ (name_within line spot)
+def_within : (line : ℕ) (s : SourceState) (spot : Spot) → IsWithin step_spot (length spot.text) (def_at line s spot)
+def_within line s spot = within_then name_spot step_spot _ (name_behind line spot) _ (name_within line spot)
     (λ n h. omega (arith, h, length_drop (position_or_len is_line_end n.behind.text) n.behind.text))
 
-define_within : (line : ℕ) (s : State) (spot : Spot) → IsWithin step_spot (length spot.text) (define_at line s spot)
-define_within line s spot = within_then name_spot step_spot _ (name_at line spot) _ (name_within line spot)
+define_within : (line : ℕ) (s : SourceState) (spot : Spot) → IsWithin step_spot (length spot.text) (define_at line s spot)
+define_within line s spot = within_then name_spot step_spot _ (name_behind line spot) _ (name_within line spot)
     (λ n h. within_then body_spot step_spot _ (body_at line n.behind) _ (body_within_spot line _ n.behind h) (λ body k. k))
 
-undef_within : (line : ℕ) (s : State) (spot : Spot) → IsWithin step_spot (length spot.text) (undef_at line s spot)
-undef_within line s spot = within_then name_spot step_spot _ (name_at line spot) _ (name_within line spot) (λ n h. h)
+undef_within : (line : ℕ) (s : SourceState) (spot : Spot) → IsWithin step_spot (length spot.text) (undef_at line s spot)
+undef_within line s spot = within_then name_spot step_spot _ (name_behind line spot) _ (name_within line spot) (λ n h. h)
 
-conditional_within : (wanted : Bool) (line : ℕ) (s : State) (spot : Spot) → IsWithin step_spot (length spot.text) (conditional_at wanted line s spot)
-conditional_within wanted line s spot = within_then name_spot step_spot _ (name_at line spot) _ (name_within line spot) (λ n h. h)
+conditional_within : (wanted : Bool) (line : ℕ) (s : SourceState) (spot : Spot) → IsWithin step_spot (length spot.text) (conditional_at wanted line s spot)
+conditional_within wanted line s spot = within_then name_spot step_spot _ (name_behind line spot) _ (name_within line spot) (λ n h. h)
 
 module _ (lent : Dbref → Option (List Definition)) where
-  include_from : (n line : ℕ) (s : State) (name : Name) (object : Result Dbref Refusal) → length name.behind.text ≤ n
+  include_from : (n line : ℕ) (s : SourceState) (name : Name) (object : Result Dbref Refusal) → length name.behind.text ≤ n
       → IsWithin step_spot n (and_then object (λ d. and_then (included line s (lent d)) (λ after. Ok (after, name.behind))))
   include_from n line s name (Err refusal) h = tt
   include_from n line s name (Ok d) h = within_here step_spot n (included line s (lent d)) (λ after. (after, name.behind)) (λ after. h)
 
-  include_within : (line : ℕ) (s : State) (spot : Spot) → IsWithin step_spot (length spot.text) (include_at lent line s spot)
-  include_within line s spot = within_then name_spot step_spot _ (name_at line spot) _ (name_within line spot)
-      (λ n h. include_from _ line s n (object_of line n (kind_of n.name)) h)
+  include_within : (line : ℕ) (s : SourceState) (spot : Spot) → IsWithin step_spot (length spot.text) (include_at lent line s spot)
+  include_within line s spot = within_then name_spot step_spot _ (name_behind line spot) _ (name_within line spot)
+      (λ n h. include_from _ line s n (included_object line n (token_kind n.name)) h)
 
-  directed_within : (line : ℕ) (directive : Option Directive) (s : State) (spot : Spot) → IsWithin step_spot (length spot.text) (directed lent line directive s spot)
+  directed_within : (line : ℕ) (directive : Option Directive) (s : SourceState) (spot : Spot) → IsWithin step_spot (length spot.text) (directed lent line directive s spot)
   directed_within line None s spot = tt
   directed_within line (Some Def) s spot = def_within line s spot
   directed_within line (Some Define) s spot = define_within line s spot
@@ -120,64 +120,64 @@ module _ (lent : Dbref → Option (List Definition)) where
   directed_within line (Some Endif) s spot = within_here step_spot _ (endif_at line s) (λ after. (after, spot)) (λ after. omega arith)
   directed_within line (Some Include) s spot = include_within line s spot
 
-  put_within : (line : ℕ) (piece : Piece) (s : State) (spot : Spot) → IsWithin step_spot (length spot.text) (and_then (put_out line piece s) (λ after. Ok (after, spot)))
+  put_within : (line : ℕ) (piece : Piece) (s : SourceState) (spot : Spot) → IsWithin step_spot (length spot.text) (and_then (put_out line piece s) (λ after. Ok (after, spot)))
   put_within line piece s spot = within_here step_spot _ (put_out line piece s) (λ after. (after, spot)) (λ after. omega arith)
 
-  taken_within : (line : ℕ) (piece : Piece) (s : State) (spot : Spot) → IsWithin step_spot (length spot.text) (taken lent line piece s spot)
+  taken_within : (line : ℕ) (piece : Piece) (s : SourceState) (spot : Spot) → IsWithin step_spot (length spot.text) (piece_taken lent line piece s spot)
   taken_within line (Word word) s spot = within_if step_spot _ (is_directive word) (directed lent line (directive_of word) s spot) _
       (directed_within line (directive_of word) s spot) (put_within line (Word word) s spot)
   taken_within line (Text text) s spot = put_within line (Text text) s spot
   taken_within line (Broken kind) s spot = put_within line (Broken kind) s spot
 
-  pub stepped_within : (line : ℕ) (piece : Piece) (s : State) (spot : Spot) → IsWithin step_spot (length spot.text) (stepped lent line piece s spot)
-  unfolding stepped
-  stepped_within line piece s spot = within_if step_spot _ (is_taking s.branches) (taken lent line piece s spot) _
+  pub stepped_within : (line : ℕ) (piece : Piece) (s : SourceState) (spot : Spot) → IsWithin step_spot (length spot.text) (piece_stepped lent line piece s spot)
+  unfolding piece_stepped
+  stepped_within line piece s spot = within_if step_spot _ (is_taking s.branches) (piece_taken lent line piece s spot) _
       (taken_within line piece s spot) (within_here step_spot _ (skipped line piece s) (λ after. (after, spot)) (λ after. omega arith))
 
-  alike_behind : (n : ℕ) (r : Step) (g h : State → Spot → Result (List Token) Refusal) → IsWithin step_spot n r → ((s : State) (spot : Spot) → length spot.text ≤ n → g s spot ≡ h s spot)
+  alike_behind : (n : ℕ) (r : Step) (g h : SourceState → Spot → Result (List Token) Refusal) → IsWithin step_spot n r → ((s : SourceState) (spot : Spot) → length spot.text ≤ n → g s spot ≡ h s spot)
       → and_then r (λ p. g p.0 p.1) ≡ and_then r (λ p. h p.0 p.1)
   alike_behind n (Ok p) g h w k = k p.0 p.1 w
   alike_behind n (Err refusal) g h w k = refl
 
-  alike : (n : ℕ) (s : State) (f : Front) (g h : State → Spot → Result (List Token) Refusal) → IsShorter n f → ((s : State) (spot : Spot) → length spot.text < n → g s spot ≡ h s spot)
+  alike : (n : ℕ) (s : SourceState) (f : Front) (g h : SourceState → Spot → Result (List Token) Refusal) → IsShorter n f → ((s : SourceState) (spot : Spot) → length spot.text < n → g s spot ≡ h s spot)
       → at_front lent g s f ≡ at_front lent h s f
   alike n s ended g h w k = refl
   alike n s (broken line kind) g h w k = refl
   alike n s (found line piece there text) g h w k =
-      alike_behind (length text) (stepped lent line piece s (record { line = there; text = text })) g h (stepped_within line piece s (record { line = there; text = text }))
+      alike_behind (length text) (piece_stepped lent line piece s (record { line = there; text = text })) g h (stepped_within line piece s (record { line = there; text = text }))
       (λ after spot less. k after spot (omega (arith, less, w)))
 
   -- more than enough is enough
-  words_enough : (n m : ℕ) (s : State) (spot : Spot) → length spot.text < n → length spot.text < m → words_within lent n s spot ≡ words_within lent m s spot
+  words_enough : (n m : ℕ) (s : SourceState) (spot : Spot) → length spot.text < n → length spot.text < m → words_within lent n s spot ≡ words_within lent m s spot
   words_enough zero m s spot h k = absurd (omega (arith, h))
   words_enough (suc n) zero s spot h k = absurd (omega (arith, k))
   words_enough (suc n) (suc m) s spot h k =
-      alike (length spot.text) s (front None spot.line spot.text) (words_within lent n) (words_within lent m) (front_shorter None spot.line spot.text)
+      alike (length spot.text) s (piece_ahead None spot.line spot.text) (words_within lent n) (words_within lent m) (front_shorter None spot.line spot.text)
       (λ after place less. words_enough n m after place (omega (arith, less, h)) (omega (arith, less, k)))
 
-  pub words_ended : (s : State) (spot : Spot) → front None spot.line spot.text ≡ ended → words_from lent s spot ≡ words_unless s.out.words (outermost s.branches)
+  pub words_ended : (s : SourceState) (spot : Spot) → piece_ahead None spot.line spot.text ≡ ended → words_from lent s spot ≡ words_unless s.out.words (outermost s.branches)
   unfolding words_from
   words_ended s spot e = ap (at_front lent (words_within lent (length spot.text)) s) e
 
-  pub words_broken : (s : State) (spot : Spot) (line : ℕ) (kind : FaultKind) → front None spot.line spot.text ≡ broken line kind → words_from lent s spot ≡ refuse line kind
+  pub words_broken : (s : SourceState) (spot : Spot) (line : ℕ) (kind : FaultKind) → piece_ahead None spot.line spot.text ≡ broken line kind → words_from lent s spot ≡ refuse line kind
   unfolding words_from
   words_broken s spot line kind e = ap (at_front lent (words_within lent (length spot.text)) s) e
 
-  pub words_refused : (s : State) (spot : Spot) (line there : ℕ) (piece : Piece) (text : List ℕ) (refusal : Refusal) → front None spot.line spot.text ≡ found line piece there text
-      → stepped lent line piece s (record { line = there; text = text }) ≡ Err refusal → words_from lent s spot ≡ Err refusal
+  pub words_refused : (s : SourceState) (spot : Spot) (line there : ℕ) (piece : Piece) (text : List ℕ) (refusal : Refusal) → piece_ahead None spot.line spot.text ≡ found line piece there text
+      → piece_stepped lent line piece s (record { line = there; text = text }) ≡ Err refusal → words_from lent s spot ≡ Err refusal
   unfolding words_from
   words_refused s spot line there piece text refusal e f =
       ap (at_front lent (words_within lent (length spot.text)) s) e ∙ ap (λ r. and_then r (λ p. words_within lent (length spot.text) p.0 p.1)) f
 
   -- how much is left behind a step
-  pub step_shorter : (s after : State) (spot next : Spot) (line there : ℕ) (piece : Piece) (text : List ℕ) → front None spot.line spot.text ≡ found line piece there text
-      → stepped lent line piece s (record { line = there; text = text }) ≡ Ok (after, next) → length next.text < length spot.text
+  pub step_shorter : (s after : SourceState) (spot next : Spot) (line there : ℕ) (piece : Piece) (text : List ℕ) → piece_ahead None spot.line spot.text ≡ found line piece there text
+      → piece_stepped lent line piece s (record { line = there; text = text }) ≡ Ok (after, next) → length next.text < length spot.text
   step_shorter s after spot next line there piece text e f =
       let within : length next.text ≤ length text = subst (IsWithin step_spot (length text)) f (stepped_within line piece s (record { line = there; text = text })) in
       omega (arith, within, found_shorter None spot.line line there piece spot.text text e)
 
-  pub words_stepped : (s after : State) (spot next : Spot) (line there : ℕ) (piece : Piece) (text : List ℕ) → front None spot.line spot.text ≡ found line piece there text
-      → stepped lent line piece s (record { line = there; text = text }) ≡ Ok (after, next) → words_from lent s spot ≡ words_from lent after next
+  pub words_stepped : (s after : SourceState) (spot next : Spot) (line there : ℕ) (piece : Piece) (text : List ℕ) → piece_ahead None spot.line spot.text ≡ found line piece there text
+      → piece_stepped lent line piece s (record { line = there; text = text }) ≡ Ok (after, next) → words_from lent s spot ≡ words_from lent after next
   unfolding words_from
   words_stepped s after spot next line there piece text e f =
       ap (at_front lent (words_within lent (length spot.text)) s) e

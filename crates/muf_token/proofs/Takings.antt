@@ -11,13 +11,13 @@ use Rattle.muf_token.specs.declared.fault.TokenFault.TheVariants.{Refused, NoMem
 use Rattle.muf_token.specs.declared.includes.Definition.{Definition}
 use Rattle.muf_token.specs.declared.piece.Piece.{Piece}
 use Rattle.muf_token.specs.declared.place.Place.{Place}
-use Rattle.muf_token.specs.Numbers.{kind_of}
-use Rattle.muf_token.specs.Pieces.{lowered, pieces}
+use Rattle.muf_token.specs.Numbers.{token_kind}
+use Rattle.muf_token.specs.Pieces.{lowered, source_pieces}
 use Rattle.muf_token.specs.Expansion.{Definitions}
 use Rattle.muf_token.specs.Output.{and_then}
-use Rattle.muf_token.specs.Directives.{Spot, Name, name_at}
+use Rattle.muf_token.specs.Directives.{Spot, Name, name_behind}
 use Rattle.muf_token.specs.Branches.{is_taking}
-use Rattle.muf_token.specs.Source.{State, Step, object_of, with_all, included, include_at, taken, skipped, stepped}
+use Rattle.muf_token.specs.Source.{SourceState, Step, included_object, with_all, included, include_at, piece_taken, skipped, piece_stepped}
 use Rattle.muf_token.specs.inner.Spots.{spot_of}
 use Rattle.muf_token.specs.inner.Readers.{LeadsTo, LeadsOn}
 use Rattle.muf_token.proofs.Meanings.{lookup_inserted, distinct_inserted}
@@ -25,37 +25,37 @@ use Rattle.muf_token.proofs.Meanings.{lookup_inserted, distinct_inserted}
 -- what the list gives a name, where it gives it one, and else this
 abbrev pub given : List Definition → List ℕ → Option (List Piece) → Option (List Piece)
 given [] q o = o
-given (d ∷ list) q o = given list q (cond (bytes_eq (lowered d.name) q) (Some (pieces d.text)) o)
+given (d ∷ list) q o = given list q (cond (bytes_eq (lowered d.name) q) (Some (source_pieces d.text)) o)
 
 pub lookup_given : (list : List Definition) (es : Definitions) (q : List ℕ) → lookup (bytes_eq q) (with_all list es) ≡ given list q (lookup (bytes_eq q) es)
 lookup_given [] es q = refl
-lookup_given (d ∷ list) es q = lookup_given list (insert_entry bytes_eq es (lowered d.name) (pieces d.text)) q ∙ ap (given list q) (lookup_inserted es (lowered d.name) (pieces d.text) q)
+lookup_given (d ∷ list) es q = lookup_given list (insert_entry bytes_eq es (lowered d.name) (source_pieces d.text)) q ∙ ap (given list q) (lookup_inserted es (lowered d.name) (source_pieces d.text) q)
 
 pub distinct_with_all : (list : List Definition) (es : Definitions) → IsDistinct bytes_eq (keys_of es) → IsDistinct bytes_eq (keys_of (with_all list es))
 distinct_with_all [] es d = d
-distinct_with_all (x ∷ list) es d = distinct_with_all list _ (distinct_inserted es (lowered x.name) (pieces x.text) d)
+distinct_with_all (x ∷ list) es d = distinct_with_all list _ (distinct_inserted es (lowered x.name) (source_pieces x.text) d)
 
 -- ---- steps
 
-pub leads_on : (step : Step) (r : Result Place TokenFault) (now : State) → LeadsTo step r now → LeadsOn step r now
+pub leads_on : (step : Step) (r : Result Place TokenFault) (now : SourceState) → LeadsTo step r now → LeadsOn step r now
 leads_on step (Ok place) now h = (now, h, λ lent spot. refl)
 leads_on step (Err (Refused refusal)) now h = h
 leads_on step (Err NoMemory) now h = h
 
 -- a step that goes on at this place
-pub goes_on : (step : Step) (r : Result State Refusal) (after : State) (place : Place) → step ≡ and_then r (λ a. Ok (a, spot_of place)) → r ≡ Ok after → LeadsOn step (Ok place) after
+pub goes_on : (step : Step) (r : Result SourceState Refusal) (after : SourceState) (place : Place) → step ≡ and_then r (λ a. Ok (a, spot_of place)) → r ≡ Ok after → LeadsOn step (Ok place) after
 goes_on step r after place e f = (after, e ∙ ap (λ x. and_then x (λ a. Ok (a, spot_of place))) f, λ lent spot. refl)
 
 -- a word that isn't read
-pub passed_by : (lent : Dbref → Option (List Definition)) (line : ℕ) (piece : Piece) (s after : State) (place : Place) → is_taking s.branches ≡ false → skipped line piece s ≡ Ok after → LeadsOn (stepped lent line piece s (spot_of place)) (Ok place) after
-unfolding stepped
+pub passed_by : (lent : Dbref → Option (List Definition)) (line : ℕ) (piece : Piece) (s after : SourceState) (place : Place) → is_taking s.branches ≡ false → skipped line piece s ≡ Ok after → LeadsOn (piece_stepped lent line piece s (spot_of place)) (Ok place) after
+unfolding piece_stepped
 passed_by lent line piece s after place off e =
-    goes_on (stepped lent line piece s (spot_of place)) (skipped line piece s) after place
-    (ap (λ b. cond b (taken lent line piece s (spot_of place)) (and_then (skipped line piece s) (λ a. Ok (a, spot_of place)))) off) e
+    goes_on (piece_stepped lent line piece s (spot_of place)) (skipped line piece s) after place
+    (ap (λ b. cond b (piece_taken lent line piece s (spot_of place)) (and_then (skipped line piece s) (λ a. Ok (a, spot_of place)))) off) e
 
-pub include_is : (lent : Dbref → Option (List Definition)) (line : ℕ) (s after : State) (spot : Spot) (n : Name) (d : Dbref) → name_at line spot ≡ Ok n → object_of line n (kind_of n.name) ≡ Ok d → included line s (lent d) ≡ Ok after
+pub include_is : (lent : Dbref → Option (List Definition)) (line : ℕ) (s after : SourceState) (spot : Spot) (n : Name) (d : Dbref) → name_behind line spot ≡ Ok n → included_object line n (token_kind n.name) ≡ Ok d → included line s (lent d) ≡ Ok after
     → include_at lent line s spot ≡ Ok (after, n.behind)
 include_is lent line s after spot n d at object list =
-    ap (λ r. and_then r (λ m. and_then (object_of line m (kind_of m.name)) (λ x. and_then (included line s (lent x)) (λ a. Ok (a, m.behind))))) at
+    ap (λ r. and_then r (λ m. and_then (included_object line m (token_kind m.name)) (λ x. and_then (included line s (lent x)) (λ a. Ok (a, m.behind))))) at
     ∙ ap (λ r. and_then r (λ x. and_then (included line s (lent x)) (λ a. Ok (a, n.behind)))) object
     ∙ ap (λ r. and_then r (λ a. Ok (a, n.behind))) list

@@ -1,9 +1,10 @@
 -- Parts of texts are texts.
-use Rattle.std.proofs.Common.{◌≡◌, ℕ, ◌≤◌, ◌+◌, Bool, true, false, not, ◌&&◌, cond, ltb, List, [], ◌∷◌, ◌++◌, length, take, drop, Some, None, refl, ap, arith, zero, suc}
+use Rattle.std.proofs.Common.{◌≡◌, ℕ, ◌≤◌, Bool, true, false, not, cond, ltb, List, [], ◌∷◌, ◌++◌, length, take, drop, Some, None, refl, arith, zero, suc}
 use Rattle.std.proofs.lemmas.Bool.{and_parts, and_from}
 use Rattle.std.proofs.lemmas.Bool.Decides.{nat_tests}
 use Rattle.std.specs.List.{position_or_len}
-use Rattle.muck_model.specs.Bytes.{is_outside, text_fault, fault_of, text_most}
+use Rattle.muck_laws.proofs.Numbers.{inside_step}
+use Rattle.muck_model.specs.Bytes.{is_outside, text_fault, fault_of_bytes, text_most}
 use Rattle.muf_token.specs.inner.Bytes.{are_inside}
 
 -- what stands behind the first byte
@@ -16,11 +17,6 @@ inside_head b bytes h = (and_parts (not (is_outside b)) (are_inside bytes) h).0
 pub inside_cons : (b : ℕ) (bytes : List ℕ) → not (is_outside b) ≡ true → are_inside bytes ≡ true → are_inside (b ∷ bytes) ≡ true
 inside_cons b bytes h k = and_from (not (is_outside b)) (are_inside bytes) h k
 
--- no byte stands outside
-inside_step : (v : Bool) (rest : Bool) (at n : ℕ) → suc n ≤ cond (not v) (1 + at) 0 → (n ≤ at → rest ≡ true) → (not v && rest) ≡ true
-inside_step true rest at n h k = absurd (omega (arith, h))
-inside_step false rest at n h k = k (omega (arith, h))
-
 inside_none : (bytes : List ℕ) → length bytes ≤ position_or_len is_outside bytes → are_inside bytes ≡ true
 inside_none [] h = refl
 inside_none (b ∷ bytes) h = inside_step (is_outside b) (are_inside bytes) (position_or_len is_outside bytes) (length bytes) h (inside_none bytes)
@@ -32,7 +28,7 @@ passed_all (b ∷ bytes) h =
     let rest = passed_all bytes (inside_tail b bytes h) in
     rw (here, rest) (omega arith)
 
-not_fault : (v : Bool) (at n : ℕ) → fault_of (cond v (Some at) None) n ≡ None → v ≡ false
+not_fault : (v : Bool) (at n : ℕ) → fault_of_bytes (cond v (Some at) None) n ≡ None → v ≡ false
 not_fault true at n h = cc
 not_fault false at n h = refl
 
@@ -60,7 +56,3 @@ inside_take (suc n) (b ∷ xs) h = inside_cons b (take n xs) (inside_head b xs h
 
 -- what stands behind the first byte of a text
 pub ruleset line_parts = (inside_text, inside_tail)
-
-pub append_none : {A : Type 0} (xs : List A) → xs ++ [] ≡ xs
-append_none [] = refl
-append_none (x ∷ xs) = ap (λ rest. x ∷ rest) (append_none xs)

@@ -1,6 +1,7 @@
 -- Words and the white space behind them.
-use Rattle.std.proofs.Common.{◌≡◌, ℕ, ◌≤◌, ◌+◌, true, not, cond, List, [], ◌∷◌, ◌++◌, length, take, drop, refl, ap, sym, ◌∙◌, arith, zero, suc}
-use Rattle.muck_model.proofs.Positions.{position_within}
+use Rattle.std.proofs.Common.{◌≡◌, ℕ, ◌≤◌, ◌+◌, true, not, cond, List, [], ◌∷◌, ◌++◌, length, take, drop, refl, ap, sym, ◌∙◌, arith}
+use Rattle.muck_laws.proofs.Parts.{drop_within, length_drop, length_take, take_within}
+use Rattle.muck_laws.proofs.Tests.{position_within}
 use Rattle.std.proofs.lemmas.List.{length-map}
 use Rattle.std.proofs.lemmas.Bool.Decides.{nat_tests}
 use Rattle.std.specs.List.{position_or_len}
@@ -8,7 +9,7 @@ use Rattle.std.specs.Char.{to_ascii_lowercase}
 use Rattle.muck_model.specs.Bytes.{is_outside}
 use Rattle.muf_token.specs.inner.Bytes.{are_inside}
 use Rattle.muf_token.specs.declared.piece.Piece.TheVariants.{Word}
-use Rattle.muf_token.specs.Pieces.{is_blank, lowered, below, found, word_found}
+use Rattle.muf_token.specs.Pieces.{is_blank_byte, lowered, lines_below, found, word_found}
 use Rattle.muf_token.proofs.Texts.{inside_head, inside_tail, inside_cons, inside_take, inside_drop}
 
 lower_inside : (b : ℕ) → not (is_outside b) ≡ true → not (is_outside (to_ascii_lowercase b)) ≡ true
@@ -24,37 +25,17 @@ length_lowered word = length-map word to_ascii_lowercase
 pub ruleset lower_texts = (inside_lowered, length_lowered)
 
 -- a word ends where its line ends
-pub word_in_line : (here : List ℕ) (lines : List (List ℕ)) → position_or_len is_blank (here ++ below lines) ≡ position_or_len is_blank here
+pub word_in_line : (here : List ℕ) (lines : List (List ℕ)) → position_or_len is_blank_byte (here ++ lines_below lines) ≡ position_or_len is_blank_byte here
 word_in_line [] [] = refl
 word_in_line [] (line ∷ lines) = refl
-word_in_line (b ∷ here) lines = ap (λ n. cond (not (is_blank b)) (1 + n) 0) (word_in_line here lines)
-
-drop_within : (n : ℕ) (xs ys : List ℕ) → n ≤ length xs → drop n (xs ++ ys) ≡ drop n xs ++ ys
-drop_within zero xs ys h = refl
-drop_within (suc n) [] ys h = absurd (omega (arith, h))
-drop_within (suc n) (x ∷ xs) ys h = drop_within n xs ys (omega (arith, h))
-
-take_within : (n : ℕ) (xs ys : List ℕ) → n ≤ length xs → take n (xs ++ ys) ≡ take n xs
-take_within zero xs ys h = refl
-take_within (suc n) [] ys h = absurd (omega (arith, h))
-take_within (suc n) (x ∷ xs) ys h = ap (λ rest. x ∷ rest) (take_within n xs ys (omega (arith, h)))
+word_in_line (b ∷ here) lines = ap (λ n. cond (not (is_blank_byte b)) (1 + n) 0) (word_in_line here lines)
 
 -- the word at a place, in the words of its line
-pub word_split : (line : ℕ) (here : List ℕ) (lines : List (List ℕ)) (n : ℕ) → n ≡ position_or_len is_blank here
-    → word_found line (here ++ below lines) ≡ found line (Word (lowered (take n here))) line (drop n here ++ below lines)
+pub word_split : (line : ℕ) (here : List ℕ) (lines : List (List ℕ)) (n : ℕ) → n ≡ position_or_len is_blank_byte here
+    → word_found line (here ++ lines_below lines) ≡ found line (Word (lowered (take n here))) line (drop n here ++ lines_below lines)
 word_split line here lines n e =
-    let within : n ≤ length here = omega (arith, position_within is_blank here, e) in
-    let same : position_or_len is_blank (here ++ below lines) ≡ n = word_in_line here lines ∙ sym e in
-    rw (same, take_within n here (below lines) within, drop_within n here (below lines) within) refl
-
-pub length_take : (n : ℕ) (xs : List ℕ) → length (take n xs) ≤ length xs
-length_take zero xs = omega arith
-length_take (suc n) [] = omega arith
-length_take (suc n) (x ∷ xs) = omega (arith, length_take n xs)
-
-pub length_drop : (n : ℕ) (xs : List ℕ) → length (drop n xs) ≤ length xs
-length_drop zero xs = omega arith
-length_drop (suc n) [] = omega arith
-length_drop (suc n) (x ∷ xs) = omega (arith, length_drop n xs)
+    let within : n ≤ length here = omega (arith, position_within is_blank_byte here, e) in
+    let same : position_or_len is_blank_byte (here ++ lines_below lines) ≡ n = word_in_line here lines ∙ sym e in
+    rw (same, take_within n here (lines_below lines) within, drop_within n here (lines_below lines) within) refl
 
 pub ruleset words = (word_split, inside_take, inside_drop, length_take, length_drop)

@@ -16,14 +16,14 @@ outermost [] = None
 outermost (branch ∷ []) = Some branch.line
 outermost (branch ∷ next ∷ branches) = outermost (next ∷ branches)
 
-abbrev pub turned : ℕ → Branch → Option Bool → List Branch → Result (List Branch) Refusal
-turned line innermost None branches = refuse line BadDirective
-turned line innermost (Some taken) branches = Ok (record innermost { taken = taken; other = None } ∷ branches)
+abbrev pub branch_turned : ℕ → Branch → Option Bool → List Branch → Result (List Branch) Refusal
+branch_turned line innermost None branches = refuse line BadDirective
+branch_turned line innermost (Some taken) branches = Ok (record innermost { taken = taken; other = None } ∷ branches)
 
 -- behind the `$else` at this line, which belongs to the innermost; a second one is refused
 abbrev pub other_part : ℕ → List Branch → Result (List Branch) Refusal
 other_part line [] = refuse line BadDirective
-other_part line (innermost ∷ branches) = turned line innermost innermost.other branches
+other_part line (innermost ∷ branches) = branch_turned line innermost innermost.other branches
 
 -- behind the `$endif` at this line, which ends the innermost
 abbrev pub without_innermost : ℕ → List Branch → Result (List Branch) Refusal

@@ -8,7 +8,7 @@ use Rattle.muf_token.specs.declared.directive.Directive.{Directive}
 use Rattle.muf_token.specs.declared.directive.Directive.TheVariants.{Def, Define, Undef, Ifdef, Ifndef, Else, Endif, Include}
 use Rattle.muf_token.specs.declared.piece.Piece.{Piece}
 use Rattle.muf_token.specs.declared.piece.Piece.TheVariants.{Word}
-use Rattle.muf_token.specs.Pieces.{Front, ended, broken, found, front}
+use Rattle.muf_token.specs.Pieces.{Front, ended, broken, found, piece_ahead}
 use Rattle.muf_token.specs.Expansion.{is_directive}
 use Rattle.muf_token.specs.Output.{refuse, and_then}
 
@@ -45,8 +45,8 @@ name_in line (found at (Word name) there text) =
 name_in line (found at _ there text) = refuse line BadDirective
 
 -- the name behind the directive at this line: the next word, past white space, line ends and comments
-abbrev pub name_at : ℕ → Spot → Result Name Refusal
-name_at line spot = name_in line (front None spot.line spot.text)
+abbrev pub name_behind : ℕ → Spot → Result Name Refusal
+name_behind line spot = name_in line (piece_ahead None spot.line spot.text)
 
 abbrev pub is_line_end : ℕ → Bool
 is_line_end b = b == 10
@@ -64,23 +64,23 @@ abbrev pub is_enddef : Piece → Bool
 is_enddef (Word word) = bytes_eq word (codes "$enddef")
 is_enddef _ = false
 
-abbrev pub Body : Type 0
-Body = List Piece × Spot
+abbrev pub DefinitionBody : Type 0
+DefinitionBody = List Piece × Spot
 
-abbrev pub after_piece : Piece → Result Body Refusal → Result Body Refusal
+abbrev pub after_piece : Piece → Result DefinitionBody Refusal → Result DefinitionBody Refusal
 after_piece piece rest = and_then rest (λ body. Ok (piece ∷ body.0, body.1))
 
-abbrev pub body_in : (ℕ → List ℕ → Result Body Refusal) → ℕ → Front → Result Body Refusal
-body_in rest line ended = refuse line BadDirective
-body_in rest line (broken at kind) = refuse at kind
-body_in rest line (found at piece there text) =
+abbrev pub definition_body_in : (ℕ → List ℕ → Result DefinitionBody Refusal) → ℕ → Front → Result DefinitionBody Refusal
+definition_body_in rest line ended = refuse line BadDirective
+definition_body_in rest line (broken at kind) = refuse at kind
+definition_body_in rest line (found at piece there text) =
     if is_enddef piece then Ok ([], record { line = there; text = text }) else after_piece piece (rest there text)
 
 -- the same, of so many pieces at most
-abbrev pub body_within : ℕ → ℕ → ℕ → List ℕ → Result Body Refusal
+abbrev pub body_within : ℕ → ℕ → ℕ → List ℕ → Result DefinitionBody Refusal
 body_within zero line at text = refuse line BadDirective
-body_within (suc most) line at text = body_in (body_within most line) line (front None at text)
+body_within (suc most) line at text = definition_body_in (body_within most line) line (piece_ahead None at text)
 
 -- the pieces between the name of the `$define` at this line and the first `$enddef`, and the place behind that
-unfoldable pub body_at : ℕ → Spot → Result Body Refusal
+unfoldable pub body_at : ℕ → Spot → Result DefinitionBody Refusal
 body_at line spot = body_within (suc (length spot.text)) line spot.line spot.text

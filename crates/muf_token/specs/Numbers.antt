@@ -12,14 +12,14 @@ abbrev pub amount_of : List ℕ → ℕ
 amount_of digits = fold (λ n digit. n * 10 + (digit - 48)) 0 digits
 
 -- that amount with its sign, where 32 bits hold it
-abbrev pub signed : Bool → ℕ → Numeral
-signed true n = if nat_le n (2 ^ 31) then Is (neg_ℤ (pos n)) else Beyond
-signed false n = if nat_lt n (2 ^ 31) then Is (pos n) else Beyond
+abbrev pub amount_signed : Bool → ℕ → Numeral
+amount_signed true n = if nat_le n (2 ^ 31) then Is (neg_ℤ (pos n)) else Beyond
+amount_signed false n = if nat_lt n (2 ^ 31) then Is (pos n) else Beyond
 
 -- digits behind a sign
 abbrev pub digits_of : Bool → List ℕ → Numeral
 digits_of negative [] = No
-digits_of negative (b ∷ bytes) = if list_all is_digit (b ∷ bytes) then signed negative (amount_of (b ∷ bytes)) else No
+digits_of negative (b ∷ bytes) = if list_all is_digit (b ∷ bytes) then amount_signed negative (amount_of (b ∷ bytes)) else No
 
 -- an optional `-` and digits
 abbrev pub integer_of : List ℕ → Numeral
@@ -38,9 +38,9 @@ address_kind (b ∷ name) = Some (Address (b ∷ name))
 
 -- what a word says by itself: behind `#` an integer is a dbref, and what stands behind `'` is the name of a word whose
 -- address it is; none where it writes a number that 32 bits don't hold
-unfoldable pub kind_of : List ℕ → Option TokenKind
-kind_of [] = Some (Word [])
-kind_of (b ∷ bytes) =
+unfoldable pub token_kind : List ℕ → Option TokenKind
+token_kind [] = Some (Word [])
+token_kind (b ∷ bytes) =
     if b == 35 then numeral_kind (λ n. Ref (record { 0 = n })) (b ∷ bytes) (integer_of bytes)
     else if b == 39 then address_kind bytes
     else numeral_kind (λ n. Number n) (b ∷ bytes) (integer_of (b ∷ bytes))

@@ -30,12 +30,12 @@ put_kind line None out = refuse line BadNumber
 put_kind line (Some kind) out = Ok (record out { words = out.words ++ record { line = line; kind = kind } ∷ [] })
 
 -- one word more, where there is room; none stands for a number that 32 bits don't hold
-abbrev pub put : ℕ → Option TokenKind → Output → Result Output Refusal
-put line kind out = if nat_lt (length out.words) words_most then put_kind line kind out else refuse line TooManyWords
+abbrev pub word_put : ℕ → Option TokenKind → Output → Result Output Refusal
+word_put line kind out = if nat_lt (length out.words) words_most then put_kind line kind out else refuse line TooManyWords
 
 -- one use of a definition more
-abbrev pub used : ℕ → Output → Result Output Refusal
-used line out = if nat_lt out.uses uses_most then Ok (record out { uses = out.uses + 1 }) else refuse line TooManyWords
+abbrev pub definition_used : ℕ → Output → Result Output Refusal
+definition_used line out = if nat_lt out.uses uses_most then Ok (record out { uses = out.uses + 1 }) else refuse line TooManyWords
 
 -- the answer of a call that changes something, and what it leaves; want of memory says nothing
 abbrev pub Leads : {A B : Type 0} → Result A Refusal → Result B TokenFault → A → Type 0

@@ -9,26 +9,26 @@ use Rattle.muf_token.specs.declared.piece.Piece.{Piece}
 use Rattle.muf_token.specs.declared.piece.Piece.TheVariants.{Word, Text, Broken}
 
 -- a line's end, byte 13 or a space
-abbrev pub is_blank : ℕ → Bool
-is_blank b = b == 10 || b == 13 || b == 32
+abbrev pub is_blank_byte : ℕ → Bool
+is_blank_byte b = b == 10 || b == 13 || b == 32
 
 -- a word without its case
 abbrev pub lowered : List ℕ → List ℕ
 lowered word = map to_ascii_lowercase word
 
 -- what stands behind a line: the lines below it, each after a byte 10
-abbrev pub below : List (List ℕ) → List ℕ
-below [] = []
-below (line ∷ lines) = 10 ∷ (line ++ below lines)
+abbrev pub lines_below : List (List ℕ) → List ℕ
+lines_below [] = []
+lines_below (line ∷ lines) = 10 ∷ (line ++ lines_below lines)
 
 -- the lines as one text, with a byte 10 between each two
-abbrev pub joined : List (List ℕ) → List ℕ
-joined [] = []
-joined (line ∷ lines) = line ++ below lines
+abbrev pub source_joined : List (List ℕ) → List ℕ
+source_joined [] = []
+source_joined (line ∷ lines) = line ++ lines_below lines
 
 -- the number of the line below this one; it stands still at the last number that 32 bits hold
-abbrev pub next_line : ℕ → ℕ
-next_line line = min (line + 1) (2 ^ 32 - 1)
+abbrev pub line_number_below : ℕ → ℕ
+line_number_below line = min (line + 1) (2 ^ 32 - 1)
 
 -- what stands at the front of a text: nothing more, a fault with its line, or a piece with its line and, behind it, the
 -- number of the line there and the text there
@@ -61,7 +61,7 @@ text_found line None = broken line OpenString
 text_found line (Some p) = found line (Text p.0) line p.1
 
 abbrev pub word_found : ℕ → List ℕ → Front
-word_found line text = found line (Word (lowered (before_first is_blank text))) line (drop (position_or_len is_blank text) text)
+word_found line text = found line (Word (lowered (before_first is_blank_byte text))) line (drop (position_or_len is_blank_byte text) text)
 
 -- a piece that begins here: a text between quotes, or a word, which ends at white space alone
 abbrev pub piece_here : ℕ → List ℕ → Front
@@ -70,31 +70,31 @@ piece_here line (b ∷ bytes) = if b == 34 then text_found line (quoted false by
 
 -- the first piece behind white space and comments. A comment goes from `(` to the next `)`, on whatever line; `inside`
 -- is the line at which one began that is open
-unfoldable pub front : Option ℕ → ℕ → List ℕ → Front
-front None line [] = ended
-front (Some began) line [] = broken began OpenComment
-front None line (b ∷ bytes) =
-    if b == 10 then front None (next_line line) bytes
-    else if is_blank b then front None line bytes
-    else if b == 40 then front (Some line) line bytes
+unfoldable pub piece_ahead : Option ℕ → ℕ → List ℕ → Front
+piece_ahead None line [] = ended
+piece_ahead (Some began) line [] = broken began OpenComment
+piece_ahead None line (b ∷ bytes) =
+    if b == 10 then piece_ahead None (line_number_below line) bytes
+    else if is_blank_byte b then piece_ahead None line bytes
+    else if b == 40 then piece_ahead (Some line) line bytes
     else piece_here line (b ∷ bytes)
-front (Some began) line (b ∷ bytes) =
-    if b == 10 then front (Some began) (next_line line) bytes
-    else if b == 41 then front None line bytes
-    else front (Some began) line bytes
+piece_ahead (Some began) line (b ∷ bytes) =
+    if b == 10 then piece_ahead (Some began) (line_number_below line) bytes
+    else if b == 41 then piece_ahead None line bytes
+    else piece_ahead (Some began) line bytes
 
 -- one piece, and what follows it
-abbrev pub then_pieces : Front → (ℕ → List ℕ → List Piece) → List Piece
-then_pieces ended rest = []
-then_pieces (broken line kind) rest = Broken kind ∷ []
-then_pieces (found line piece there text) rest = piece ∷ rest there text
+abbrev pub then_source_pieces : Front → (ℕ → List ℕ → List Piece) → List Piece
+then_source_pieces ended rest = []
+then_source_pieces (broken line kind) rest = Broken kind ∷ []
+then_source_pieces (found line piece there text) rest = piece ∷ rest there text
 
 -- the first pieces of a text, up to a fault. Each takes a byte at least, so that with `most` above the count of its
 -- bytes these are all
 abbrev pub first_pieces : ℕ → ℕ → List ℕ → List Piece
 first_pieces zero line text = []
-first_pieces (suc most) line text = then_pieces (front None line text) (first_pieces most)
+first_pieces (suc most) line text = then_source_pieces (piece_ahead None line text) (first_pieces most)
 
 -- all pieces of a text that is one line, up to a fault
-unfoldable pub pieces : List ℕ → List Piece
-pieces text = first_pieces (suc (length text)) 0 text
+unfoldable pub source_pieces : List ℕ → List Piece
+source_pieces text = first_pieces (suc (length text)) 0 text

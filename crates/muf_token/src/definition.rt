@@ -2,7 +2,7 @@
 ghost use Rattle.std.specs.Prelude.{◌≡◌, IfOk, ◌≤◌, length, true};
 ghost use Rattle.muck_model.specs.Bytes.{text_most};
 ghost use Rattle.muf_token.specs.inner.Bytes.{are_inside};
-ghost use Rattle.muf_token.specs.Pieces.{pieces};
+ghost use Rattle.muf_token.specs.Pieces.{source_pieces};
 
 use crate::TokenFault;
 use crate::piece::Piece;
@@ -11,11 +11,11 @@ use muck_model::{NoMemory, Row};
 use std::alloc::Global;
 
 /// The pieces of a text that is one line, up to a fault.
-#[tactic(auto, unfolding(crate::specs::Pieces::pieces), using(crate::proofs::Fronts::pieces_rules))]
+#[tactic(auto, unfolding(crate::specs::Pieces::source_pieces), using(crate::proofs::Fronts::pieces_rules))]
 pub(crate) fn pieces_of(alloc: Global, text: &[u8]) -> Result<Row<Piece>, NoMemory>
     requires inside { are_inside text.now ≡ true }
     requires short { length text.now ≤ text_most }
-    ensures { IfOk result (λ list. list ≡ pieces text.now) }
+    ensures { IfOk result (λ list. list ≡ source_pieces text.now) }
 {
     let mut list = Row::new(alloc)?;
     let mut place = Place::in_text(text);

@@ -1,7 +1,7 @@
 // Directives, and what stands behind them.
 ghost use Rattle.std.specs.Prelude.{◌≡◌, ◌∷◌, [], Some, None, true};
 ghost use Rattle.muf_token.specs.inner.Bytes.{are_inside};
-ghost use Rattle.muf_token.specs.Directives.{directive_of, name_at, body_at, is_enddef, rest_of_line, end_of_line};
+ghost use Rattle.muf_token.specs.Directives.{directive_of, name_behind, body_at, is_enddef, rest_of_line, end_of_line};
 ghost use Rattle.muf_token.specs.inner.Spots.{spot_of, IsName, IsBody};
 
 use crate::expansion::is_directive;
@@ -62,7 +62,7 @@ pub(crate) struct Name<'a> {
 
 /// The name behind the directive at this line.
 pub(crate) fn name_at(alloc: Global, line: u32, place: Place<'_>) -> Result<Name<'_>, TokenFault>
-    ensures { IsName (name_at line (spot_of place.entry)) result }
+    ensures { IsName (name_behind line (spot_of place.entry)) result }
 {
     let fault = refused(line, FaultKind::BadDirective);
     let Some(

@@ -1,7 +1,7 @@
 // Why a source can't be read.
 ghost use Rattle.std.specs.Prelude.{◌≡◌};
 ghost use Rattle.muf_token.specs.declared.fault.TokenFault.TheVariants.{Refused};
-ghost use Rattle.muf_token.specs.Faults.{number_of_kind};
+ghost use Rattle.muf_token.specs.Faults.{token_fault_number};
 
 use muck_model::NoMemory;
 use std::alloc::{AllocError, AllocFailed};
@@ -28,7 +28,7 @@ pub enum FaultKind {
 impl FaultKind {
     /// The number by which a user knows it.
     pub fn number(self) -> u8
-        ensures { result ≡ number_of_kind self }
+        ensures { result ≡ token_fault_number self }
     {
         match self {
             FaultKind::OpenString => 20,

@@ -5,7 +5,7 @@ ghost use Rattle.std.specs.Ordering.{int_eq};
 ghost use Rattle.std.specs.List.{IsDistinct};
 ghost use Rattle.std.specs.Map.{lookup, keys_of};
 ghost use Rattle.std.specs.Str.{bytes_eq};
-ghost use Rattle.muf_token.specs.Pieces.{lowered, pieces};
+ghost use Rattle.muf_token.specs.Pieces.{lowered, source_pieces};
 ghost use Rattle.muf_token.specs.inner.Layers.{newest, told, meant, lents, own, entry_at, stamp_at, lents_of, IsTimed, LendsOn};
 
 use crate::definition::pieces_of;
@@ -52,7 +52,7 @@ fn lower_line(alloc: Global, word: &Line) -> Result<Line, NoMemory>
 // The pieces of a text.
 #[tactic(auto, using(crate::proofs::Texts::line_parts))]
 fn line_pieces(alloc: Global, text: &Line) -> Result<Row<Piece>, NoMemory>
-    ensures { IfOk result (λ list. list ≡ pieces text.now) }
+    ensures { IfOk result (λ list. list ≡ source_pieces text.now) }
 {
     let list = pieces_of(alloc, text.as_slice())?;
     Ok(list)

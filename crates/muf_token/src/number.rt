@@ -4,7 +4,7 @@ ghost use Rattle.std.specs.List.{list_all};
 ghost use Rattle.muck_model.specs.Bytes.{text_most};
 ghost use Rattle.muf_token.specs.inner.Bytes.{are_inside};
 ghost use Rattle.muck_model.specs.Decimal.{is_digit};
-ghost use Rattle.muf_token.specs.Numbers.{kind_of, amount_of, signed, digits_of, integer_of};
+ghost use Rattle.muf_token.specs.Numbers.{token_kind, amount_of, amount_signed, digits_of, integer_of};
 
 use crate::place::text_of;
 use crate::token::TokenKind;
@@ -46,7 +46,7 @@ fn amount_of(digits: &[u8]) -> u64
 // The amount with its sign, where 32 bits hold it.
 fn signed(negative: bool, amount: u64) -> Numeral
     requires { amount ≤ CAP }
-    ensures { result ≡ signed negative amount }
+    ensures { result ≡ amount_signed negative amount }
 {
     if negative {
         if amount <= 1 << 31 {
@@ -93,9 +93,9 @@ fn name_of(alloc: Global, bytes: &[u8]) -> Result<Line, NoMemory>
 }
 
 /// What a word says by itself; none where it writes a number that 32 bits don't hold.
-#[tactic(auto, unfolding(crate::specs::Numbers::kind_of), using(crate::proofs::Texts::line_parts))]
+#[tactic(auto, unfolding(crate::specs::Numbers::token_kind), using(crate::proofs::Texts::line_parts))]
 pub(crate) fn kind_of(alloc: Global, word: &Line) -> Result<Option<TokenKind>, NoMemory>
-    ensures { IfOk result (λ kind. kind ≡ kind_of word.now) }
+    ensures { IfOk result (λ kind. kind ≡ token_kind word.now) }
 {
     let numeral = match word.as_slice().split_first() {
         Some((b'#', rest)) => match integer_of(rest) {

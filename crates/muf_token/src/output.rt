@@ -1,7 +1,7 @@
 // The words that come out.
 ghost use Rattle.std.specs.Prelude.{◌≡◌, IfOk, ◌≤◌, length, [], None};
-ghost use Rattle.muf_token.specs.Numbers.{kind_of};
-ghost use Rattle.muf_token.specs.Output.{Leads, put, used};
+ghost use Rattle.muf_token.specs.Numbers.{token_kind};
+ghost use Rattle.muf_token.specs.Output.{Leads, word_put, definition_used};
 
 use crate::fault::refused;
 use crate::number::kind_of;
@@ -26,7 +26,7 @@ impl Output {
     /// Puts a word out; none stands for a number that 32 bits don't hold.
     #[tactic(auto, unfolding(crate::specs::Output::words_most))]
     pub fn put(&mut self, line: u32, kind: Option<TokenKind>) -> Result<(), TokenFault>
-        ensures { Leads (put line kind self.old) result self.new }
+        ensures { Leads (word_put line kind self.old) result self.new }
     {
         if self.words.len() >= WORDS_MOST {
             return Err(refused(line, FaultKind::TooManyWords));
@@ -41,7 +41,7 @@ impl Output {
     /// Counts one use of a definition more.
     #[tactic(auto, unfolding(crate::specs::Output::uses_most))]
     pub fn count_use(&mut self, line: u32) -> Result<(), TokenFault>
-        ensures { Leads (used line self.old) result self.new }
+        ensures { Leads (definition_used line self.old) result self.new }
     {
         if self.uses >= USES_MOST {
             return Err(refused(line, FaultKind::TooManyWords));

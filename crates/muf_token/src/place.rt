@@ -3,7 +3,7 @@ ghost use Rattle.std.specs.Prelude.{drop, ◌≡◌, ℕ, List, ◌+◌, ◌++�
 ghost use Rattle.muf_token.specs.inner.Bytes.{are_inside};
 ghost use Rattle.std.specs.List.{position, position_or_len};
 ghost use Rattle.muck_model.specs.Bytes.{text_most};
-ghost use Rattle.muf_token.specs.Pieces.{is_blank, escaped_byte, lowered, below, joined, next_line, front, piece_here};
+ghost use Rattle.muf_token.specs.Pieces.{is_blank_byte, escaped_byte, lowered, lines_below, source_joined, line_number_below, piece_ahead, piece_here};
 
 use crate::fault::refused;
 use crate::piece::Piece;
@@ -31,7 +31,7 @@ pub(crate) struct Found<'a> {
 
 // Whether a byte is white space.
 fn is_blank(byte: u8) -> bool
-    ensures { result ≡ is_blank byte }
+    ensures { result ≡ is_blank_byte byte }
 {
     byte == b'\n' || byte == 13 || byte == b' '
 }
@@ -45,7 +45,7 @@ fn escaped_byte(byte: u8) -> u8
 
 // How many bytes stand before the first white space.
 fn blank_at(bytes: &[u8]) -> Option<usize>
-    ensures { result ≡ position is_blank bytes.now }
+    ensures { result ≡ position is_blank_byte bytes.now }
 {
     bytes
         .iter()
@@ -54,7 +54,7 @@ fn blank_at(bytes: &[u8]) -> Option<usize>
 
 #[tactic(auto, using(muck_model::proofs::Positions::positions))]
 fn word_len(bytes: &[u8]) -> usize
-    ensures at { result ≡ position_or_len is_blank bytes.now }
+    ensures at { result ≡ position_or_len is_blank_byte bytes.now }
     ensures within { result ≤ length bytes.now }
 {
     blank_at(bytes).unwrap_or(bytes.len())
@@ -95,7 +95,7 @@ impl<'a> Place<'a> {
     ghost use Rattle.muf_token.specs.inner.Places.{text_at, IsFirst, IsLead, IsWord, IsQuoted, IsFront};
 
     /// The first place of a text that is one line.
-    #[tactic(auto, using(crate::proofs::Texts::append_none))]
+    #[tactic(auto, using(muck_laws::proofs::Lists::append_none))]
     pub fn in_text(text: &'a [u8]) -> Place<'a>
         requires inside { are_inside text.now ≡ true }
         requires short { length text.now ≤ text_most }
@@ -113,7 +113,7 @@ impl<'a> Place<'a> {
     #[tactic(auto, using(crate::proofs::Texts::inside_text))]
     pub fn in_source(source: &'a [Line]) -> Place<'a>
         ensures line { result.line ≡ 1 }
-        ensures text { text_at result ≡ joined source.now }
+        ensures text { text_at result ≡ source_joined source.now }
     {
         match source.split_first() {
             Some((line, below)) => Place {
@@ -166,9 +166,9 @@ impl<'a> Place<'a> {
     }
 
     // The place past white space and comments, where a piece begins or the text ends.
-    #[tactic(auto, unfolding(crate::specs::Pieces::front))]
+    #[tactic(auto, unfolding(crate::specs::Pieces::piece_ahead))]
     fn lead(self) -> Result<Place<'a>, Refusal>
-        ensures { IsLead (front None self.entry.line (text_at self.entry)) result }
+        ensures { IsLead (piece_ahead None self.entry.line (text_at self.entry)) result }
     {
         let mut place = self;
         let mut comment = None;
@@ -238,9 +238,9 @@ impl<'a> Place<'a> {
     }
 
     /// The first piece from this place on, behind white space and comments; none where the text ends before one.
-    #[tactic(auto, unfolding(crate::specs::Pieces::front))]
+    #[tactic(auto, unfolding(crate::specs::Pieces::piece_ahead))]
     pub fn next(self, alloc: Global) -> Result<Option<Found<'a>>, TokenFault>
-        ensures { IsFront (front None self.entry.line (text_at self.entry)) result }
+        ensures { IsFront (piece_ahead None self.entry.line (text_at self.entry)) result }
     {
         let place = self.lead()?;
         let Some((byte, behind)) = place.first() else {

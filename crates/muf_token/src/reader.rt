@@ -3,12 +3,12 @@ ghost use Rattle.muf_token.specs.declared.token.Token.{Token};
 ghost use Rattle.muf_token.specs.Branches.{outermost};
 ghost use Rattle.std.specs.Prelude.{List, Option, ◌≡◌, ◌++◌, ◌∷◌, [], OnOk, OnErr, IfOk, not, if◌then◌else◌, true, false};
 ghost use Rattle.muf_token.specs.Output.{Leads};
-ghost use Rattle.muf_token.specs.Directives.{name_at, body_at, directive_of};
+ghost use Rattle.muf_token.specs.Directives.{name_behind, body_at, directive_of};
 ghost use Rattle.muck_model.specs.declared.dbref.Dbref.{Dbref};
-ghost use Rattle.muf_token.specs.Numbers.{kind_of};
-ghost use Rattle.muf_token.specs.Pieces.{pieces};
+ghost use Rattle.muf_token.specs.Numbers.{token_kind};
+ghost use Rattle.muf_token.specs.Pieces.{source_pieces};
 ghost use Rattle.muf_token.specs.inner.Spots.{spot_of, name_of, IsAnswer};
-ghost use Rattle.muf_token.specs.Source.{with_definition, def_at, define_at, undef_at, is_defined, with_branch, conditional_at, else_at, endif_at, object_of, include_at, directed, passed, put_out, taken, skipped, stepped, words_unless, nothing_known};
+ghost use Rattle.muf_token.specs.Source.{with_definition, def_at, define_at, undef_at, is_defined, with_branch, conditional_at, else_at, endif_at, included_object, include_at, directed, word_passed, put_out, piece_taken, skipped, piece_stepped, words_unless, nothing_brought};
 ghost use Rattle.muf_token.specs.inner.Readers.{state_of, LeadsTo, LeadsOn, IsRead, AreKept, Readies, SayTheSame};
 ghost use Rattle.muf_token.specs.inner.Layers.{AreTaken, IsTimed, LendsOn};
 ghost use Rattle.muf_token.specs.declared.includes.Definition.{Definition};
@@ -41,7 +41,7 @@ pub(crate) struct Reader {
 
 // The object that `$include` names.
 fn object_of(alloc: Global, line: u32, name: &Name<'_>) -> Result<Dbref, TokenFault>
-    ensures { IsAnswer (λ (d : Dbref). d) (object_of line (name_of name.now) (kind_of name.now.name)) result }
+    ensures { IsAnswer (λ (d : Dbref). d) (included_object line (name_of name.now) (token_kind name.now.name)) result }
 {
     match kind_of(alloc, &name.name)? {
         Some(TokenKind::Ref(object)) => Ok(object),
@@ -54,7 +54,7 @@ impl Reader {
     /// Nothing is known.
     #[tactic(auto, using(crate::proofs::Renewals::takings))]
     pub fn new(alloc: Global) -> Result<Reader, NoMemory>
-        ensures known { IfOk result (λ r. state_of r ≡ nothing_known) }
+        ensures known { IfOk result (λ r. state_of r ≡ nothing_brought) }
         ensures taken { IfOk result (λ r. (lent : Dbref → Option (List Definition)) → AreTaken lent r.definitions) }
     {
         Ok(Reader {
@@ -246,7 +246,7 @@ impl Reader {
 
     // A word where words aren't read.
     fn pass_word(&mut self, line: u32, word: &Line) -> Result<(), TokenFault>
-        ensures leads { Leads (passed line (directive_of word.now) (state_of self.old)) result (state_of self.new) }
+        ensures leads { Leads (word_passed line (directive_of word.now) (state_of self.old)) result (state_of self.new) }
         ensures same { OnOk result (AreKept self.old self.new) }
     {
         match directive_of(word) {
@@ -292,7 +292,7 @@ impl Reader {
         place: Place<'a>,
     ) -> Result<Place<'a>, TokenFault>
         requires { AreTaken (I.lent include.now) self.old.definitions }
-        ensures leads { LeadsOn (taken (I.lent include.now) line piece.now (state_of self.old) (spot_of place.entry)) result (state_of self.new) }
+        ensures leads { LeadsOn (piece_taken (I.lent include.now) line piece.now (state_of self.old) (spot_of place.entry)) result (state_of self.new) }
         ensures taken { OnOk result (AreTaken (I.lent include.now) self.new.definitions) }
     {
         if let Piece::Word(word) = piece {
@@ -316,7 +316,7 @@ impl Reader {
     }
 
     // One piece of the source at this line, with what it brings; then it goes on at the place that comes back.
-    #[tactic(auto, unfolding(crate::specs::Source::stepped), using(crate::proofs::Renewals::takings))]
+    #[tactic(auto, unfolding(crate::specs::Source::piece_stepped), using(crate::proofs::Renewals::takings))]
     fn take<'a, I: Includes>(
         &mut self,
         alloc: Global,
@@ -326,7 +326,7 @@ impl Reader {
         place: Place<'a>,
     ) -> Result<Place<'a>, TokenFault>
         requires { AreTaken (I.lent include.now) self.old.definitions }
-        ensures leads { LeadsOn (stepped (I.lent include.now) line piece.now (state_of self.old) (spot_of place.entry)) result (state_of self.new) }
+        ensures leads { LeadsOn (piece_stepped (I.lent include.now) line piece.now (state_of self.old) (spot_of place.entry)) result (state_of self.new) }
         ensures taken { OnOk result (AreTaken (I.lent include.now) self.new.definitions) }
     {
         if self.branches.is_taking() {

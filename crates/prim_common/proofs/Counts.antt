@@ -3,9 +3,9 @@ use Rattle.std.proofs.Common.{◌≡◌, ℕ, zero, suc, ◌+◌, ◌*◌, ◌<�
 use Rattle.std.specs.Prelude.{ℤ, pos, negsuc, nat_lt, ◌&&◌}
 use Rattle.std.proofs.lemmas.List.{length-append, length-map, append-nil}
 use Rattle.std.proofs.lemmas.Bool.{ltb-true, and_parts}
-use Rattle.std.proofs.lemmas.Nat.{mul-le}
 use Rattle.std.proofs.Math.Nat.{zero-mul, suc-mul}
 use Rattle.std.specs.Option.{option_or}
+use Rattle.muck_laws.proofs.Numbers.{product_most}
 use Rattle.muf_model.specs.declared.needs.Need.{Need}
 use Rattle.muf_model.specs.declared.prims.Primitive.{Primitive}
 use Rattle.muf_model.specs.declared.prims.Primitive.TheVariants.{Pop}
@@ -15,7 +15,7 @@ use Rattle.muf_model.specs.Answer.{too_few}
 use Rattle.muf_model.specs.Datum.{Datum, int}
 use Rattle.muf_model.specs.Needs.{Many, Needs}
 use Rattle.muf_model.specs.Prims.{needs_of}
-use Rattle.muf_model.specs.Ladder.{short, times, counted, wanted, miscounted, too_short}
+use Rattle.muf_model.specs.Ladder.{short, times, count_on_top, wanted, miscounted, too_short}
 use Rattle.muf_frame.specs.inner.Answers.{int_at}
 use Rattle.prim_common.specs.inner.Tests.{count_of, uncounted, AreFew, FewCounted}
 use Rattle.prim_common.proofs.Faults.{or_assoc}
@@ -39,7 +39,7 @@ miscounted_at zero (_ ∷ rest) = refl
 miscounted_at (suc at) [] = refl
 miscounted_at (suc at) (x ∷ rest) = miscounted_at at rest
 
-count_at : (at : ℕ) (stack : List Datum) → counted (drop at stack) ≡ count_of (int_at at stack)
+count_at : (at : ℕ) (stack : List Datum) → count_on_top (drop at stack) ≡ count_of (int_at at stack)
 count_at zero [] = refl
 count_at zero (int (pos n) ∷ rest) = refl
 count_at zero (int (negsuc n) ∷ rest) = refl
@@ -80,9 +80,6 @@ times_length (suc n) each =
     let first : length (times (suc n) each) ≡ length each + length (times n each) = length-append each (times n each) in
     let rest : length (times n each) ≡ n * length each = times_length n each in
     omega (arith, first, rest, suc-mul n (length each))
-
-pub product_most : (a b : ℕ) → a ≤ 2147483647 → b ≤ 64 → a * b ≤ 137438953408
-product_most a b h k = mul-le a b 2147483647 64 h k
 
 pub ruleset product_steps = (times_length, product_most)
 

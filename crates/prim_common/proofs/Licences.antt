@@ -9,7 +9,7 @@ use Rattle.muf_frame.specs.declared.fault.PrimFault.TheVariants.{Fault, NoMemory
 use Rattle.muf_frame.specs.inner.Shown.{Shown, flat, locked_by}
 use Rattle.muck_perm.specs.declared.guard.Guard.{Guard}
 use Rattle.muck_perm.specs.inner.Guards.{objects_of, world_of}
-use Rattle.spec_prims.specs.Row.{Row, gives, refuses, breaks}
+use Rattle.spec_prims.specs.Row.{WorldAnswer, gives, refuses, breaks}
 use Rattle.spec_prims.specs.Formulas.{is_formula, answers_for}
 use Rattle.spec_prims.proofs.Opens.{RowOpen, same_open, shared_open}
 use Rattle.prim_common.specs.inner.Applied.{Applied, OnAnswer}
@@ -17,7 +17,7 @@ use Rattle.prim_common.proofs.Families.{whole}
 
 module _ (f g : Shown) (old new : Guard) where
   -- of a row that is open to an actor
-  row_licensed : (a : Actor) (row : Row) (r : Result (Unit {0}) PrimFault) → RowOpen a (world_of old) row → Applied row f g old new r → OnAnswer r (Licensed a nobody (world_of old) (world_of new))
+  row_licensed : (a : Actor) (row : WorldAnswer) (r : Result (Unit {0}) PrimFault) → RowOpen a (world_of old) row → Applied row f g old new r → OnAnswer r (Licensed a nobody (world_of old) (world_of new))
   row_licensed a (gives stack w) (Ok x) may h = subst (Licensed a nobody (world_of old)) (sym h.1) may.licensed
   row_licensed a (gives stack w) (Err (Fault k)) may h = absurd h
   row_licensed a (refuses e) (Ok x) may h = absurd h

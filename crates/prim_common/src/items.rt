@@ -2,10 +2,10 @@
 ghost use Rattle.std.specs.Prelude.{◌≡◌, ◌≤◌, ◌+◌, drop, length};
 ghost use Rattle.spec_rights.specs.Verdict.{verdict};
 ghost use Rattle.muf_model.specs.inner.View.{view};
-ghost use Rattle.muf_model.specs.Ladder.{walk, times, unfit, absent, distant};
+ghost use Rattle.muf_model.specs.Ladder.{first_refusal, times, unfit, absent, distant};
 ghost use Rattle.muf_frame.specs.inner.Shown.{Shown, flat};
 ghost use Rattle.muck_perm.specs.inner.Guards.{objects_of};
-ghost use Rattle.spec_prims.specs.Asking.{fault_of, is_there, level_fault, near_fault};
+ghost use Rattle.spec_prims.specs.Asking.{fault_of_denial, is_number_there, level_fault, near_fault};
 ghost use Rattle.prim_common.specs.inner.Tests.{Passes, AreShort, item_fault, all_needs};
 
 use crate::parts::{Parts, counted_len};
@@ -26,7 +26,7 @@ pub enum Asked {
 // Leave for an act.
 #[inline(always)]
 fn permit(guard: &Guard, act: &Act) -> Result<(), MufFault>
-    ensures { Passes (fault_of (verdict (objects_of guard.now) guard.now.actor act.now)) result }
+    ensures { Passes (fault_of_denial (verdict (objects_of guard.now) guard.now.actor act.now)) result }
 {
     match verdict(guard.db(), &guard.actor(), act) {
         Ok(_) => Ok(()),
@@ -72,10 +72,10 @@ fn test_kind(need: &Need, item: &Value) -> Result<(), MufFault>
 }
 
 // Whether an object is there that must be.
-#[tactic(auto, unfolding(spec_prims::specs::Asking::is_there))]
+#[tactic(auto, unfolding(spec_prims::specs::Asking::is_number_there))]
 #[inline(always)]
 fn test_there(need: &Need, item: &Value, guard: &Guard) -> Result<(), MufFault>
-    ensures { Passes (absent (is_there (objects_of guard.now)) need.now (view item.now)) result }
+    ensures { Passes (absent (is_number_there (objects_of guard.now)) need.now (view item.now)) result }
 {
     match item {
         Value::Ref(object) if need.there && guard.db().get(*object).is_none() => {
@@ -117,7 +117,7 @@ pub(crate) fn test_items(
     frame: &Frame,
 ) -> Result<(), MufFault>
     requires { length needs.now + from ≤ 274877906944 }
-    ensures { Passes (walk (item_fault asked guard.now.actor (objects_of guard.now)) needs.now (drop from (flat frame.now).stack)) result }
+    ensures { Passes (first_refusal (item_fault asked guard.now.actor (objects_of guard.now)) needs.now (drop from (flat frame.now).stack)) result }
 {
     let mut at = 0;
     while at < needs.len() {
@@ -140,7 +140,7 @@ fn test_counted(
     frame: &Frame,
 ) -> Result<(), MufFault>
     requires { length (times count each.now) + from ≤ 274877906944 }
-    ensures { Passes (walk (item_fault asked guard.now.actor (objects_of guard.now)) (times count each.now) (drop from (flat frame.now).stack)) result }
+    ensures { Passes (first_refusal (item_fault asked guard.now.actor (objects_of guard.now)) (times count each.now) (drop from (flat frame.now).stack)) result }
 {
     let mut depth = from;
     let mut left = count;
@@ -161,7 +161,7 @@ pub(crate) fn test_parts(
     frame: &Frame,
 ) -> Result<(), MufFault>
     requires { AreShort parts }
-    ensures { Passes (walk (item_fault asked guard.now.actor (objects_of guard.now)) (all_needs parts) (flat frame.now).stack) result }
+    ensures { Passes (first_refusal (item_fault asked guard.now.actor (objects_of guard.now)) (all_needs parts) (flat frame.now).stack) result }
 {
     let fixed = parts.fixed.len();
     let under = fixed + counted_len(parts);

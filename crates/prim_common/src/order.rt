@@ -1,10 +1,10 @@
 // The tests that a primitive begins with.
 ghost use Rattle.std.specs.Prelude.{◌≡◌, ◌≤◌, IfOk, Some, length};
 ghost use Rattle.muf_model.specs.Ladder.{wanted};
-ghost use Rattle.muf_model.specs.Needs.{shown_needs, takes};
+ghost use Rattle.muf_model.specs.Needs.{shown_needs, takes_items};
 ghost use Rattle.muf_frame.specs.inner.Shown.{Shown, flat, locked_by};
 ghost use Rattle.muck_perm.specs.inner.Guards.{world_of};
-ghost use Rattle.spec_prims.specs.Shared.{fault_by, first_fault, taken};
+ghost use Rattle.spec_prims.specs.Shared.{fault_by, first_fault, items_taken};
 ghost use Rattle.prim_common.specs.inner.Tests.{Passes, AreFew};
 
 use crate::items::{Asked, reach_level, test_items, test_parts};
@@ -51,7 +51,7 @@ fn test_fixed(
     requires { length fixed.now ≤ 64 }
     ensures count { IfOk result (λ n. n ≡ length fixed.now) }
     ensures there { IfOk result (λ n. n ≤ length frame.now.stack) }
-    ensures pass { Passes (fault_by (takes fixed.now) level argued guard.now.actor (locked_by (flat frame.now).marks) (flat frame.now).stack (world_of guard.now)) result }
+    ensures pass { Passes (fault_by (takes_items fixed.now) level argued guard.now.actor (locked_by (flat frame.now).marks) (flat frame.now).stack (world_of guard.now)) result }
 {
     let count = fixed.len();
     test_short(count, frame)?;
@@ -96,7 +96,7 @@ pub fn ready(
     guard: &Guard,
     frame: &Frame,
 ) -> Result<usize, MufFault>
-    ensures count { IfOk result (λ n. n ≡ taken prim (flat frame.now).stack) }
+    ensures count { IfOk result (λ n. n ≡ items_taken prim (flat frame.now).stack) }
     ensures there { IfOk result (λ n. n ≤ length frame.now.stack) }
     ensures pass { Passes (first_fault prim argued guard.now.actor (locked_by (flat frame.now).marks) (flat frame.now).stack (world_of guard.now)) result }
 {

@@ -11,17 +11,17 @@ use Rattle.muf_model.specs.declared.prims.Primitive.{Primitive}
 use Rattle.muf_model.specs.declared.prims.Primitive.TheVariants.{MoveTo, SetLink, SetOwn, Recycle, SetName, Set, SetLockStr, NewRoom, NewObject, NewExit, ParseMpi}
 use Rattle.muf_model.specs.declared.value.Value.{Value}
 use Rattle.muf_model.specs.Datum.{Datum}
-use Rattle.muf_model.specs.Prims.{family_of, is_there}
+use Rattle.muf_model.specs.Prims.{family_of, is_usable}
 use Rattle.muf_frame.specs.declared.fault.PrimFault.{PrimFault}
 use Rattle.muf_frame.specs.declared.fault.PrimFault.TheVariants.{Fault, NoMemory}
 use Rattle.muf_frame.specs.inner.Shown.{Shown, flat, locked_by}
 use Rattle.muck_perm.specs.declared.guard.Guard.{Guard}
 use Rattle.muck_perm.specs.inner.Guards.{objects_of, world_of}
 use Rattle.muck_perm.proofs.Worlds.{kept_itself}
-use Rattle.spec_prims.specs.Row.{Row, Doing}
+use Rattle.spec_prims.specs.Row.{WorldAnswer, WorldDoing}
 use Rattle.spec_prims.specs.Formulas.{is_formula}
 use Rattle.spec_prims.specs.ObjectRows.{Finding, finding_of, finds, given as given_row, object_row, is_object_family}
-use Rattle.spec_prims.specs.Shared.{first_fault, row_in, done_by, shared}
+use Rattle.spec_prims.specs.Shared.{first_fault, doing_in, primitive_done, shared}
 use Rattle.spec_prims.specs.ObjectWrites.{writing_row}
 use Rattle.spec_prims.proofs.Fits.{fits_object}
 use Rattle.spec_prims.proofs.There.{object_there}
@@ -32,12 +32,12 @@ use Rattle.prim_common.proofs.Families.{Begun, taken_of}
 use Rattle.prim_db.proofs.Rules.{no_writing}
 use Rattle.prim_db.specs.inner.Found.{Finds, found_in, found_with}
 
-shared_object : (p : Primitive) (a : Actor) (descr : Option ℕ) (locked : ℕ) (stack : List Datum) (w : Live) → family_of p ≡ Object → shared p a descr locked stack w ≡ done_by (object_row p) p a locked stack w
+shared_object : (p : Primitive) (a : Actor) (descr : Option ℕ) (locked : ℕ) (stack : List Datum) (w : Live) → family_of p ≡ Object → shared p a descr locked stack w ≡ primitive_done (object_row p) p a locked stack w
 unfolding shared
-shared_object p a descr locked stack w object = ap (λ (family : Family). done_by (row_in descr family p) p a locked stack w) object
+shared_object p a descr locked stack w object = ap (λ (family : Family). primitive_done (doing_in descr family p) p a locked stack w) object
 
-pub row_there : (p : Primitive) → family_of p ≡ Object → is_some (object_row p) ≡ is_there p
-row_there p object = object_there p ∙ ap (λ (family : Family). is_object_family family && is_there p) object
+pub row_there : (p : Primitive) → family_of p ≡ Object → is_some (object_row p) ≡ is_usable p
+row_there p object = object_there p ∙ ap (λ (family : Family). is_object_family family && is_usable p) object
 
 -- none of them is a formula
 pub no_formula : (p : Primitive) → family_of p ≡ Object → is_formula p ≡ false
@@ -55,7 +55,7 @@ begun p descr f g rule r object same pass = record {
 }
 
 -- it gives what it finds
-does_by : (p : Primitive) (o : Option Finding) (r : Option Doing) (a : Actor) (items : List Datum) (w : Live) → r ≡ None → does_of (option_or (option_map (finds p) o) r) a items w ≡ given_row w (found_with o a w.objects items)
+does_by : (p : Primitive) (o : Option Finding) (r : Option WorldDoing) (a : Actor) (items : List Datum) (w : Live) → r ≡ None → does_of (option_or (option_map (finds p) o) r) a items w ≡ given_row w (found_with o a w.objects items)
 does_by p None None a items w e = refl
 does_by p None (Some doing) a items w e = absurd cc
 does_by p (Some find) r a items w e = refl
@@ -71,7 +71,7 @@ none_made (Err e) g (Fault f) h = (h, refl)
 none_made (Err e) g NoMemory h = (refl, refl)
 
 module _ (p : Primitive) (g : Guard) (items : List Datum) (a : p ≡ MoveTo → ⊥) (b : p ≡ SetLink → ⊥) (c : p ≡ SetOwn → ⊥) (d : p ≡ Recycle → ⊥) (e : p ≡ SetName → ⊥) (f : p ≡ NewRoom → ⊥) (h : p ≡ NewObject → ⊥) (k : p ≡ NewExit → ⊥) (m : p ≡ Set → ⊥) (n : p ≡ SetLockStr → ⊥) where
-  abbrev row : Row
+  abbrev row : WorldAnswer
   row = does_of (object_row p) g.actor items (world_of g)
 
   row_is : row ≡ given_row (world_of g) (found_in p g.actor (objects_of g) items)

@@ -2,7 +2,7 @@
 ghost use Rattle.std.specs.Prelude.{◌≡◌, ◌≤◌, length, true};
 ghost use Rattle.spec_live.specs.Making.{create_check};
 ghost use Rattle.muck_perm.specs.inner.Guards.{IsLeave, objects_of, world_of};
-ghost use Rattle.spec_commands.specs.Building.{act_in, kind_of, may_be};
+ghost use Rattle.spec_commands.specs.Building.{act_in, kind_made, may_be};
 ghost use Rattle.spec_commands.specs.Settings.{setting_asked};
 ghost use Rattle.cmd_common.specs.inner.Writes.{IsFit, act_of, change_of, may};
 ghost use Rattle.spec_prims.specs.ObjectWrites as row;
@@ -33,7 +33,7 @@ pub(crate) fn leave<'a>(guard: &Guard, act: &'a Act) -> Result<Pass<'a>, PrimFau
 #[tactic(auto, using(crate::proofs::Granted::changing))]
 pub(crate) fn write(guard: &mut Guard, write: Write) -> Result<Made, PrimFault>
     requires { IsFit write }
-    ensures { Makes (row.changed guard.old.actor (act_of write) (may write (world_of guard.old)) (change_of write) (world_of guard.old)) guard.old guard.new result }
+    ensures { Makes (row.changed_with_leave guard.old.actor (act_of write) (may write (world_of guard.old)) (change_of write) (world_of guard.old)) guard.old guard.new result }
 {
     let act = act_of(&write);
     let pass = leave(guard, &act)?;
@@ -69,7 +69,7 @@ fn make_by(
     requires some { 1 ≤ length name }
     requires short { length name ≤ 80 }
     requires fits { may_be new (world_of guard.old) ≡ true }
-    ensures { Makes (row.given_made (create_check (kind_of new) guard.old.actor.user place (objects_of guard.old)) (row.made_so new name guard.old.actor.user) (world_of guard.old)) guard.old guard.new result }
+    ensures { Makes (row.given_made (create_check (kind_made new) guard.old.actor.user place (objects_of guard.old)) (row.made_so new name guard.old.actor.user) (world_of guard.old)) guard.old guard.new result }
 {
     let made = create(guard, pass, new, name, place);
     number_made(made)
@@ -129,7 +129,7 @@ pub(crate) fn set(guard: &mut Guard, object: Dbref, text: &Text) -> Result<Made,
 }
 
 /// The fault of a number that names no object.
-#[tactic(auto, unfolding(spec_prims::specs::Asking::is_there))]
+#[tactic(auto, unfolding(spec_prims::specs::Asking::is_number_there))]
 pub(crate) fn missing(guard: &Guard, object: Dbref) -> Option<MufFault>
     ensures { result ≡ row.missing (objects_of guard.now) object }
 {

@@ -7,7 +7,7 @@ ghost use Rattle.spec_live.specs.Worth.{holdings_of};
 ghost use Rattle.muck_perm.specs.inner.Guards.{objects_of};
 ghost use Rattle.muf_model.specs.inner.View.{view};
 ghost use Rattle.muf_frame.specs.inner.Shown.{Shown, flat};
-ghost use Rattle.spec_prims.specs.Shared.{taken};
+ghost use Rattle.spec_prims.specs.Shared.{items_taken};
 ghost use Rattle.spec_prims.specs.ObjectRows as row;
 ghost use Rattle.prim_db.specs.inner.Found.{Finds, as_lock, found_in, lock_at_top};
 
@@ -81,7 +81,7 @@ fn of_item(prim: Prim, guard: &Guard, frame: &Frame) -> Result<Value, PrimFault>
 
 // The number that says what was found.
 fn meant(found: Found) -> Dbref
-    ensures { result ≡ row.meant found }
+    ensures { result ≡ row.dbref_meant found }
 {
     match found {
         Found::One(object) => object,
@@ -106,7 +106,7 @@ fn named(prim: Prim, guard: &Guard, text: &Text) -> Dbref
 // Those that find an object by a text.
 #[tactic(auto, using(crate::proofs::Items::text_steps))]
 fn of_text(prim: Prim, guard: &Guard, frame: &Frame) -> Result<Value, PrimFault>
-    ensures { Finds (row.one_text (row.found_by prim) guard.now.actor (objects_of guard.now) (take 1 (flat frame.now).stack)) result }
+    ensures { Finds (row.found_by_text (row.found_by prim) guard.now.actor (objects_of guard.now) (take 1 (flat frame.now).stack)) result }
 {
     match frame.text_at(0) {
         Some(text) => Ok(Value::Ref(named(prim, guard, text))),
@@ -134,7 +134,7 @@ fn flagged(guard: &Guard, frame: &Frame) -> Result<Value, PrimFault>
 // CONTROLS.
 #[tactic(auto, using(crate::proofs::Items::pair_steps))]
 fn controlled(guard: &Guard, frame: &Frame) -> Result<Value, PrimFault>
-    ensures { Finds (row.controlled guard.now.actor (objects_of guard.now) (take 2 (flat frame.now).stack)) result }
+    ensures { Finds (row.control_tested guard.now.actor (objects_of guard.now) (take 2 (flat frame.now).stack)) result }
 {
     let (Some(object), Some(who)) = (frame.object_at(0), frame.object_at(1)) else {
         return Err(PrimFault::Fault(MufFault::BadType));
@@ -147,7 +147,7 @@ fn controlled(guard: &Guard, frame: &Frame) -> Result<Value, PrimFault>
 // PARSELOCK.
 #[tactic(auto, using(crate::proofs::Items::lock_steps))]
 fn parsed(guard: &Guard, frame: &Frame) -> Result<Value, PrimFault>
-    ensures { Finds (row.parsed guard.now.actor (objects_of guard.now) (take 1 (flat frame.now).stack)) result }
+    ensures { Finds (row.lock_parsed guard.now.actor (objects_of guard.now) (take 1 (flat frame.now).stack)) result }
 {
     let Some(text) = frame.text_at(0) else {
         return Err(PrimFault::Fault(MufFault::BadType));
@@ -206,7 +206,7 @@ fn is_open(lock: &Lock, guard: &Guard, object: Dbref) -> bool
 // TESTLOCK.
 #[tactic(auto, using(crate::proofs::Items::lock_steps))]
 fn tested(guard: &Guard, frame: &Frame) -> Result<Value, PrimFault>
-    ensures { Finds (row.tested guard.now.actor (objects_of guard.now) (take 2 (flat frame.now).stack)) result }
+    ensures { Finds (row.lock_tested guard.now.actor (objects_of guard.now) (take 2 (flat frame.now).stack)) result }
 {
     let (Some(lock), Some(object)) = (lock_at_top(frame), frame.object_at(1)) else {
         return Err(PrimFault::Fault(MufFault::BadType));
@@ -223,7 +223,7 @@ fn top(guard: &Guard) -> Dbref
 
 /// What a primitive finds in the items that it takes.
 pub(crate) fn found(prim: Prim, guard: &Guard, frame: &Frame) -> Result<Value, PrimFault>
-    ensures { Finds (found_in prim guard.now.actor (objects_of guard.now) (take (taken prim (flat frame.now).stack) (flat frame.now).stack)) result }
+    ensures { Finds (found_in prim guard.now.actor (objects_of guard.now) (take (items_taken prim (flat frame.now).stack) (flat frame.now).stack)) result }
 {
     match prim {
         Prim::IsOk

@@ -3,8 +3,8 @@ ghost use Rattle.std.specs.Prelude.{◌≡◌, ◌<◌, ◌==◌, IfSome, take};
 ghost use Rattle.std.specs.List.{list_any};
 ghost use Rattle.muf_frame.specs.inner.Shown.{Shown, flat};
 ghost use Rattle.muf_model.specs.declared.prims.Primitive.TheVariants.{HasFlag};
-ghost use Rattle.spec_prims.specs.ObjectRows.{flag_asked, flag_lettered, misasked};
-ghost use Rattle.spec_prims.specs.Shared.{taken};
+ghost use Rattle.spec_prims.specs.ObjectRows.{flag_asked, flag_bit_lettered, misasked};
+ghost use Rattle.spec_prims.specs.Shared.{items_taken};
 
 use muf_frame::Frame;
 use muf_model::{MufFault, Prim};
@@ -22,7 +22,7 @@ fn stands_in(letter: u8, letters: &[u8]) -> bool
 
 // The flag of a letter, in any case.
 fn flag_lettered(letter: u8) -> Option<u16>
-    ensures value { result ≡ flag_lettered letter }
+    ensures value { result ≡ flag_bit_lettered letter }
     ensures some { IfSome result (λ flag. 0 < flag) }
 {
     let upper = letter.to_ascii_uppercase();
@@ -48,7 +48,7 @@ pub(crate) fn flag_asked(letters: &[u8]) -> Option<(bool, u16)>
 /// The fault that a primitive's own rule finds in its arguments.
 #[tactic(auto, using(crate::proofs::Items::flag_steps))]
 pub(crate) fn argued(prim: Prim, frame: &Frame) -> Option<MufFault>
-    ensures { result ≡ misasked prim (take (taken prim (flat frame.now).stack) (flat frame.now).stack) }
+    ensures { result ≡ misasked prim (take (items_taken prim (flat frame.now).stack) (flat frame.now).stack) }
 {
     match prim {
         Prim::HasFlag => {

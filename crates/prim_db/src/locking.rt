@@ -22,7 +22,7 @@ use spec_rights::Act;
 #[tactic(auto, using(crate::proofs::Granted::keeping))]
 fn keep(guard: &mut Guard, pass: Pass, object: Dbref, text: Line) -> Result<Made, PrimFault>
     requires { IsLeave pass (Act.Change object) guard.old }
-    ensures { Makes (row.lock_kept object (Some text) (world_of guard.old)) guard.old guard.new result }
+    ensures { Makes (row.lock_put object (Some text) (world_of guard.old)) guard.old guard.new result }
 {
     let path = guard.db().paths().lock.copy(guard.alloc())?;
     match put(guard, pass, Write::Keep(object, path, text)) {
@@ -41,7 +41,7 @@ fn keep_printed(
     lock: &Lock,
 ) -> Result<Made, PrimFault>
     requires { IsLeave pass (Act.Change object) guard.old }
-    ensures { Makes (row.lock_kept object (key_kept (Ok lock.now)) (world_of guard.old)) guard.old guard.new result }
+    ensures { Makes (row.lock_put object (key_kept (Ok lock.now)) (world_of guard.old)) guard.old guard.new result }
 {
     match print_key(guard.alloc(), lock)? {
         Some(text) => keep(guard, pass, object, text),

@@ -5,12 +5,12 @@ ghost use Rattle.spec_live.specs.declared.object.Object.{Object};
 ghost use Rattle.spec_live.specs.Objects.{nothing, object_at};
 ghost use Rattle.spec_live.specs.Seen.{listed_in, long_form};
 ghost use Rattle.spec_live.specs.Worth.{lock_text};
-ghost use Rattle.spec_rights.specs.Levels.{number_of};
-ghost use Rattle.spec_rights.specs.Verdict.{place_of};
+ghost use Rattle.spec_rights.specs.Levels.{dbref_number};
+ghost use Rattle.spec_rights.specs.Verdict.{place_or_nothing};
 ghost use Rattle.muck_perm.specs.inner.Guards.{objects_of};
 ghost use Rattle.muf_model.specs.Datum.{text};
 ghost use Rattle.muf_model.specs.inner.View.{view};
-ghost use Rattle.spec_prims.specs.ObjectRows.{first_of, found_of, next_of, shown, tie_by};
+ghost use Rattle.spec_prims.specs.ObjectRows.{first_or_nothing, found_of, next_of, text_read_out, tie_by};
 ghost use Rattle.prim_db.specs.inner.Found.{Finds};
 
 use muck_db::Db;
@@ -33,7 +33,7 @@ pub(crate) fn text_item(alloc: Global, line: Line) -> Result<Value, NoMemory>
 
 // These bytes as an item; `TextTooLong` comes exactly where they are no text.
 fn shown(alloc: Global, bytes: Vec<u8>) -> Result<Value, PrimFault>
-    ensures { Finds (shown bytes.items) result }
+    ensures { Finds (text_read_out bytes.items) result }
 {
     match Line::from_vec(bytes) {
         Ok(line) => Ok(text_item(alloc, line)?),
@@ -54,7 +54,7 @@ fn name(alloc: Global, db: &Db, object: Dbref) -> Result<Value, NoMemory>
 
 // What it is in, `#-1` where it isn't there.
 fn place_of(db: &Db, object: Dbref) -> Dbref
-    ensures { result ≡ place_of db.now object }
+    ensures { result ≡ place_or_nothing db.now object }
 {
     match db.get(object) {
         Some(object) => object.place(),
@@ -64,7 +64,7 @@ fn place_of(db: &Db, object: Dbref) -> Dbref
 
 // The first of its contents, or `#-1`.
 fn first_content(db: &Db, object: Dbref) -> Dbref
-    ensures { result ≡ first_of (listed_in false object db.now) }
+    ensures { result ≡ first_or_nothing (listed_in false object db.now) }
 {
     let mut list = db.contents(object);
     match list.next() {
@@ -75,7 +75,7 @@ fn first_content(db: &Db, object: Dbref) -> Dbref
 
 // The first of its exits, or `#-1`.
 fn first_exit(db: &Db, object: Dbref) -> Dbref
-    ensures { result ≡ first_of (listed_in true object db.now) }
+    ensures { result ≡ first_or_nothing (listed_in true object db.now) }
 {
     let mut list = db.exits(object);
     match list.next() {
@@ -114,14 +114,14 @@ fn tie_at(db: &Db, object: Dbref) -> Dbref
 
 // The number behind a name.
 fn number_of(object: Dbref) -> u32
-    ensures { result ≡ number_of object }
+    ensures { result ≡ dbref_number object }
 {
     if object.0 < 0 { 0 } else { object.0 as u32 }
 }
 
 // The long form of an object, empty where it isn't there.
 fn long_form_at(alloc: Global, db: &Db, d: Dbref) -> Result<Vec<u8>, NoMemory>
-    ensures { IfOk result (λ text. text.items ≡ option_map_or (long_form (number_of d)) (object_at d db.now) []) }
+    ensures { IfOk result (λ text. text.items ≡ option_map_or (long_form (dbref_number d)) (object_at d db.now) []) }
 {
     match db.get(d) {
         Some(object) => long_form(alloc, number_of(d), object),

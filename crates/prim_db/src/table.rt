@@ -1,11 +1,11 @@
 // Every primitive of objects.
 ghost use Rattle.std.specs.Prelude.{◌≡◌, ℕ, Option, is_some, take};
 ghost use Rattle.muf_model.specs.declared.prims.Family.TheVariants.{Object};
-ghost use Rattle.muf_model.specs.Prims.{family_of, is_there};
+ghost use Rattle.muf_model.specs.Prims.{family_of, is_usable};
 ghost use Rattle.muf_frame.specs.inner.Shown.{Shown, flat, locked_by};
 ghost use Rattle.muck_perm.specs.inner.Guards.{world_of};
 ghost use Rattle.spec_rights.specs.Licence.{Licensed, nobody};
-ghost use Rattle.spec_prims.specs.Shared.{shared, taken};
+ghost use Rattle.spec_prims.specs.Shared.{shared, items_taken};
 ghost use Rattle.spec_prims.specs.ObjectRows.{object_row};
 ghost use Rattle.prim_common.specs.inner.Applied.{Applied, Makes, OnAnswer, argued_of, does_of};
 
@@ -19,7 +19,7 @@ use prim_common::{Made, give, ready};
 // What a primitive says of its arguments, as they stand.
 #[tactic(auto, using(crate::proofs::Rules::found_rule))]
 fn argued(prim: Prim, guard: &Guard, frame: &Frame) -> Option<MufFault>
-    ensures { result ≡ argued_of (object_row prim) guard.now.actor (take (taken prim (flat frame.now).stack) (flat frame.now).stack) (world_of guard.now) }
+    ensures { result ≡ argued_of (object_row prim) guard.now.actor (take (items_taken prim (flat frame.now).stack) (flat frame.now).stack) (world_of guard.now) }
 {
     match prim {
         Prim::MoveTo => writing::place_missing(guard, frame),
@@ -30,7 +30,7 @@ fn argued(prim: Prim, guard: &Guard, frame: &Frame) -> Option<MufFault>
 // What a primitive makes of the items that it takes.
 #[tactic(auto, using(crate::proofs::Objects::making))]
 fn made(prim: Prim, guard: &mut Guard, frame: &Frame) -> Result<Made, PrimFault>
-    ensures { Makes (does_of (object_row prim) guard.old.actor (take (taken prim (flat frame.now).stack) (flat frame.now).stack) (world_of guard.old)) guard.old guard.new result }
+    ensures { Makes (does_of (object_row prim) guard.old.actor (take (items_taken prim (flat frame.now).stack) (flat frame.now).stack) (world_of guard.old)) guard.old guard.new result }
 {
     match prim {
         Prim::MoveTo | Prim::SetLink | Prim::SetOwn => writing::two(prim, guard, frame),
@@ -53,7 +53,7 @@ pub fn apply(prim: Prim, guard: &mut Guard, frame: &mut Frame) -> Result<(), Pri
     requires { family_of prim ≡ Object }
     ensures row { (descr : Option ℕ) → Applied (shared prim guard.old.actor descr (locked_by (flat frame.old).marks) (flat frame.old).stack (world_of guard.old)) frame.old frame.new guard.old guard.new result }
     ensures licensed { OnAnswer result (Licensed guard.old.actor nobody (world_of guard.old) (world_of guard.new)) }
-    ensures there { is_there prim ≡ is_some (object_row prim) }
+    ensures there { is_usable prim ≡ is_some (object_row prim) }
 {
     let argued = argued(prim, guard, frame);
     let taken = ready(prim, argued, guard, frame)?;

@@ -1,29 +1,10 @@
 // What the primitives of numbers answer.
 ghost use Rattle.std.specs.Prelude.{◌≡◌, Bool};
-ghost use Rattle.muf_model.specs.NumberRows.{quotient, remainder, magnitude, shifted};
+ghost use Rattle.muf_model.specs.NumberRows.{shifted};
 ghost use Rattle.prim_math.specs.inner.Tables.{int_of, int_of_two, compares, joined};
 
+use muck_model::{magnitude, quotient, remainder};
 use muf_model::Prim;
-
-// Toward zero, and 0 where the divisor is 0.
-fn quotient(i: i32, j: i32) -> i32
-    ensures { result ≡ quotient i j }
-{
-    if j == 0 { 0 } else { i.wrapping_div(j) }
-}
-
-// With the sign of the dividend, and 0 where the divisor is 0.
-fn remainder(i: i32, j: i32) -> i32
-    ensures { result ≡ remainder i j }
-{
-    if j == 0 { 0 } else { i.wrapping_rem(j) }
-}
-
-fn magnitude(i: i32) -> i32
-    ensures { result ≡ magnitude i }
-{
-    if i < 0 { i.wrapping_neg() } else { i }
-}
 
 // Left by a positive number, else right with the sign.
 fn shifted(i: i32, j: i32) -> i32

@@ -1,13 +1,13 @@
 // The shapes of the primitives of numbers: what each takes, and that its answer takes its place.
 ghost use Rattle.std.specs.Prelude.{◌≡◌, ◌∷◌, [], ℤ, not, slice_get};
 ghost use Rattle.std.specs.Option.{option_and_then};
-ghost use Rattle.muf_model.specs.Measures.{is_true};
-ghost use Rattle.muf_model.specs.NumberRows.{one_int, two_ints, compared, two_truths, number_of, object_of, objects_equal};
-ghost use Rattle.muf_model.specs.StackRows.{judged};
+ghost use Rattle.muf_model.specs.Measures.{is_true_item};
+ghost use Rattle.muf_model.specs.NumberRows.{one_int, two_ints, compared, two_truths, to_integer, to_object, objects_equal};
+ghost use Rattle.muf_model.specs.StackRows.{item_judged};
 ghost use Rattle.muf_model.specs.inner.View.{view};
 ghost use Rattle.muf_frame.specs.inner.Shown.{Shown, flat};
 ghost use Rattle.muf_frame.specs.inner.Answers.{Used};
-ghost use Rattle.muf_model.specs.Needs.{takes, any, an_int, an_object, int_or_object, numbered};
+ghost use Rattle.muf_model.specs.Needs.{takes_items, anything, an_int, an_object, int_or_object, a_number};
 ghost use Rattle.muf_model.specs.declared.prims.Primitive.TheVariants.{Not, ToInt, ToDbref, DbCmp};
 ghost use Rattle.prim_math.specs.inner.Alike.{alike, as_number};
 ghost use Rattle.prim_math.specs.inner.Tables.{int_of, int_of_two, compares, joined};
@@ -20,7 +20,7 @@ use muf_model::{MufFault, Prim, Value};
 /// `++`, `--`, ABS and SIGN.
 #[tactic(auto, using(crate::proofs::Taking::int_steps))]
 pub(crate) fn one_int(prim: Prim, frame: &mut Frame) -> Result<(), MufFault>
-    ensures { Used prim (takes (an_int ∷ [])) (one_int (int_of prim)) frame.old frame.new result }
+    ensures { Used prim (takes_items (an_int ∷ [])) (one_int (int_of prim)) frame.old frame.new result }
 {
     frame.need(1)?;
     match frame.int_at(0) {
@@ -32,7 +32,7 @@ pub(crate) fn one_int(prim: Prim, frame: &mut Frame) -> Result<(), MufFault>
 /// The primitives of two integers, the second one on the top.
 #[tactic(auto, using(crate::proofs::Taking::int_steps))]
 pub(crate) fn two_ints(prim: Prim, frame: &mut Frame) -> Result<(), MufFault>
-    ensures { Used prim (takes (an_int ∷ an_int ∷ [])) (two_ints (int_of_two prim)) frame.old frame.new result }
+    ensures { Used prim (takes_items (an_int ∷ an_int ∷ [])) (two_ints (int_of_two prim)) frame.old frame.new result }
 {
     frame.need(2)?;
     match frame.int_at(0) {
@@ -67,7 +67,7 @@ fn numbers_alike(frame: &Frame) -> Option<(i32, i32)>
 /// The comparisons, of two integers or two objects, the second one on the top.
 #[tactic(auto, using(crate::proofs::Taking::compare_steps))]
 pub(crate) fn compared(prim: Prim, frame: &mut Frame) -> Result<(), MufFault>
-    ensures { Used prim (takes (int_or_object ∷ int_or_object ∷ [])) (compared (compares prim)) frame.old frame.new result }
+    ensures { Used prim (takes_items (int_or_object ∷ int_or_object ∷ [])) (compared (compares prim)) frame.old frame.new result }
 {
     frame.need(2)?;
     match numbers_alike(frame) {
@@ -79,7 +79,7 @@ pub(crate) fn compared(prim: Prim, frame: &mut Frame) -> Result<(), MufFault>
 /// NOT.
 #[tactic(auto, using(crate::proofs::Taking::truth_steps))]
 pub(crate) fn negated(frame: &mut Frame) -> Result<(), MufFault>
-    ensures { Used Not (takes (any ∷ [])) (judged (λ x. not (is_true x))) frame.old frame.new result }
+    ensures { Used Not (takes_items (anything ∷ [])) (item_judged (λ x. not (is_true_item x))) frame.old frame.new result }
 {
     frame.need(1)?;
     match frame.pop_item() {
@@ -94,7 +94,7 @@ pub(crate) fn negated(frame: &mut Frame) -> Result<(), MufFault>
 /// AND, OR and XOR.
 #[tactic(auto, using(crate::proofs::Taking::truth_steps))]
 pub(crate) fn two_truths(prim: Prim, frame: &mut Frame) -> Result<(), MufFault>
-    ensures { Used prim (takes (any ∷ any ∷ [])) (two_truths (joined prim)) frame.old frame.new result }
+    ensures { Used prim (takes_items (anything ∷ anything ∷ [])) (two_truths (joined prim)) frame.old frame.new result }
 {
     frame.need(2)?;
     match frame.pop_item() {
@@ -135,7 +135,7 @@ fn number_at_top(frame: &Frame) -> Option<i32>
 /// INT.
 #[tactic(auto, using(crate::proofs::Taking::kind_steps))]
 pub(crate) fn to_int(frame: &mut Frame) -> Result<(), MufFault>
-    ensures { Used ToInt (takes (numbered ∷ [])) number_of frame.old frame.new result }
+    ensures { Used ToInt (takes_items (a_number ∷ [])) to_integer frame.old frame.new result }
 {
     frame.need(1)?;
     match number_at_top(frame) {
@@ -147,7 +147,7 @@ pub(crate) fn to_int(frame: &mut Frame) -> Result<(), MufFault>
 /// DBREF.
 #[tactic(auto, using(crate::proofs::Taking::kind_steps))]
 pub(crate) fn to_object(frame: &mut Frame) -> Result<(), MufFault>
-    ensures { Used ToDbref (takes (an_int ∷ [])) object_of frame.old frame.new result }
+    ensures { Used ToDbref (takes_items (an_int ∷ [])) to_object frame.old frame.new result }
 {
     frame.need(1)?;
     match frame.int_at(0) {
@@ -159,7 +159,7 @@ pub(crate) fn to_object(frame: &mut Frame) -> Result<(), MufFault>
 /// DBCMP.
 #[tactic(auto, using(crate::proofs::Taking::kind_steps))]
 pub(crate) fn objects_equal(frame: &mut Frame) -> Result<(), MufFault>
-    ensures { Used DbCmp (takes (an_object ∷ an_object ∷ [])) objects_equal frame.old frame.new result }
+    ensures { Used DbCmp (takes_items (an_object ∷ an_object ∷ [])) objects_equal frame.old frame.new result }
 {
     frame.need(2)?;
     match frame.object_at(0) {

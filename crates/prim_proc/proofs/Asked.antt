@@ -11,15 +11,15 @@ use Rattle.muf_model.specs.declared.fault.MufFault.TheVariants.{BadArgument, Bad
 use Rattle.muf_model.specs.declared.prims.Primitive.{Primitive}
 use Rattle.muf_model.specs.declared.prims.Primitive.TheVariants.{Call, Fork, Sleep, Read, Kill, Pid, IsPid, Queue as QueuePrim, Mode as ModePrim, SetMode, Preempt as PreemptPrim, Foreground as ForegroundPrim, Background as BackgroundPrim, SysTime, Random, EventSend, EventWait, EventCount, Prog, Trig, Caller, Cmd}
 use Rattle.muf_model.specs.Datum.{Datum, int, text, object}
-use Rattle.muf_model.specs.Values.{fits}
+use Rattle.muf_model.specs.Values.{value_fits}
 use Rattle.muck_queue.specs.declared.mode.Mode.{Mode}
 use Rattle.muck_queue.specs.declared.mode.Mode.TheVariants.{Foreground}
-use Rattle.spec_prims.specs.Asking.{fault_of}
+use Rattle.spec_prims.specs.Asking.{fault_of_denial}
 use Rattle.muck_queue.specs.declared.mode.Wait.TheVariants.{ForLine}
 use Rattle.muck_queue.specs.declared.process.Process.{Process}
-use Rattle.muck_queue.specs.Queues.{Queue, process, on_process, without, resting, in_mode, told_event, events_most, is_background}
+use Rattle.muck_queue.specs.Queues.{Queue, process, on_process, without_process, resting, process_in_mode, told_event, events_most, is_background}
 use Rattle.spec_processes.specs.declared.place.Place.{Place}
-use Rattle.spec_processes.specs.ProcessRows.{Effect, gives, waits, enters, starts, refuses, unless, is_pid, mode_numbered, mode_set, set_mode, sleep, killed, kill, event_name, event_data, sent, event_send, oldest, program_fault, call_fault, call, starting, queue, process_row, taken_at}
+use Rattle.spec_processes.specs.ProcessRows.{Effect, gives, waits, enters, starts, refuses, effect_unless, is_pid, mode_numbered, mode_set, set_mode, sleep, kill_done, kill, event_name, event_data, event_sent, event_send, oldest, program_fault, call_fault, program_call, program_starting, queue, process_row, taken_at}
 use Rattle.prim_proc.specs.inner.Applied.{called_items}
 use Rattle.prim_proc.specs.inner.Plans.{TakesAll, effect_of, does_of}
 use Rattle.prim_proc.specs.declared.plan.Plan.{Plan}
@@ -31,7 +31,7 @@ Asks n (enters items d name) = n ≡ called_items name
 Asks n (starts items d seconds argument) = n ≡ 3
 Asks n effect = Unit {0}
 
-asks_unless : (n : ℕ) (o : Option MufFault) (effect : Effect) → Asks n effect → Asks n (unless o effect)
+asks_unless : (n : ℕ) (o : Option MufFault) (effect : Effect) → Asks n effect → Asks n (effect_unless o effect)
 asks_unless n None effect h = h
 asks_unless n (Some f) effect h = tt
 
@@ -48,7 +48,7 @@ module _ (n : ℕ) (x : Place) (a : Actor) (p : Process) (w : Live) (q : Queue) 
 
   asks_mode_set : (mode : Option Mode) → Asks n (mode_set mode x p w q)
   asks_mode_set None = tt
-  asks_mode_set (Some Foreground) = asks_if n (is_none p.descr) BadArgument (gives [] w (on_process x.pid (in_mode Foreground) q)) tt
+  asks_mode_set (Some Foreground) = asks_if n (is_none p.descr) BadArgument (gives [] w (on_process x.pid (process_in_mode Foreground) q)) tt
   asks_mode_set (Some mode) = tt
 
   asks_set_mode : (items : List Datum) → Asks n (set_mode x a p items w q)
@@ -60,9 +60,9 @@ module _ (n : ℕ) (x : Place) (a : Actor) (p : Process) (w : Live) (q : Queue) 
   asks_sleep (int (negsuc i) ∷ []) = tt
   asks_sleep _ = tt
 
-  asks_killed : (o : Option Process) (i : ℤ) → Asks n (killed a o i w q)
+  asks_killed : (o : Option Process) (i : ℤ) → Asks n (kill_done a o i w q)
   asks_killed None i = tt
-  asks_killed (Some other) i = asks_unless n (fault_of (verdict w.objects a (EndProcess other.player other.program))) (gives (int (pos 1) ∷ []) w (without i q)) tt
+  asks_killed (Some other) i = asks_unless n (fault_of_denial (verdict w.objects a (EndProcess other.player other.program))) (gives (int (pos 1) ∷ []) w (without_process i q)) tt
 
   asks_kill : (items : List Datum) → Asks n (kill x a p items w q)
   asks_kill (int i ∷ []) = asks_killed (process i q) i
@@ -72,12 +72,12 @@ module _ (n : ℕ) (x : Place) (a : Actor) (p : Process) (w : Live) (q : Queue) 
   asks_fit true v = tt
   asks_fit false v = tt
 
-  asks_sent : (o : Option Process) (i : ℤ) (name : List ℕ) (value : Datum) → Asks n (sent x o i name value w q)
+  asks_sent : (o : Option Process) (i : ℤ) (name : List ℕ) (value : Datum) → Asks n (event_sent x o i name value w q)
   asks_sent None i name value = tt
   asks_sent (Some other) i name value =
-      let fit : Effect = cond (fits value) (gives [] w (on_process i (told_event x.moment (name, value)) q)) (refuses TooHeavy) in
+      let fit : Effect = cond (value_fits value) (gives [] w (on_process i (told_event x.moment (name, value)) q)) (refuses TooHeavy) in
       asks_if n (nat_le events_most (length other.events)) TooHeavy (cond (nat_lt text_most (length name)) (refuses TextTooLong) fit)
-      (asks_if n (nat_lt text_most (length name)) TextTooLong fit (asks_fit (fits value) (on_process i (told_event x.moment (name, value)) q)))
+      (asks_if n (nat_lt text_most (length name)) TextTooLong fit (asks_fit (value_fits value) (on_process i (told_event x.moment (name, value)) q)))
 
   asks_event_send : (items : List Datum) → Asks n (event_send x a p items w q)
   asks_event_send (value ∷ text s ∷ int i ∷ []) = asks_sent (process i q) i (event_name s) (event_data x a p value)
@@ -88,15 +88,15 @@ module _ (n : ℕ) (x : Place) (a : Actor) (p : Process) (w : Live) (q : Queue) 
   asks_oldest (e ∷ events) = tt
 
 module _ (x : Place) (a : Actor) (p : Process) (w : Live) (q : Queue) where
-  asks_asked : (n : ℕ) (d : ℤ) (effect : Effect) → Asks n effect → Asks n (unless (program_fault w.objects d) (unless (call_fault w.objects a d) effect))
-  asks_asked n d effect h = asks_unless n (program_fault w.objects d) (unless (call_fault w.objects a d) effect) (asks_unless n (call_fault w.objects a d) effect h)
+  asks_asked : (n : ℕ) (d : ℤ) (effect : Effect) → Asks n effect → Asks n (effect_unless (program_fault w.objects d) (effect_unless (call_fault w.objects a d) effect))
+  asks_asked n d effect h = asks_unless n (program_fault w.objects d) (effect_unless (call_fault w.objects a d) effect) (asks_unless n (call_fault w.objects a d) effect h)
 
-  asks_call : (stack : List Datum) → Asks (taken_at Call stack) (call x a p (take (taken_at Call stack) stack) w q)
+  asks_call : (stack : List Datum) → Asks (taken_at Call stack) (program_call x a p (take (taken_at Call stack) stack) w q)
   asks_call (text name ∷ object d ∷ rest) = asks_asked 2 d (enters [] d (Some name)) refl
   asks_call (object d ∷ rest) = asks_asked 1 d (enters [] d None) refl
   asks_call _ = tt
 
-  asks_starting : (d n : ℤ) (argument : List ℕ) → Asks 3 (starting w a d n argument)
+  asks_starting : (d n : ℤ) (argument : List ℕ) → Asks 3 (program_starting w a d n argument)
   asks_starting d (pos n) argument = asks_asked 3 d (starts [] d n argument) refl
   asks_starting d (negsuc n) argument = asks_unless 3 (program_fault w.objects d) (refuses BadSleep) tt
 

@@ -10,7 +10,7 @@ use Rattle.muf_model.specs.declared.prims.Primitive.{Primitive}
 use Rattle.muf_model.specs.declared.prims.Primitive.TheVariants.{Call, Fork, Sleep, Read, Kill, Pid, IsPid, Queue as QueuePrim, Mode, SetMode, Preempt, Foreground, Background, SysTime, Random, EventSend, EventWait, EventCount, Prog, Trig, Caller, Cmd}
 use Rattle.muf_model.specs.Answer.{stack_most}
 use Rattle.muf_model.specs.Datum.{Datum}
-use Rattle.muf_model.specs.Prims.{family_of, is_there, level_of}
+use Rattle.muf_model.specs.Prims.{family_of, is_usable, primitive_level}
 use Rattle.muf_frame.specs.declared.fault.PrimFault.{PrimFault}
 use Rattle.muf_frame.specs.declared.fault.PrimFault.TheVariants.{Fault, NoMemory}
 use Rattle.muf_frame.specs.inner.Shown.{Shown, flat, locked_by}
@@ -22,7 +22,7 @@ use Rattle.prim_common.specs.inner.Tests.{Passes}
 use Rattle.muck_queue.specs.declared.process.Process.{Process}
 use Rattle.muck_queue.specs.Queues.{Queue, process}
 use Rattle.spec_processes.specs.declared.place.Place.{Place}
-use Rattle.spec_processes.specs.ProcessRows.{Effect, gives, waits, forks, enters, starts, refuses, unless, upon, Doing, process_row, needs_at, taken_at, is_process_family, done_in, processed}
+use Rattle.spec_processes.specs.ProcessRows.{Effect, gives, waits, forks, enters, starts, refuses, effect_unless, upon, ProcessDoing, process_row, needs_at, taken_at, is_process_family, done_in, processed}
 use Rattle.spec_processes.proofs.There.{process_there}
 use Rattle.prim_proc.specs.declared.after.After.{After}
 use Rattle.prim_proc.specs.declared.plan.Plan.{Plan}
@@ -57,11 +57,11 @@ row_there Caller e = refl
 row_there Cmd e = refl
 row_there _ e = absurd cc
 
-unless_fails : (o : Option MufFault) (effect : Effect) (f : MufFault) → Passes {X = ℕ} o (Err f) → unless o effect ≡ refuses f
+unless_fails : (o : Option MufFault) (effect : Effect) (f : MufFault) → Passes {X = ℕ} o (Err f) → effect_unless o effect ≡ refuses f
 unless_fails None effect f h = absurd h
 unless_fails (Some g) effect f h = ap refuses (sym h)
 
-unless_passes : (o : Option MufFault) (effect : Effect) (n : ℕ) → Passes {X = ℕ} o (Ok n) → unless o effect ≡ effect
+unless_passes : (o : Option MufFault) (effect : Effect) (n : ℕ) → Passes {X = ℕ} o (Ok n) → effect_unless o effect ≡ effect
 unless_passes None effect n h = refl
 unless_passes (Some g) effect n h = absurd h
 
@@ -71,25 +71,25 @@ module _ (p : Primitive) (x : Place) (a : Actor) (locked : ℕ) (stack : List Da
   alone e = ap (λ o. done_in o (process_row p) p x a locked stack w q) e
 
   module _ (own : Process) (here : process x.pid q ≡ Some own) (of_family : family_of p ≡ kind.Process) where
-    tested : (row : Option Doing) → is_some row ≡ true →
-        done_in (Some own) row p x a locked stack w q ≡ unless (fault_by (needs_at p stack) (level_of p) None a locked stack w) (upon (drop (taken_at p stack) stack) (does_of row x a own (take (taken_at p stack) stack) w q))
+    tested : (row : Option ProcessDoing) → is_some row ≡ true →
+        done_in (Some own) row p x a locked stack w q ≡ effect_unless (fault_by (needs_at p stack) (primitive_level p) None a locked stack w) (upon (drop (taken_at p stack) stack) (does_of row x a own (take (taken_at p stack) stack) w q))
     tested None e = absurd cc
     tested (Some doing) e = refl
 
-    begun : processed p x a locked stack w q ≡ unless (fault_by (needs_at p stack) (level_of p) None a locked stack w) (upon (drop (taken_at p stack) stack) (does_of (process_row p) x a own (take (taken_at p stack) stack) w q))
+    begun : processed p x a locked stack w q ≡ effect_unless (fault_by (needs_at p stack) (primitive_level p) None a locked stack w) (upon (drop (taken_at p stack) stack) (does_of (process_row p) x a own (take (taken_at p stack) stack) w q))
     unfolding processed
     begun = ap (λ o. done_in o (process_row p) p x a locked stack w q) here ∙ tested (process_row p) (row_there p of_family)
 
     -- a test fails
-    pub untested : (f : MufFault) (r : Result ℕ MufFault) → Passes (fault_by (needs_at p stack) (level_of p) None a locked stack w) r → r ≡ Err f → processed p x a locked stack w q ≡ refuses f
-    untested f r pass is = begun ∙ unless_fails _ _ f (subst (Passes (fault_by (needs_at p stack) (level_of p) None a locked stack w)) is pass)
+    pub untested : (f : MufFault) (r : Result ℕ MufFault) → Passes (fault_by (needs_at p stack) (primitive_level p) None a locked stack w) r → r ≡ Err f → processed p x a locked stack w q ≡ refuses f
+    untested f r pass is = begun ∙ unless_fails _ _ f (subst (Passes (fault_by (needs_at p stack) (primitive_level p) None a locked stack w)) is pass)
 
     -- all pass, and so many items are taken
-    pub passed : (n : ℕ) (r : Result ℕ MufFault) → Passes (fault_by (needs_at p stack) (level_of p) None a locked stack w) r → r ≡ Ok n → n ≡ taken_at p stack →
+    pub passed : (n : ℕ) (r : Result ℕ MufFault) → Passes (fault_by (needs_at p stack) (primitive_level p) None a locked stack w) r → r ≡ Ok n → n ≡ taken_at p stack →
         processed p x a locked stack w q ≡ upon (drop n stack) (does_of (process_row p) x a own (take (taken_at p stack) stack) w q)
     passed n r pass is count =
         begun
-        ∙ unless_passes _ _ n (subst (Passes (fault_by (needs_at p stack) (level_of p) None a locked stack w)) is pass)
+        ∙ unless_passes _ _ n (subst (Passes (fault_by (needs_at p stack) (primitive_level p) None a locked stack w)) is pass)
         ∙ ap (λ k. upon (drop k stack) (does_of (process_row p) x a own (take (taken_at p stack) stack) w q)) (sym count)
 
 -- What is applied.
@@ -119,7 +119,7 @@ whole p x f g q = processed p x g.actor (locked_by (flat f).marks) (flat f).stac
 pub record Started (p : Primitive) (x : Place) (f : Shown) (g : Guard) (q : Queue) (own : Process) (r : Result ℕ MufFault) : Type 0 where
   pub here : process x.pid q ≡ Some own
   pub of_family : family_of p ≡ kind.Process
-  pub pass : Passes (fault_by (needs_at p (flat f).stack) (level_of p) None g.actor (locked_by (flat f).marks) (flat f).stack (world_of g)) r
+  pub pass : Passes (fault_by (needs_at p (flat f).stack) (primitive_level p) None g.actor (locked_by (flat f).marks) (flat f).stack (world_of g)) r
 
 module _ {p : Primitive} {x : Place} {f : Shown} {g : Guard} {q : Queue} {own : Process} {r : Result ℕ MufFault} (b : Started p x f g q own r) where
   -- what it does with the items that it takes
@@ -157,5 +157,5 @@ module _ {p : Primitive} {x : Place} {f : Shown} {g : Guard} {q : Queue} {own : 
       all_taken = subst (TakesAll plan) (sym count) (takes_all p x g.actor own (flat f).stack (world_of g) q plan planned)
 
 -- those that may be used have a row
-pub there_so : (p : Primitive) → family_of p ≡ kind.Process → is_there p ≡ is_some (process_row p)
-there_so p e = sym (process_there p ∙ ap (λ f. is_process_family f && is_there p) e)
+pub there_so : (p : Primitive) → family_of p ≡ kind.Process → is_usable p ≡ is_some (process_row p)
+there_so p e = sym (process_there p ∙ ap (λ f. is_process_family f && is_usable p) e)

@@ -3,12 +3,12 @@ use Rattle.std.proofs.Common.{◌≡◌, ℕ, List, [], ◌∷◌, Some, None, r
 use Rattle.muf_model.specs.declared.prims.Primitive.{Primitive}
 use Rattle.muf_model.specs.declared.prims.Primitive.TheVariants.{Call}
 use Rattle.muf_model.specs.Datum.{Datum, text}
-use Rattle.muf_model.specs.Needs.{takes, a_text, one_there}
+use Rattle.muf_model.specs.Needs.{takes_items, a_text, one_there}
 use Rattle.muf_model.specs.Prims.{needs_of}
 use Rattle.muf_frame.specs.inner.Answers.{text_at}
 use Rattle.spec_processes.specs.ProcessRows.{needs_at}
 
-pub named_needs : (stack : List Datum) (t : List ℕ) → text_at 0 stack ≡ Some t → needs_at Call stack ≡ takes (a_text ∷ one_there ∷ [])
+pub named_needs : (stack : List Datum) (t : List ℕ) → text_at 0 stack ≡ Some t → needs_at Call stack ≡ takes_items (a_text ∷ one_there ∷ [])
 named_needs [] t e = absurd cc
 named_needs (text s ∷ rest) t e = refl
 named_needs (_ ∷ rest) t e = absurd cc

@@ -11,18 +11,18 @@ use Rattle.muck_queue.specs.declared.process.Process.{Process}
 use Rattle.muck_queue.specs.Queues.{Queue, process, on_process, without_event, oldest_event}
 use Rattle.muck_queue.proofs.Changed.{changed_same, changed_missing}
 use Rattle.spec_processes.specs.declared.place.Place.{Place}
-use Rattle.spec_processes.specs.ProcessRows.{Doing, oldest, process_row, taken_at}
+use Rattle.spec_processes.specs.ProcessRows.{ProcessDoing, oldest, process_row, taken_at}
 use Rattle.prim_proc.specs.declared.plan.Plan.{Plan}
 use Rattle.prim_proc.specs.inner.Plans.{Plans, does_of, events_in}
 
 module _ (x : Place) (a : Actor) (own : Process) (stack : List Datum) (w : Live) (q : Queue) (o : Result Plan PrimFault) where
-  abbrev PlansFor : Option Doing → Primitive → Type 0
+  abbrev PlansFor : Option ProcessDoing → Primitive → Type 0
   PlansFor row p = Plans (does_of row x a own (take (taken_at p stack) stack) w q) x w q o
 
   pub by_prim : (p r : Primitive) → p ≡ r → PlansFor (process_row r) r → PlansFor (process_row p) p
   by_prim p r e h = subst (λ k. PlansFor (process_row k) k) (sym e) h
 
-  pub by_row : (p : Primitive) (row fact : Option Doing) → row ≡ fact → PlansFor fact p → PlansFor row p
+  pub by_row : (p : Primitive) (row fact : Option ProcessDoing) → row ≡ fact → PlansFor fact p → PlansFor row p
   by_row p row fact e h = subst (λ k. PlansFor k p) (sym e) h
 
 pub oldest_own : (x : Place) (own : Process) (w : Live) (q : Queue) → process x.pid q ≡ Some own → oldest (events_in x.pid q) x w q ≡ oldest own.events x w q

@@ -8,16 +8,16 @@ use Rattle.muf_model.specs.Answer.{stack_most}
 use Rattle.muf_model.specs.Datum.{Datum}
 use Rattle.muck_queue.specs.Queues.{Queue, events_of, events_most}
 use Rattle.spec_processes.specs.declared.place.Place.{Place}
-use Rattle.spec_processes.specs.ProcessRows.{Effect, gives, refuses, fitting, upon, oldest}
+use Rattle.spec_processes.specs.ProcessRows.{Effect, gives, refuses, effect_fitting, upon, oldest}
 use Rattle.prim_proc.specs.inner.Plans.{items_of, effect_of, events_in, stacked}
 use Rattle.prim_proc.specs.declared.plan.Plan.{Plan}
 use Rattle.prim_proc.specs.declared.plan.Plan.TheVariants.{Nothing, Give, Draw, Kill, SetMode, Send, Receive, Sleep, Read, Fork, Enter, Start}
 
 module _ (rest : List Datum) (n : ℕ) (effect : Effect) where
-  has_room : n + length rest ≤ stack_most → fitting n rest effect ≡ effect
+  has_room : n + length rest ≤ stack_most → effect_fitting n rest effect ≡ effect
   has_room l = cond-false _ _ _ (le-ltb stack_most (n + length rest) l)
 
-  has_none : stack_most < n + length rest → fitting n rest effect ≡ refuses StackFull
+  has_none : stack_most < n + length rest → effect_fitting n rest effect ≡ refuses StackFull
   has_none l = cond-true _ _ _ (lt-ltb stack_most (n + length rest) l)
 
 module _ (rest : List Datum) (x : Place) (w : Live) (q : Queue) where

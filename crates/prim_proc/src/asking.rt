@@ -3,10 +3,10 @@ ghost use Rattle.std.specs.Prelude.{◌≡◌, ◌≤◌, ◌<◌, ◌+◌, None
 ghost use Rattle.spec_rights.specs.Verdict.{verdict};
 ghost use Rattle.muf_model.specs.declared.fault.MufFault.TheVariants.{StackFull};
 ghost use Rattle.muf_model.specs.Answer.{stack_most};
-ghost use Rattle.muf_model.specs.Prims.{level_of};
+ghost use Rattle.muf_model.specs.Prims.{primitive_level};
 ghost use Rattle.muf_frame.specs.inner.Shown.{Shown, flat, locked_by};
 ghost use Rattle.muck_perm.specs.inner.Guards.{objects_of, world_of};
-ghost use Rattle.spec_prims.specs.Asking.{fault_of};
+ghost use Rattle.spec_prims.specs.Asking.{fault_of_denial};
 ghost use Rattle.spec_prims.specs.Shared.{fault_by};
 ghost use Rattle.prim_common.specs.inner.Tests.{Passes};
 ghost use Rattle.spec_processes.specs.ProcessRows.{needs_at, program_fault, taken_at};
@@ -41,7 +41,7 @@ const NAMED: Needs = Needs {
 pub(crate) fn ready_at(prim: Prim, guard: &Guard, frame: &Frame) -> Result<usize, MufFault>
     ensures count { IfOk result (λ n. n ≡ taken_at prim (flat frame.now).stack) }
     ensures there { IfOk result (λ n. n ≤ length frame.now.stack) }
-    ensures pass { Passes (fault_by (needs_at prim (flat frame.now).stack) (level_of prim) None guard.now.actor (locked_by (flat frame.now).marks) (flat frame.now).stack (world_of guard.now)) result }
+    ensures pass { Passes (fault_by (needs_at prim (flat frame.now).stack) (primitive_level prim) None guard.now.actor (locked_by (flat frame.now).marks) (flat frame.now).stack (world_of guard.now)) result }
 {
     match (prim, frame.text_at(0)) {
         (Prim::Call, Some(_)) => ready_needing(&NAMED, prim.level(), None, guard, frame),
@@ -51,7 +51,7 @@ pub(crate) fn ready_at(prim: Prim, guard: &Guard, frame: &Frame) -> Result<usize
 
 /// Leave for an act.
 pub(crate) fn permit(guard: &Guard, act: &Act) -> Result<(), MufFault>
-    ensures { Passes (fault_of (verdict (objects_of guard.now) guard.now.actor act.now)) result }
+    ensures { Passes (fault_of_denial (verdict (objects_of guard.now) guard.now.actor act.now)) result }
 {
     match verdict(guard.db(), &guard.actor(), act) {
         Ok(_) => Ok(()),

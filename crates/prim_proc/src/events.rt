@@ -6,7 +6,7 @@ ghost use Rattle.spec_live.specs.Lives.{Live};
 ghost use Rattle.muf_model.specs.declared.value.MapKey.TheVariants.{Name as NameKey};
 ghost use Rattle.muf_model.specs.Datum.{dict as whole, pairs_of};
 ghost use Rattle.muf_model.specs.Entries.{with_entry};
-ghost use Rattle.muf_model.specs.Values.{fits};
+ghost use Rattle.muf_model.specs.Values.{value_fits};
 ghost use Rattle.muf_model.specs.inner.View.{view};
 ghost use Rattle.muf_frame.specs.inner.Shown.{Shown, flat};
 ghost use Rattle.muck_perm.specs.inner.Guards.{world_of};
@@ -41,7 +41,7 @@ fn key(alloc: Global, name: &[u8]) -> Result<MapKey, NoMemory>
 // An entry more, in a dictionary that has room for it.
 fn put(alloc: Global, dict: &mut ValueMap, name: &[u8], value: Value) -> Result<(), NoMemory>
     requires text { text_fault name.now ≡ None }
-    requires room { fits (whole (pairs_of (with_entry (NameKey name.now) (view value) dict.old))) ≡ true }
+    requires room { value_fits (whole (pairs_of (with_entry (NameKey name.now) (view value) dict.old))) ≡ true }
     ensures { IfOk result (λ _. dict.new ≡ with_entry (NameKey name.now) (view value) dict.old) }
 {
     match dict.put(key(alloc, name)?, value) {

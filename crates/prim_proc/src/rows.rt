@@ -9,7 +9,7 @@ ghost use Rattle.muck_perm.specs.inner.Guards.{world_of};
 ghost use Rattle.muck_queue.specs.Queues.{Queue as Table};
 ghost use Rattle.muck_queue.specs.declared.process.Process.{Process};
 ghost use Rattle.spec_processes.specs.declared.place.Place.{Place};
-ghost use Rattle.spec_processes.specs.ProcessRows.{taken_at, mode_number, mode_numbered, is_pid, kill, sleep, read, mode_set, set_mode, call, starting, queue};
+ghost use Rattle.spec_processes.specs.ProcessRows.{taken_at, mode_number, mode_numbered, is_pid, kill, sleep, line_read, mode_set, set_mode, program_call, program_starting, queue};
 ghost use Rattle.prim_proc.specs.inner.Plans.{Plans};
 ghost use Rattle.prim_proc.specs.inner.Taken.{entering_at, started_in};
 
@@ -63,7 +63,7 @@ pub(crate) fn sleep(place: Place, frame: &Frame) -> Result<Plan, PrimFault>
 
 /// READ.
 pub(crate) fn read(own: &Process) -> Result<Plan, PrimFault>
-    ensures { (x : Place) (a : Actor) (w : Live) (q : Table) → Plans (read x a own.now [] w q) x w q result }
+    ensures { (x : Place) (a : Actor) (w : Live) (q : Table) → Plans (line_read x a own.now [] w q) x w q result }
 {
     if own.mode.is_background() || own.descr.is_none() {
         return Err(PrimFault::Fault(MufFault::CannotRead));
@@ -131,7 +131,7 @@ fn enter(guard: &Guard, program: Option<Dbref>, word: Option<Text>) -> Result<Pl
 
 /// CALL.
 pub(crate) fn call(guard: &Guard, frame: &Frame) -> Result<Plan, PrimFault>
-    ensures { (x : Place) (p : Process) (q : Table) → Plans (call x guard.now.actor p (take (taken_at CallPrim (flat frame.now).stack) (flat frame.now).stack) (world_of guard.now) q) x (world_of guard.now) q result }
+    ensures { (x : Place) (p : Process) (q : Table) → Plans (program_call x guard.now.actor p (take (taken_at CallPrim (flat frame.now).stack) (flat frame.now).stack) (world_of guard.now) q) x (world_of guard.now) q result }
 {
     let Some(name) = frame.text_at(0) else {
         return enter(guard, frame.object_at(0), None);
@@ -142,7 +142,7 @@ pub(crate) fn call(guard: &Guard, frame: &Frame) -> Result<Plan, PrimFault>
 
 // A program is started so many seconds later, by leave to call it.
 fn start(guard: &Guard, program: Dbref, seconds: i32, argument: Text) -> Result<Plan, PrimFault>
-    ensures { (x : Place) (q : Table) → Plans (starting (world_of guard.now) guard.now.actor program.0 seconds argument) x (world_of guard.now) q result }
+    ensures { (x : Place) (q : Table) → Plans (program_starting (world_of guard.now) guard.now.actor program.0 seconds argument) x (world_of guard.now) q result }
 {
     test_program(guard, program)?;
     if seconds < 0 {

@@ -6,7 +6,7 @@ ghost use Rattle.spec_rights.specs.Licence.{Licensed, nobody};
 ghost use Rattle.muck_queue.specs.Queues.{Queue as Table, process};
 ghost use Rattle.muf_model.specs.declared.prims.Family.TheVariants as kind;
 ghost use Rattle.muf_model.specs.Datum.{Datum};
-ghost use Rattle.muf_model.specs.Prims.{family_of, is_there};
+ghost use Rattle.muf_model.specs.Prims.{family_of, is_usable};
 ghost use Rattle.muf_frame.specs.inner.Shown.{Shown, flat, locked_by};
 ghost use Rattle.muck_perm.specs.inner.Guards.{objects_of, world_of};
 ghost use Rattle.spec_processes.specs.ProcessRows.{process_row, processed, taken_at};
@@ -100,7 +100,7 @@ pub fn apply(
     ensures row { Applied (processed prim place guard.old.actor (locked_by (flat frame.old).marks) (flat frame.old).stack (world_of guard.old) queue.old) frame.old frame.new guard.old guard.new queue.old queue.new result }
     ensures licensed { OnAnswer result (Licensed guard.old.actor nobody (world_of guard.old) (world_of guard.new)) }
     ensures processes { OnAnswer result (ProcessesLicensed guard.old.actor (objects_of guard.old) queue.old queue.new) }
-    ensures there { is_there prim ≡ is_some (process_row prim) }
+    ensures there { is_usable prim ≡ is_some (process_row prim) }
 {
     let Some(own) = queue.get(place.pid) else {
         return Err(PrimFault::Fault(MufFault::NotCompiled));

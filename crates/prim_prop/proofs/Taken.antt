@@ -13,9 +13,9 @@ use Rattle.spec_rights.specs.declared.act.Actor.{Actor}
 use Rattle.spec_rights.specs.Changing.{unstored}
 use Rattle.muf_model.specs.Datum.{Datum, int, text, object}
 use Rattle.muf_frame.specs.inner.Answers.{int_at, text_at, object_at}
-use Rattle.spec_prims.specs.Asking.{numbered}
+use Rattle.spec_prims.specs.Asking.{object_numbered}
 use Rattle.spec_prims.specs.Row.{gives}
-use Rattle.spec_prims.specs.PropRows.{at_path, seen_at, looked, first_holder, sought, next_read, begins, name_fault, walked, written_at, put_at, put, text_or, added, removed}
+use Rattle.spec_prims.specs.PropRows.{row_at_path, property_seen_at, property_looked_at, first_holder, property_sought, next_read, listing_begins, directory_fault, properties_walked, written_at, property_put_at, property_put, text_or, property_added, removed}
 use Rattle.prim_prop.specs.inner.Asked.{named_in, stored_by, added_by}
 
 -- what stands there, by its parts
@@ -56,27 +56,27 @@ pub ruleset named_steps = (named_none, named_alone, named_both)
 
 -- a text upon an object
 
-pub looked_at : (look : Option Object → List (List ℕ) → Datum) (a : Actor) (stack : List Datum) (w : Live) (d : ℤ) (t : List ℕ) → named_in stack ≡ Some (d, t) → looked look a (take 2 stack) w ≡ at_path (path_fault t) (seen_at look a (segments_of t) (numbered d) w)
+pub looked_at : (look : Option Object → List (List ℕ) → Datum) (a : Actor) (stack : List Datum) (w : Live) (d : ℤ) (t : List ℕ) → named_in stack ≡ Some (d, t) → property_looked_at look a (take 2 stack) w ≡ row_at_path (path_fault t) (property_seen_at look a (segments_of t) (object_numbered d) w)
 looked_at look a (text u ∷ object o ∷ rest) w d t e =
-    ap (λ (q : ℤ × List ℕ). at_path (path_fault q.1) (seen_at look a (segments_of q.1) (numbered q.0) w)) (same_Some (o, u) (d, t) e)
+    ap (λ (q : ℤ × List ℕ). row_at_path (path_fault q.1) (property_seen_at look a (segments_of q.1) (object_numbered q.0) w)) (same_Some (o, u) (d, t) e)
 looked_at look a stack w d t e = absurd (cc)
 
 pub sought_at : (shown : Option PropValue → Datum) (a : Actor) (stack : List Datum) (w : Live) (d : ℤ) (t : List ℕ) → named_in stack ≡ Some (d, t) →
-    sought shown a (take 2 stack) w ≡ at_path (path_fault t) (first_holder shown a (segments_of t) (numbered d ∷ places_of w.objects (numbered d)) w)
+    property_sought shown a (take 2 stack) w ≡ row_at_path (path_fault t) (first_holder shown a (segments_of t) (object_numbered d ∷ places_of w.objects (object_numbered d)) w)
 sought_at shown a (text u ∷ object o ∷ rest) w d t e =
-    ap (λ (q : ℤ × List ℕ). at_path (path_fault q.1) (first_holder shown a (segments_of q.1) (numbered q.0 ∷ places_of w.objects (numbered q.0)) w)) (same_Some (o, u) (d, t) e)
+    ap (λ (q : ℤ × List ℕ). row_at_path (path_fault q.1) (first_holder shown a (segments_of q.1) (object_numbered q.0 ∷ places_of w.objects (object_numbered q.0)) w)) (same_Some (o, u) (d, t) e)
 sought_at shown a stack w d t e = absurd (cc)
 
 pub walked_at : (a : Actor) (stack : List Datum) (w : Live) (d : ℤ) (t : List ℕ) → named_in stack ≡ Some (d, t) →
-    walked a (take 2 stack) w ≡ at_path (name_fault t) (gives (text (option_map_or path_text (next_read a (numbered d) (begins t) w) []) ∷ []) w)
+    properties_walked a (take 2 stack) w ≡ row_at_path (directory_fault t) (gives (text (option_map_or path_text (next_read a (object_numbered d) (listing_begins t) w) []) ∷ []) w)
 walked_at a (text u ∷ object o ∷ rest) w d t e =
-    ap (λ (q : ℤ × List ℕ). at_path (name_fault q.1) (gives (text (option_map_or path_text (next_read a (numbered q.0) (begins q.1) w) []) ∷ []) w)) (same_Some (o, u) (d, t) e)
+    ap (λ (q : ℤ × List ℕ). row_at_path (directory_fault q.1) (gives (text (option_map_or path_text (next_read a (object_numbered q.0) (listing_begins q.1) w) []) ∷ []) w)) (same_Some (o, u) (d, t) e)
 walked_at a stack w d t e = absurd (cc)
 
 pub removed_at : (a : Actor) (stack : List Datum) (w : Live) (d : ℤ) (t : List ℕ) → named_in stack ≡ Some (d, t) →
-    removed a (take 2 stack) w ≡ at_path (path_fault t) (written_at a (segments_of t) (numbered d) (unstored (numbered d) (segments_of t)) w)
+    removed a (take 2 stack) w ≡ row_at_path (path_fault t) (written_at a (segments_of t) (object_numbered d) (unstored (object_numbered d) (segments_of t)) w)
 removed_at a (text u ∷ object o ∷ rest) w d t e =
-    ap (λ (q : ℤ × List ℕ). at_path (path_fault q.1) (written_at a (segments_of q.1) (numbered q.0) (unstored (numbered q.0) (segments_of q.1)) w)) (same_Some (o, u) (d, t) e)
+    ap (λ (q : ℤ × List ℕ). row_at_path (path_fault q.1) (written_at a (segments_of q.1) (object_numbered q.0) (unstored (object_numbered q.0) (segments_of q.1)) w)) (same_Some (o, u) (d, t) e)
 removed_at a stack w d t e = absurd (cc)
 
 -- what is stored upon these
@@ -97,16 +97,16 @@ stored_none (_ ∷ rest) e f = refl
 
 pub ruleset stored_steps = (stored_int, stored_text, stored_none)
 
-pub put_so : (a : Actor) (stack : List Datum) (w : Live) (v : PropValue) (d : ℤ) (t : List ℕ) → stored_by stack ≡ Some v → named_in (drop 1 stack) ≡ Some (d, t) → put a (take 3 stack) w ≡ put_at a t d v w
+pub put_so : (a : Actor) (stack : List Datum) (w : Live) (v : PropValue) (d : ℤ) (t : List ℕ) → stored_by stack ≡ Some v → named_in (drop 1 stack) ≡ Some (d, t) → property_put a (take 3 stack) w ≡ property_put_at a t d v w
 put_so a (int n ∷ text u ∷ object o ∷ rest) w v d t f e =
-    ap (λ (q : ℤ × List ℕ). put_at a q.1 q.0 (Number n) w) (same_Some (o, u) (d, t) e) ∙ ap (λ x. put_at a t d x w) (same_Some (Number n) v f)
+    ap (λ (q : ℤ × List ℕ). property_put_at a q.1 q.0 (Number n) w) (same_Some (o, u) (d, t) e) ∙ ap (λ x. property_put_at a t d x w) (same_Some (Number n) v f)
 put_so a (text y ∷ text u ∷ object o ∷ rest) w v d t f e =
-    ap (λ (q : ℤ × List ℕ). put_at a q.1 q.0 (Text y) w) (same_Some (o, u) (d, t) e) ∙ ap (λ x. put_at a t d x w) (same_Some (Text y) v f)
+    ap (λ (q : ℤ × List ℕ). property_put_at a q.1 q.0 (Text y) w) (same_Some (o, u) (d, t) e) ∙ ap (λ x. property_put_at a t d x w) (same_Some (Text y) v f)
 put_so a stack w v d t f e = absurd (cc)
 
 -- an integer and a text upon them
 
-pub added_so : (a : Actor) (stack : List Datum) (w : Live) (n : ℤ) (u : List ℕ) (d : ℤ) (t : List ℕ) → added_by stack ≡ Some (n, u) → named_in (drop 2 stack) ≡ Some (d, t) → added a (take 4 stack) w ≡ put_at a t d (text_or u n) w
+pub added_so : (a : Actor) (stack : List Datum) (w : Live) (n : ℤ) (u : List ℕ) (d : ℤ) (t : List ℕ) → added_by stack ≡ Some (n, u) → named_in (drop 2 stack) ≡ Some (d, t) → property_added a (take 4 stack) w ≡ property_put_at a t d (text_or u n) w
 added_so a (int m ∷ text v ∷ text s ∷ object o ∷ rest) w n u d t f e =
-    ap (λ (q : ℤ × List ℕ). put_at a q.1 q.0 (text_or v m) w) (same_Some (o, s) (d, t) e) ∙ ap (λ (q : ℤ × List ℕ). put_at a t d (text_or q.1 q.0) w) (same_Some (m, v) (n, u) f)
+    ap (λ (q : ℤ × List ℕ). property_put_at a q.1 q.0 (text_or v m) w) (same_Some (o, s) (d, t) e) ∙ ap (λ (q : ℤ × List ℕ). property_put_at a t d (text_or q.1 q.0) w) (same_Some (m, v) (n, u) f)
 added_so a stack w n u d t f e = absurd (cc)

@@ -8,10 +8,11 @@ use Rattle.std.specs.Cmp.{tied_itself}
 use Rattle.std.specs.declared.cmp.Ordering.TheVariants.{Less}
 use Rattle.std.specs.FinMap.{keys, entries, entries_sorted, is_sorted, nat_cmp-IsAntisymmetric, slice_cmp-IsAntisymmetric}
 use Rattle.std.specs.FinMap.Entries.{below_all}
+use Rattle.muck_laws.proofs.Orders.{is_less, then_less}
+use Rattle.muck_laws.proofs.Truths.{both_of, is_true}
 use Rattle.muck_prop.specs.declared.value.PropValue.{PropValue}
 use Rattle.muck_prop.specs.Order.{segment_cmp, path_cmp, path_cmp_total, is_below, child}
 use Rattle.muck_prop.specs.Store.{PropMap, is_after, next_among, next_child}
-use Rattle.muck_prop.proofs.Sequence.{then_less, is_less}
 use Rattle.muck_model.specs.declared.dbref.Dbref.{Dbref}
 use Rattle.spec_live.specs.declared.object.Object.{Object}
 use Rattle.spec_live.specs.Objects.{object_at}
@@ -72,14 +73,6 @@ take_upto (suc n) (x ∷ xs) (y ∷ ys) h =
         | inr rest ↦ inr (λ i. slice_cmp-IsAntisymmetric nat_cmp-IsAntisymmetric x y same.0 i ∷ rest i)
       ]
     ]
-
-both_of : (a b : Bool) → T (a && b) → T a × T b
-both_of true b h = (tt, h)
-both_of false b h = absurd h
-
-is_true : (b : Bool) → T b → b ≡ true
-is_true true h = refl
-is_true false h = absurd h
 
 abbrev first : Path × PropValue → Path
 first e = e.0

@@ -5,7 +5,7 @@ ghost use Rattle.spec_rights.specs.Verdict.{verdict};
 ghost use Rattle.spec_rights.specs.declared.act.Act.TheVariants.{Read};
 ghost use Rattle.muf_frame.specs.inner.Shown.{Shown, flat};
 ghost use Rattle.muck_perm.specs.inner.Guards.{objects_of};
-ghost use Rattle.spec_prims.specs.Asking.{fault_of};
+ghost use Rattle.spec_prims.specs.Asking.{fault_of_denial};
 ghost use Rattle.prim_prop.specs.inner.Asked.{IsPathed, MayPass, named_in};
 
 use muck_model::Dbref;
@@ -40,7 +40,7 @@ pub(crate) fn path_of(alloc: Global, text: &Text) -> Result<Path, PrimFault>
 
 /// Leave to read a property.
 pub(crate) fn permit_reading(guard: &Guard, object: Dbref, path: &Path) -> Result<(), PrimFault>
-    ensures { MayPass (fault_of (verdict (objects_of guard.now) guard.now.actor (Read object path.now))) result }
+    ensures { MayPass (fault_of_denial (verdict (objects_of guard.now) guard.now.actor (Read object path.now))) result }
 {
     let path = path.copy(guard.alloc())?;
     match verdict(guard.db(), &guard.actor(), &Act::Read { object, path }) {

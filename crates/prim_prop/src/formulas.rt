@@ -3,7 +3,7 @@ ghost use Rattle.std.specs.Prelude.{◌≡◌, take};
 ghost use Rattle.spec_commands.specs.Finding.{actor_of};
 ghost use Rattle.muf_frame.specs.inner.Shown.{Shown, flat};
 ghost use Rattle.muck_perm.specs.inner.Guards.{objects_of, world_of};
-ghost use Rattle.spec_prims.specs.Formulas.{parse_done, parsed};
+ghost use Rattle.spec_prims.specs.Formulas.{parse_done, formula_parsed};
 ghost use Rattle.prim_common.specs.inner.Applied.{Makes};
 ghost use Rattle.prim_prop.specs.inner.Parsed.{IsAnswered};
 
@@ -48,7 +48,7 @@ fn answered(alloc: Global, answer: Result<Line, MpiFault>) -> Result<Made, PrimF
 // The formula of an object is evaluated for the player, and the program acts again behind it.
 #[tactic(auto, using(crate::proofs::Parsing::parsing_steps))]
 fn evaluate(guard: &mut Guard, object: Dbref, how: &Text, formula: &Text) -> Result<Made, PrimFault>
-    ensures { Makes (parsed guard.old.actor how.now formula.now object.0 (world_of guard.old)) guard.old guard.new result }
+    ensures { Makes (formula_parsed guard.old.actor how.now formula.now object.0 (world_of guard.old)) guard.old guard.new result }
 {
     let alloc = guard.alloc();
     let nothing = Line::of_text(alloc, b"")?;

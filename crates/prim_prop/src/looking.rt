@@ -6,7 +6,7 @@ ghost use Rattle.muf_model.specs.Datum.{text};
 ghost use Rattle.muf_model.specs.inner.View.{view};
 ghost use Rattle.muf_frame.specs.inner.Shown.{Shown, flat};
 ghost use Rattle.muck_perm.specs.inner.Guards.{world_of};
-ghost use Rattle.spec_prims.specs.PropRows.{value_of, as_item, as_text, as_number, looked};
+ghost use Rattle.spec_prims.specs.PropRows.{value_of, as_item, value_as_text, as_number, property_looked_at};
 ghost use Rattle.prim_common.specs.inner.Applied.{Makes};
 ghost use Rattle.prim_prop.specs.inner.Looks.{form_of, look_of};
 
@@ -54,20 +54,28 @@ fn as_item(alloc: Global, value: Option<&PropValue>) -> Result<Value, NoMemory>
 }
 
 fn as_text(alloc: Global, value: Option<&PropValue>) -> Result<Value, NoMemory>
-    ensures { IfOk result (λ v. view v ≡ as_text (option_copied value.entry)) }
+    ensures { IfOk result (λ v. view v ≡ value_as_text (option_copied value.entry)) }
 {
-    match value {
-        Some(PropValue::Text(line)) => text_item(alloc, line.copy(alloc)?),
-        _ => text_item(alloc, Line::of_text(alloc, b"")?),
+    let text = match value {
+        Some(value) => value.text(),
+        None => None,
+    };
+    match text {
+        Some(line) => text_item(alloc, line.copy(alloc)?),
+        None => text_item(alloc, Line::of_text(alloc, b"")?),
     }
 }
 
 fn as_number(value: Option<&PropValue>) -> Value
     ensures { view result ≡ as_number (option_copied value.entry) }
 {
-    match value {
-        Some(PropValue::Number(number)) => Value::Int(*number),
-        _ => Value::Int(0),
+    let number = match value {
+        Some(value) => value.number(),
+        None => None,
+    };
+    match number {
+        Some(number) => Value::Int(number),
+        None => Value::Int(0),
     }
 }
 
@@ -113,7 +121,7 @@ fn seen(alloc: Global, what: Look, object: Option<&Object>, path: &Path) -> Resu
 
 /// GETPROP and its like.
 pub(crate) fn look_at(what: Look, guard: &Guard, frame: &Frame) -> Result<Made, PrimFault>
-    ensures { Makes (looked (look_of what) guard.now.actor (take 2 (flat frame.now).stack) (world_of guard.now)) guard.now guard.now result }
+    ensures { Makes (property_looked_at (look_of what) guard.now.actor (take 2 (flat frame.now).stack) (world_of guard.now)) guard.now guard.now result }
 {
     let Some((object, text)) = named(frame, 0) else {
         return Err(PrimFault::Fault(MufFault::BadType));

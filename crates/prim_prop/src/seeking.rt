@@ -3,7 +3,7 @@ ghost use Rattle.std.specs.Prelude.{◌≡◌, [], ◌∷◌, IfOk, MatchOption,
 ghost use Rattle.spec_live.specs.Seen.{places_of};
 ghost use Rattle.muf_frame.specs.inner.Shown.{Shown, flat};
 ghost use Rattle.muck_perm.specs.inner.Guards.{objects_of, world_of};
-ghost use Rattle.spec_prims.specs.PropRows.{first_holder, sought};
+ghost use Rattle.spec_prims.specs.PropRows.{first_holder, property_sought};
 ghost use Rattle.prim_common.specs.inner.Applied.{Makes, items_of};
 ghost use Rattle.muf_model.specs.Datum.{object};
 ghost use Rattle.muf_model.specs.inner.View.{view};
@@ -24,7 +24,7 @@ use std::alloc::Global;
 const NOTHING: Dbref = Dbref(-1);
 
 // The next of the places upward.
-#[tactic(auto, unfolding(spec_live::specs::Seen::scenery_of, muck_match::specs::Scenery::upward, muck_match::specs::Scenery::is_there))]
+#[tactic(auto, unfolding(spec_live::specs::Seen::scenery_of, muck_match::specs::Scenery::upward, muck_match::specs::Scenery::is_in_scenery))]
 fn place_above(db: &Db, object: Dbref) -> Option<Dbref>
     ensures { MatchOption result (places_of db.now object ≡ []) (λ up. places_of db.now object ≡ up ∷ places_of db.now up) }
 {
@@ -64,7 +64,7 @@ fn seek_from(form: Form, guard: &Guard, object: Dbref, path: &Path) -> Result<Ma
 
 /// ENVPROP and ENVPROPSTR.
 pub(crate) fn seek(form: Form, guard: &Guard, frame: &Frame) -> Result<Made, PrimFault>
-    ensures { Makes (sought (form_of form) guard.now.actor (take 2 (flat frame.now).stack) (world_of guard.now)) guard.now guard.now result }
+    ensures { Makes (property_sought (form_of form) guard.now.actor (take 2 (flat frame.now).stack) (world_of guard.now)) guard.now guard.now result }
 {
     let Some((object, text)) = named(frame, 0) else {
         return Err(PrimFault::Fault(MufFault::BadType));

@@ -1,14 +1,14 @@
 // Every primitive of properties.
 ghost use Rattle.std.specs.Prelude.{◌≡◌, ℕ, Option, is_some, take, true};
 ghost use Rattle.muf_model.specs.declared.prims.Family.TheVariants.{Property};
-ghost use Rattle.muf_model.specs.Prims.{family_of, is_there};
+ghost use Rattle.muf_model.specs.Prims.{family_of, is_usable};
 ghost use Rattle.muf_frame.specs.inner.Shown.{Shown, flat, locked_by};
 ghost use Rattle.muck_perm.specs.inner.Guards.{objects_of, world_of};
 ghost use Rattle.spec_rights.specs.Licence.{Licensed, nobody};
 ghost use Rattle.spec_mpi.specs.Touching.{TouchesNotes};
 ghost use Rattle.spec_prims.specs.Formulas.{is_formula, answers_for};
 ghost use Rattle.spec_prims.specs.PropRows.{property_row};
-ghost use Rattle.spec_prims.specs.Shared.{shared, taken};
+ghost use Rattle.spec_prims.specs.Shared.{shared, items_taken};
 ghost use Rattle.prim_common.specs.inner.Applied.{Applied, Makes, OnAnswer, does_of};
 
 use crate::formulas::parse;
@@ -24,7 +24,7 @@ use prim_common::{Made, give, ready};
 // What a primitive makes of the items that it takes.
 #[tactic(auto, using(crate::proofs::Missing::no_row))]
 fn made(prim: Prim, guard: &mut Guard, frame: &Frame) -> Result<Made, PrimFault>
-    ensures { Makes (does_of (property_row prim) guard.old.actor (take (taken prim (flat frame.now).stack) (flat frame.now).stack) (world_of guard.old)) guard.old guard.new result }
+    ensures { Makes (does_of (property_row prim) guard.old.actor (take (items_taken prim (flat frame.now).stack) (flat frame.now).stack) (world_of guard.old)) guard.old guard.new result }
 {
     match prim {
         Prim::GetProp => look_at(Look::Held(Form::Item), guard, frame),
@@ -52,7 +52,7 @@ pub fn apply(prim: Prim, guard: &mut Guard, frame: &mut Frame) -> Result<(), Pri
     ensures row { (descr : Option ℕ) → Applied (shared prim guard.old.actor descr (locked_by (flat frame.old).marks) (flat frame.old).stack (world_of guard.old)) frame.old frame.new guard.old guard.new result }
     ensures licensed { OnAnswer result (Licensed (answers_for prim guard.old.actor (objects_of guard.old)) nobody (world_of guard.old) (world_of guard.new)) }
     ensures notes { is_formula prim ≡ true → OnAnswer result (TouchesNotes (world_of guard.old) (world_of guard.new)) }
-    ensures there { is_there prim ≡ is_some (property_row prim) }
+    ensures there { is_usable prim ≡ is_some (property_row prim) }
 {
     let taken = ready(prim, None, guard, frame)?;
     let made = made(prim, guard, frame)?;

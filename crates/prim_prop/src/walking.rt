@@ -9,7 +9,7 @@ ghost use Rattle.muf_model.specs.Datum.{text};
 ghost use Rattle.muf_model.specs.inner.View.{view};
 ghost use Rattle.muf_frame.specs.inner.Shown.{Shown, flat};
 ghost use Rattle.muck_perm.specs.inner.Guards.{world_of};
-ghost use Rattle.spec_prims.specs.PropRows.{front, may_read, next_read, path_or_top, walked};
+ghost use Rattle.spec_prims.specs.PropRows.{directory_part, may_read, next_read, path_or_top, properties_walked};
 ghost use Rattle.prim_common.specs.inner.Applied.{Makes};
 ghost use Rattle.prim_prop.specs.inner.Walks.{Starts, begun};
 
@@ -33,7 +33,7 @@ pub struct Start {
 
 // A text up to its last slash.
 fn front(text: &[u8]) -> &[u8]
-    ensures { result.now ≡ front text.now }
+    ensures { result.now ≡ directory_part text.now }
 {
     let mut end = text.len();
     while end > 0 && text[end - 1] != b'/' {
@@ -139,7 +139,7 @@ fn next_name(guard: &Guard, object: Dbref, start: Start) -> Result<Value, NoMemo
 
 /// NEXTPROP.
 pub(crate) fn walk(guard: &Guard, frame: &Frame) -> Result<Made, PrimFault>
-    ensures { Makes (walked guard.now.actor (take 2 (flat frame.now).stack) (world_of guard.now)) guard.now guard.now result }
+    ensures { Makes (properties_walked guard.now.actor (take 2 (flat frame.now).stack) (world_of guard.now)) guard.now guard.now result }
 {
     let Some((object, text)) = named(frame, 0) else {
         return Err(PrimFault::Fault(MufFault::BadType));

@@ -3,7 +3,7 @@ ghost use Rattle.std.specs.Prelude.{◌≡◌, IfOk, take};
 ghost use Rattle.std.specs.Option.{option_map};
 ghost use Rattle.muf_frame.specs.inner.Shown.{Shown, flat};
 ghost use Rattle.muck_perm.specs.inner.Guards.{world_of};
-ghost use Rattle.spec_prims.specs.PropRows.{added, put, put_at, removed, text_or};
+ghost use Rattle.spec_prims.specs.PropRows.{property_added, property_put, property_put_at, removed, text_or};
 ghost use Rattle.prim_common.specs.inner.Applied.{Makes};
 ghost use Rattle.prim_prop.specs.inner.Asked.{IsWritten, added_by, stored_by};
 
@@ -35,7 +35,7 @@ fn put_at(
     text: &Text,
     value: PropValue,
 ) -> Result<Made, PrimFault>
-    ensures { Makes (put_at guard.old.actor text.now object.0 value (world_of guard.old)) guard.old guard.new result }
+    ensures { Makes (property_put_at guard.old.actor text.now object.0 value (world_of guard.old)) guard.old guard.new result }
 {
     let path = path_of(guard.alloc(), text)?;
     let act = Act::Write {
@@ -64,7 +64,7 @@ fn stored_by(alloc: Global, frame: &Frame) -> Result<Option<PropValue>, NoMemory
 
 /// SETPROP.
 pub(crate) fn put(guard: &mut Guard, frame: &Frame) -> Result<Made, PrimFault>
-    ensures { Makes (put guard.old.actor (take 3 (flat frame.now).stack) (world_of guard.old)) guard.old guard.new result }
+    ensures { Makes (property_put guard.old.actor (take 3 (flat frame.now).stack) (world_of guard.old)) guard.old guard.new result }
 {
     let Some(value) = stored_by(guard.alloc(), frame)? else {
         return Err(PrimFault::Fault(MufFault::BadType));
@@ -96,7 +96,7 @@ fn text_or(alloc: Global, text: &Text, number: i32) -> Result<PropValue, NoMemor
 
 /// ADDPROP.
 pub(crate) fn add(guard: &mut Guard, frame: &Frame) -> Result<Made, PrimFault>
-    ensures { Makes (added guard.old.actor (take 4 (flat frame.now).stack) (world_of guard.old)) guard.old guard.new result }
+    ensures { Makes (property_added guard.old.actor (take 4 (flat frame.now).stack) (world_of guard.old)) guard.old guard.new result }
 {
     let Some((number, value)) = added_by(frame) else {
         return Err(PrimFault::Fault(MufFault::BadType));

@@ -5,28 +5,28 @@ use Rattle.std.specs.Ordering.{int_eq}
 use Rattle.std.specs.Option.{option_and_then}
 use Rattle.std.proofs.lemmas.List.{length-map}
 use Rattle.std.proofs.lemmas.Option.{slice_get-map}
+use Rattle.muck_laws.proofs.Mapped.{map_drop}
 use Rattle.muf_model.specs.declared.fault.MufFault.TheVariants.{BadType, BadArgument, BadAddress, Aborted}
 use Rattle.muf_model.specs.Datum.{Datum, text, variable, address}
-use Rattle.muf_model.specs.Answer.{Answer, stores, calls, refuses, Scope, variable_at, needing, put, unless}
-use Rattle.muf_model.specs.Needs.{any, a_text, a_variable, an_address}
+use Rattle.muf_model.specs.Answer.{Answer, stores, calls, refuses, Scope, variable_at, needing, items_put, answer_unless}
+use Rattle.muf_model.specs.Needs.{anything, a_text, a_variable, an_address}
 use Rattle.muf_model.specs.Prims.{family_of}
 use Rattle.muf_model.specs.declared.prims.Family.TheVariants.{Stack}
 use Rattle.muf_model.specs.Rows.{primitive}
 use Rattle.muf_frame.proofs.Ladders.{kinds, used_plain, used_whole}
-use Rattle.muf_model.specs.StackRows.{stored, storing, fetched, fetching, executed, aborted}
+use Rattle.muf_model.specs.StackRows.{item_stored, variable_storing, fetched, fetching, executed, aborted}
 use Rattle.muf_model.specs.declared.prims.Primitive.{Primitive}
 use Rattle.muf_model.specs.declared.prims.Primitive.TheVariants.{Fetch, Store, Execute, Abort}
 use Rattle.muf_model.specs.inner.Flat.{Flat}
 use Rattle.muf_frame.specs.inner.Moves.{scope_of}
 use Rattle.muf_frame.specs.inner.Answers.{text_at}
-use Rattle.muf_frame.proofs.Data.{map_drop}
 use Rattle.prim_stack.specs.inner.Does.{as_variable, as_address}
 
 abbrev fetch_read : Scope → Option ℕ → List Datum → Answer
 fetch_read s (Some v) rest = fetched (variable_at v s) rest
 fetch_read s None rest = refuses BadType
 
-fetching_read : (s : Scope) (stack : List Datum) → unless (kinds (a_variable ∷ []) stack) (fetching s stack) ≡ fetch_read s (option_and_then as_variable (slice_get stack 0)) (drop 1 stack)
+fetching_read : (s : Scope) (stack : List Datum) → answer_unless (kinds (a_variable ∷ []) stack) (fetching s stack) ≡ fetch_read s (option_and_then as_variable (slice_get stack 0)) (drop 1 stack)
 fetching_read s (variable v ∷ rest) = refl
 fetching_read s _ = refl
 
@@ -37,7 +37,7 @@ abbrev execute_read : Scope → Option (ℤ × ℕ) → List Datum → Answer
 execute_read s (Some a) rest = if int_eq a.0 s.program && nat_lt a.1 s.words then calls a.1 rest else refuses BadAddress
 execute_read s None rest = refuses BadType
 
-executed_read : (s : Scope) (stack : List Datum) → unless (kinds (an_address ∷ []) stack) (executed s stack) ≡ execute_read s (option_and_then as_address (slice_get stack 0)) (drop 1 stack)
+executed_read : (s : Scope) (stack : List Datum) → answer_unless (kinds (an_address ∷ []) stack) (executed s stack) ≡ execute_read s (option_and_then as_address (slice_get stack 0)) (drop 1 stack)
 executed_read s (address program word ∷ rest) = refl
 executed_read s _ = refl
 
@@ -48,7 +48,7 @@ abbrev abort_read : Option (List ℕ) → Answer
 abort_read (Some t) = refuses (Aborted t)
 abort_read None = refuses BadType
 
-aborted_read : (stack : List Datum) → unless (kinds (a_text ∷ []) stack) (put 1 (aborted (take 1 stack)) (drop 1 stack)) ≡ abort_read (text_at 0 stack)
+aborted_read : (stack : List Datum) → answer_unless (kinds (a_text ∷ []) stack) (items_put 1 (aborted (take 1 stack)) (drop 1 stack)) ≡ abort_read (text_at 0 stack)
 aborted_read (text t ∷ rest) = refl
 aborted_read _ = refl
 
@@ -57,25 +57,25 @@ abort_row s stack = used_plain 1 a_text [] aborted s stack ∙ ap (needing 1 s.l
 
 -- what is stored, where the variable is there
 abbrev store_answer : Option Datum → ℕ → Option Datum → List Datum → Answer
-store_answer old v (Some x) rest = stored old v x rest
+store_answer old v (Some x) rest = item_stored old v x rest
 store_answer old v None rest = refuses BadType
 
 abbrev store_read : Scope → Option ℕ → Option Datum → List Datum → Answer
 store_read s (Some v) x rest = store_answer (variable_at v s) v x rest
 store_read s None x rest = refuses BadType
 
-storing_read : (s : Scope) (stack : List Datum) → unless (kinds (a_variable ∷ any ∷ []) stack) (storing s stack) ≡ store_read s (option_and_then as_variable (slice_get stack 0)) (slice_get stack 1) (drop 2 stack)
+storing_read : (s : Scope) (stack : List Datum) → answer_unless (kinds (a_variable ∷ anything ∷ []) stack) (variable_storing s stack) ≡ store_read s (option_and_then as_variable (slice_get stack 0)) (slice_get stack 1) (drop 2 stack)
 storing_read s (variable v ∷ x ∷ rest) = refl
 storing_read s _ = refl
 
 pub store_row : (s : Scope) (stack : List Datum) → primitive Store s stack ≡ needing 2 s.locked stack (store_read s (option_and_then as_variable (slice_get stack 0)) (slice_get stack 1) (drop 2 stack))
-store_row s stack = used_whole 1 a_variable (any ∷ []) storing s stack ∙ ap (needing 2 s.locked stack) (storing_read s stack)
+store_row s stack = used_whole 1 a_variable (anything ∷ []) variable_storing s stack ∙ ap (needing 2 s.locked stack) (storing_read s stack)
 
-pub stored_there : (old : Option Datum) (v : ℕ) (x : Datum) (rest : List Datum) → is_some old ≡ true → stored old v x rest ≡ stores v x rest
+pub stored_there : (old : Option Datum) (v : ℕ) (x : Datum) (rest : List Datum) → is_some old ≡ true → item_stored old v x rest ≡ stores v x rest
 stored_there (Some y) v x rest e = refl
 stored_there None v x rest e = absurd (search (rules, e))
 
-pub stored_nowhere : (old : Option Datum) (v : ℕ) (x : Datum) (rest : List Datum) → is_some old ≡ false → stored old v x rest ≡ refuses BadArgument
+pub stored_nowhere : (old : Option Datum) (v : ℕ) (x : Datum) (rest : List Datum) → is_some old ≡ false → item_stored old v x rest ≡ refuses BadArgument
 stored_nowhere (Some y) v x rest e = absurd (search (rules, e))
 stored_nowhere None v x rest e = refl
 

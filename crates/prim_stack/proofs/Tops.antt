@@ -1,19 +1,20 @@
 -- The rows of the stack, by the items at the top.
 use Rattle.std.proofs.Common.{length-take, true, false, ◌≡◌, ℕ, zero, suc, ◌+◌, ◌-◌, ◌<◌, List, [], ◌∷◌, ◌++◌, length, map, take, drop, reverse, refl, ap, sym, ◌∙◌, arith, rules}
-use Rattle.std.specs.Prelude.{ℤ, pos, negsuc, Option, Some, None, slice_get, slice_set, option_map, option_to_list}
+use Rattle.std.specs.Prelude.{ℤ, pos, negsuc, Option, Some, None, slice_get, slice_set, option_map}
 use Rattle.std.proofs.lemmas.List.{length-map, map-append, map-set}
 use Rattle.std.specs.List.{position, position_or_len}
 use Rattle.std.proofs.lemmas.Option.{slice_get-map}
+use Rattle.muck_laws.proofs.Mapped.{map_drop, map_take}
+use Rattle.muck_laws.proofs.Places.{first_one, get_taken}
+use Rattle.muck_laws.proofs.Turned.{map_reverse}
 use Rattle.muf_model.specs.declared.value.Value.{Value}
 use Rattle.muf_model.specs.inner.View.{view}
-use Rattle.muf_model.specs.StackRows.{is_mark, above, rotated, rotated_up, rotated_down, put_at}
+use Rattle.muf_model.specs.StackRows.{is_mark, above_locked, rotated, rotated_up, rotated_down, item_put_at}
 use Rattle.muf_model.specs.declared.fault.MufFault.TheVariants.{BadType}
 use Rattle.muf_model.specs.Datum.{Datum, int}
-use Rattle.muf_model.specs.Answer.{Answer, gives, refuses, needing, Scope, unless}
+use Rattle.muf_model.specs.Answer.{Answer, gives, refuses, needing, Scope, answer_unless}
 use Rattle.muf_frame.specs.inner.Answers.{int_at}
 use Rattle.prim_stack.specs.inner.Does.{mark_in}
-use Rattle.muf_frame.proofs.Data.{map_take, map_drop}
-use Rattle.muf_frame.proofs.Alike.{map_reverse}
 use Rattle.muf_frame.proofs.Ladders.{kinds, used_plain, used_whole}
 use Rattle.muf_model.specs.declared.prims.Primitive.TheVariants.{Rotate}
 use Rattle.muf_model.specs.Needs.{an_int}
@@ -23,12 +24,6 @@ use Rattle.prim_stack.proofs.Counts.{counted_used}
 pub ruleset give_steps = (used_plain, length-map)
 
 pub ruleset count_steps = (counted_used, length-map)
-
-pub first_one : {A : Type 0} → (n : ℕ) (xs : List A) (x : A) → slice_get xs n ≡ Some x → take 1 (drop n xs) ≡ x ∷ []
-first_one zero [] x s = absurd (search (rules, s))
-first_one zero (y ∷ ys) x s = ap (λ o. option_to_list o) s
-first_one (suc n) [] x s = absurd (search (rules, s))
-first_one (suc n) (y ∷ ys) x s = first_one n ys x s
 
 -- the deepest of n items goes to the top
 pub lifted : (n : ℕ) (xs : List Value) (v : Value) → 0 < n → slice_get xs (n - 1) ≡ Some v → view v ∷ map view (take (n - 1) xs ++ drop (n - 1 + 1) xs) ≡ rotated_up n (map view xs)
@@ -51,7 +46,7 @@ rotate_read locked stack (Some (pos n)) = needing (n + 1) locked stack (gives (r
 rotate_read locked stack (Some (negsuc n)) = needing (suc n + 1) locked stack (gives (rotated_down (suc n) (drop 1 stack)))
 rotate_read locked stack None = refuses BadType
 
-rotated_read : (s : Scope) (stack : List Datum) → unless (kinds (an_int ∷ []) stack) (rotated s stack) ≡ rotate_read s.locked stack (int_at 0 stack)
+rotated_read : (s : Scope) (stack : List Datum) → answer_unless (kinds (an_int ∷ []) stack) (rotated s stack) ≡ rotate_read s.locked stack (int_at 0 stack)
 rotated_read s (int (pos n) ∷ rest) = refl
 rotated_read s (int (negsuc n) ∷ rest) = refl
 rotated_read s _ = refl
@@ -60,7 +55,7 @@ pub rotate_row : (s : Scope) (stack : List Datum) → primitive Rotate s stack �
 rotate_row s stack = used_whole 1 an_int [] rotated s stack ∙ ap (needing 1 s.locked stack) (rotated_read s stack)
 
 -- the item at the n-th place below the top, from 1
-pub put_read : (rest : List Datum) (y : Datum) (n : ℕ) → 0 < n → put_at (y ∷ rest) n ≡ gives (slice_set rest (n - 1) y)
+pub put_read : (rest : List Datum) (y : Datum) (n : ℕ) → 0 < n → item_put_at (y ∷ rest) n ≡ gives (slice_set rest (n - 1) y)
 put_read rest y zero h = absurd (omega (arith, h))
 put_read rest y (suc n) h = let e : suc n - 1 ≡ n = omega arith in rw e refl
 
@@ -70,12 +65,6 @@ turned_data n xs = rw (map-append, map_drop, map_reverse, map_take) refl
 pub ruleset move_steps = (lifted, sunk, put_read, turned_data, map_take, map_drop, map-set, length-map)
 
 pub ruleset rotate_steps = (rotate_row, map_drop, length-map)
-
-get_taken : {A : Type 0} → (n m : ℕ) (xs : List A) → n < m → slice_get (take m xs) n ≡ slice_get xs n
-get_taken n zero xs h = absurd (omega (arith, h))
-get_taken n (suc m) [] h = refl
-get_taken zero (suc m) (x ∷ xs) h = refl
-get_taken (suc n) (suc m) (x ∷ xs) h = get_taken n m xs (omega (arith, h))
 
 -- one item further, where it is no mark
 pub mark_passed : (n : ℕ) (xs : List Datum) → n < length xs → mark_in (slice_get xs n) ≡ false → position_or_len is_mark (drop n xs) ≡ suc (position_or_len is_mark (drop (n + 1) xs))
@@ -93,20 +82,20 @@ mark_found zero (x ∷ xs) e =
     rw (g) refl
 mark_found (suc n) (x ∷ xs) e = mark_found n xs e
 
-length_above : (l : ℕ) (s : List Datum) → length (above l s) ≡ length s - l
+length_above : (l : ℕ) (s : List Datum) → length (above_locked l s) ≡ length s - l
 length_above l s = omega (arith, length-take (length s - l) s)
 
 position_here : (n : ℕ) (xs : List Datum) → position_or_len is_mark xs ≡ n → n < length xs → position is_mark xs ≡ Some n
 position_here n xs e h = rw (e) (search (rules, h))
 
-pub nearest_here : (l n : ℕ) (s : List Datum) → n < length s - l → position_or_len is_mark (above l s) ≡ n + position_or_len is_mark (drop n (above l s)) → mark_in (slice_get s n) ≡ true → Some n ≡ position is_mark (above l s)
+pub nearest_here : (l n : ℕ) (s : List Datum) → n < length s - l → position_or_len is_mark (above_locked l s) ≡ n + position_or_len is_mark (drop n (above_locked l s)) → mark_in (slice_get s n) ≡ true → Some n ≡ position is_mark (above_locked l s)
 nearest_here l n s h e m =
-    let f : position_or_len is_mark (drop n (above l s)) ≡ 0 = mark_found n (above l s) (ap mark_in (get_taken n (length s - l) s h) ∙ m) in
-    sym (position_here n (above l s) (omega (arith, e, f)) (omega (arith, h, length_above l s)))
+    let f : position_or_len is_mark (drop n (above_locked l s)) ≡ 0 = mark_found n (above_locked l s) (ap mark_in (get_taken n (length s - l) s h) ∙ m) in
+    sym (position_here n (above_locked l s) (omega (arith, e, f)) (omega (arith, h, length_above l s)))
 
-pub nearest_further : (l n : ℕ) (s : List Datum) → n < length s - l → position_or_len is_mark (above l s) ≡ n + position_or_len is_mark (drop n (above l s)) → mark_in (slice_get s n) ≡ false → position_or_len is_mark (above l s) ≡ n + 1 + position_or_len is_mark (drop (n + 1) (above l s))
+pub nearest_further : (l n : ℕ) (s : List Datum) → n < length s - l → position_or_len is_mark (above_locked l s) ≡ n + position_or_len is_mark (drop n (above_locked l s)) → mark_in (slice_get s n) ≡ false → position_or_len is_mark (above_locked l s) ≡ n + 1 + position_or_len is_mark (drop (n + 1) (above_locked l s))
 nearest_further l n s h e m =
-    let f : position_or_len is_mark (drop n (above l s)) ≡ suc (position_or_len is_mark (drop (n + 1) (above l s))) = mark_passed n (above l s) (omega (arith, h, length_above l s)) (ap mark_in (get_taken n (length s - l) s h) ∙ m) in
+    let f : position_or_len is_mark (drop n (above_locked l s)) ≡ suc (position_or_len is_mark (drop (n + 1) (above_locked l s))) = mark_passed n (above_locked l s) (omega (arith, h, length_above l s)) (ap mark_in (get_taken n (length s - l) s h) ∙ m) in
     omega (arith, e, f)
 
 pub closed_data : (n : ℕ) (xs : List Value) → map view (take n xs ++ drop (n + 1) xs) ≡ take n (map view xs) ++ drop (n + 1) (map view xs)

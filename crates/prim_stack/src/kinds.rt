@@ -1,8 +1,8 @@
 // The tests of kinds.
 ghost use Rattle.std.specs.Prelude.{◌≡◌, ◌∷◌, []};
-ghost use Rattle.muf_model.specs.Needs.{takes, any};
-ghost use Rattle.muf_model.specs.Kinds.{is_kind, is_so};
-ghost use Rattle.muf_model.specs.StackRows.{judged};
+ghost use Rattle.muf_model.specs.Needs.{takes_items, anything};
+ghost use Rattle.muf_model.specs.Kinds.{is_kind, is_kind_so};
+ghost use Rattle.muf_model.specs.StackRows.{item_judged};
 ghost use Rattle.muf_frame.specs.inner.Shown.{Shown, flat};
 ghost use Rattle.muf_frame.specs.inner.Answers.{Used};
 
@@ -28,7 +28,7 @@ fn is_kind(test: Prim, kind: ItemKind) -> bool
 /// INT?, STRING?, DBREF?, ARRAY?, DICTIONARY?, ADDRESS? and LOCK?.
 #[tactic(auto, using(crate::proofs::Tops::give_steps))]
 pub(crate) fn judge(test: Prim, frame: &mut Frame) -> Result<(), MufFault>
-    ensures { Used test (takes (any ∷ [])) (judged (is_so test)) frame.old frame.new result }
+    ensures { Used test (takes_items (anything ∷ [])) (item_judged (is_kind_so test)) frame.old frame.new result }
 {
     frame.need(1)?;
     match frame.pop_item() {

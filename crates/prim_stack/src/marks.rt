@@ -3,7 +3,7 @@ ghost use Rattle.std.specs.Prelude.{◌≡◌, ◌+◌, ◌<◌, ◌∷◌, ◌+
 ghost use Rattle.std.specs.List.{position};
 ghost use Rattle.muf_model.specs.Datum.{int};
 ghost use Rattle.muf_model.specs.declared.prims.Primitive.TheVariants.{CloseMark};
-ghost use Rattle.muf_model.specs.StackRows.{is_mark, above};
+ghost use Rattle.muf_model.specs.StackRows.{is_mark, above_locked};
 ghost use Rattle.muf_model.specs.inner.View.{view};
 ghost use Rattle.muf_frame.specs.inner.Shown.{Shown, flat, locked_by};
 ghost use Rattle.muf_frame.specs.inner.Answers.{IsRow};
@@ -33,7 +33,7 @@ fn is_mark_at(frame: &Frame, depth: usize) -> bool
 // Where the nearest mark above the locked part stands.
 #[tactic(auto, using(crate::proofs::Tops::mark_steps))]
 fn nearest_mark(frame: &Frame) -> Option<usize>
-    ensures value { result ≡ position is_mark (above (locked_by (flat frame.now).marks) (flat frame.now).stack) }
+    ensures value { result ≡ position is_mark (above_locked (locked_by (flat frame.now).marks) (flat frame.now).stack) }
     ensures there { IfSome result (λ n. n < length frame.now.stack) }
     ensures small { IfSome result (λ n. n < 1024) }
 {

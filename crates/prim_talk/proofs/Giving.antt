@@ -5,19 +5,19 @@ use Rattle.std.specs.Prelude.{◌&&◌, nat_le}
 use Rattle.std.specs.List.{cons_option}
 use Rattle.std.specs.Int.{w32, cast_signed}
 use Rattle.std.proofs.lemmas.List.{length-map, reverse-append}
-use Rattle.muf_frame.proofs.Alike.{map_reverse}
+use Rattle.muck_laws.proofs.Turned.{map_reverse}
 use Rattle.muck_model.specs.declared.dbref.Dbref.{Dbref}
-use Rattle.spec_live.specs.Connections.{Connection, is_of, has_player}
+use Rattle.spec_live.specs.Connections.{Connection, is_connection_of, has_player}
 use Rattle.spec_live.specs.Lives.{Live}
 use Rattle.muf_model.specs.declared.value.Value.{Value}
 use Rattle.muf_model.specs.declared.value.Value.TheVariants.{Int, Ref}
 use Rattle.spec_rights.specs.declared.act.Actor.{Actor}
 use Rattle.muf_model.specs.Datum.{Datum, object}
 use Rattle.muf_frame.specs.inner.Answers.{object_at}
-use Rattle.spec_prims.specs.Asking.{numbered}
+use Rattle.spec_prims.specs.Asking.{object_numbered}
 use Rattle.spec_prims.specs.Row.{gives}
 use Rattle.muf_model.specs.inner.View.{view}
-use Rattle.spec_prims.specs.Talk.{counted, player_item, number_item, with_count, players, player_numbered, player_at, seats, seat_numbered, seat_at, is_place, descriptors}
+use Rattle.spec_prims.specs.Talk.{count_item, player_item, number_item, items_with_count, players, player_numbered, player_at, seats, seat_numbered, seat_at, is_place, descriptors}
 
 -- the players of connections
 joined_player : (player : Option Dbref) (values : List Value) (ds : List Dbref) → map view values ≡ map player_item ds → map view (cons_option (option_map Ref player) values) ≡ map player_item (cons_option player ds)
@@ -34,11 +34,11 @@ shown_numbers [] = refl
 shown_numbers (c ∷ cs) = ap (λ xs. number_item c ∷ xs) (shown_numbers cs)
 
 -- items with their count upon them
-pub shown_count : (items : List Value) (count : Value) → view count ≡ counted (length items) → map view (reverse (items ++ count ∷ [])) ≡ with_count (map view items)
+pub shown_count : (items : List Value) (count : Value) → view count ≡ count_item (length items) → map view (reverse (items ++ count ∷ [])) ≡ items_with_count (map view items)
 shown_count items count e =
     ap (map view) (reverse-append items (count ∷ []))
-    ∙ ap (λ x. x ∷ map view (reverse items)) (e ∙ ap counted (sym (length-map items view)))
-    ∙ ap (λ xs. counted (length (map view items)) ∷ xs) (map_reverse view items)
+    ∙ ap (λ x. x ∷ map view (reverse items)) (e ∙ ap count_item (sym (length-map items view)))
+    ∙ ap (λ xs. count_item (length (map view items)) ∷ xs) (map_reverse view items)
 
 -- the player at a place
 
@@ -66,9 +66,9 @@ pub place_top : (i : ℤ) (n : ℕ) (w : Live) → i ≡ pos n → nat_le 1 n &&
 place_top i n w e = ap (λ j. is_place j w) (sym e)
 
 -- DESCRIPTORS, by the object on the top
-pub descriptors_of : (a : Actor) (stack : List Datum) (w : Live) (d : Dbref) (items : List Datum) → object_at 0 stack ≡ Some d.0 → items ≡ with_count (map number_item (filter (is_of d) w.board.connections)) → descriptors a (take 1 stack) w ≡ gives items w
+pub descriptors_of : (a : Actor) (stack : List Datum) (w : Live) (d : Dbref) (items : List Datum) → object_at 0 stack ≡ Some d.0 → items ≡ items_with_count (map number_item (filter (is_connection_of d) w.board.connections)) → descriptors a (take 1 stack) w ≡ gives items w
 descriptors_of a [] w d items e k = absurd cc
 descriptors_of a (object n ∷ rest) w d items e k =
     let same : n ≡ d.0 = cc in
-    ap (λ x. gives (with_count (map number_item (filter (is_of (numbered x)) w.board.connections))) w) same ∙ ap (λ xs. gives xs w) (sym k)
+    ap (λ x. gives (items_with_count (map number_item (filter (is_connection_of (object_numbered x)) w.board.connections))) w) same ∙ ap (λ xs. gives xs w) (sym k)
 descriptors_of a (_ ∷ rest) w d items e k = absurd cc

@@ -6,8 +6,8 @@ ghost use Rattle.muf_model.specs.declared.value.Value.TheVariants.{Int, Ref};
 ghost use Rattle.muf_model.specs.inner.View.{view};
 ghost use Rattle.muf_frame.specs.inner.Shown.{Shown, flat};
 ghost use Rattle.muck_perm.specs.inner.Guards.{world_of};
-ghost use Rattle.spec_live.specs.Connections.{is_of, has_player};
-ghost use Rattle.spec_prims.specs.Talk.{counted, with_count, player_at, player_numbered, is_place, player_item, number_item, players, object_in, seated, seat_numbered, seat_at};
+ghost use Rattle.spec_live.specs.Connections.{is_connection_of, has_player};
+ghost use Rattle.spec_prims.specs.Talk.{count_item, items_with_count, player_at, player_numbered, is_place, player_item, number_item, players, item_object, seated_number, seat_numbered, seat_at};
 ghost use Rattle.prim_common.specs.inner.Applied.{items_of};
 
 use muck_board::Connection;
@@ -22,14 +22,14 @@ const COUNT_MOST: usize = 2_147_483_647;
 
 /// A count, as far as integers go.
 pub(crate) fn counted(count: usize) -> Value
-    ensures { view result ≡ counted count }
+    ensures { view result ≡ count_item count }
 {
     Value::Int(count.min(COUNT_MOST) as i32)
 }
 
 // Items, the first of them the deepest, and their count upon them.
 fn with_count(items: Vec<Value>) -> Result<Made, NoMemory>
-    ensures { IfOk result (λ made. items_of made ≡ with_count (map view items.items)) }
+    ensures { IfOk result (λ made. items_of made ≡ items_with_count (map view items.items)) }
 {
     let count = counted(items.len());
     let mut all = items;
@@ -67,7 +67,7 @@ fn player_values(guard: &Guard) -> Result<Vec<Value>, NoMemory>
 /// The players of the connections that have one, and their count upon them.
 #[tactic(auto, using(crate::proofs::Giving::shown_players))]
 pub(crate) fn players_counted(guard: &Guard) -> Result<Made, NoMemory>
-    ensures { IfOk result (λ made. items_of made ≡ with_count (map player_item (players (world_of guard.now)))) }
+    ensures { IfOk result (λ made. items_of made ≡ items_with_count (map player_item (players (world_of guard.now)))) }
 {
     let players = player_values(guard)?;
     with_count(players)
@@ -75,7 +75,7 @@ pub(crate) fn players_counted(guard: &Guard) -> Result<Made, NoMemory>
 
 // The numbers of the connections of a player.
 fn number_values(guard: &Guard, player: Dbref) -> Result<Vec<Value>, NoMemory>
-    ensures { IfOk result (λ items. items.items ≡ map (λ c. Int (cast_signed w32 c.number)) (filter (is_of player) guard.now.board.now.connections)) }
+    ensures { IfOk result (λ items. items.items ≡ map (λ c. Int (cast_signed w32 c.number)) (filter (is_connection_of player) guard.now.board.now.connections)) }
 {
     let connections = guard.board().connections().iter();
     let items = connections
@@ -88,7 +88,7 @@ fn number_values(guard: &Guard, player: Dbref) -> Result<Vec<Value>, NoMemory>
 /// The numbers of the connections of a player, and their count upon them.
 #[tactic(auto, using(crate::proofs::Giving::shown_numbers))]
 pub(crate) fn numbers_counted(guard: &Guard, player: Dbref) -> Result<Made, NoMemory>
-    ensures { IfOk result (λ made. items_of made ≡ with_count (map number_item (filter (is_of player) guard.now.board.now.connections))) }
+    ensures { IfOk result (λ made. items_of made ≡ items_with_count (map number_item (filter (is_connection_of player) guard.now.board.now.connections))) }
 {
     let numbers = number_values(guard, player)?;
     with_count(numbers)
@@ -151,7 +151,7 @@ pub(crate) fn is_place(guard: &Guard, place: i32) -> bool
 /// The objects among so many items below the two upper ones.
 pub(crate) fn excluded(guard: &Guard, frame: &Frame, count: usize) -> Result<Vec<Dbref>, NoMemory>
     requires { count ≤ 2147483647 }
-    ensures { IfOk result (λ ds. ds.items ≡ filter_map object_in (take count (drop 2 (flat frame.now).stack))) }
+    ensures { IfOk result (λ ds. ds.items ≡ filter_map item_object (take count (drop 2 (flat frame.now).stack))) }
 {
     let mut objects = Vec::new(guard.alloc());
     let mut at = 0;
@@ -166,7 +166,7 @@ pub(crate) fn excluded(guard: &Guard, frame: &Frame, count: usize) -> Result<Vec
 
 // The number of a connection that has a player.
 fn seated(connection: &Connection) -> Option<u32>
-    ensures { result ≡ seated connection.now }
+    ensures { result ≡ seated_number connection.now }
 {
     connection.player()?;
     Some(connection.number())
@@ -174,7 +174,7 @@ fn seated(connection: &Connection) -> Option<u32>
 
 // The numbers of the connections that have one.
 fn seats(guard: &Guard) -> Result<Vec<u32>, NoMemory>
-    ensures { IfOk result (λ ds. ds.items ≡ filter_map seated guard.now.board.now.connections) }
+    ensures { IfOk result (λ ds. ds.items ≡ filter_map seated_number guard.now.board.now.connections) }
 {
     let connections = guard.board().connections().iter();
     let seats = connections

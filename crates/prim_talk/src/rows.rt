@@ -8,10 +8,10 @@ ghost use Rattle.muf_frame.specs.inner.Shown.{Shown, flat};
 ghost use Rattle.spec_rights.specs.declared.act.Act.TheVariants.{Shared};
 ghost use Rattle.spec_rights.specs.Verdict.{verdict};
 ghost use Rattle.muck_perm.specs.inner.Guards.{world_of, objects_of};
-ghost use Rattle.spec_prims.specs.Asking.{fault_of};
-ghost use Rattle.spec_prims.specs.Row.{unless};
-ghost use Rattle.spec_prims.specs.Shared.{taken};
-ghost use Rattle.spec_prims.specs.Talk.{notified, notified_but, booted, booted_seat, awake, online, connected, connected_at, outside, descriptors};
+ghost use Rattle.spec_prims.specs.Asking.{fault_of_denial};
+ghost use Rattle.spec_prims.specs.Row.{row_unless};
+ghost use Rattle.spec_prims.specs.Shared.{items_taken};
+ghost use Rattle.spec_prims.specs.Talk.{notified, notified_but, connection_booted, booted_seat, connections_awake, online, connected, connected_at, place_outside, descriptors};
 ghost use Rattle.prim_common.specs.inner.Applied.{Makes, items_of};
 ghost use Rattle.prim_talk.specs.inner.Told.{told_in, counted_in};
 
@@ -62,7 +62,7 @@ fn told_count(frame: &Frame) -> Option<(&Text, usize)>
 
 /// NOTIFY_EXCLUDE.
 pub(crate) fn notify_but(guard: &mut Guard, frame: &Frame) -> Result<Made, PrimFault>
-    ensures { Makes (notified_but guard.old.actor (take (taken NotifyExclude (flat frame.now).stack) (flat frame.now).stack) (world_of guard.old)) guard.old guard.new result }
+    ensures { Makes (notified_but guard.old.actor (take (items_taken NotifyExclude (flat frame.now).stack) (flat frame.now).stack) (world_of guard.old)) guard.old guard.new result }
 {
     let Some((text, count)) = told_count(frame) else {
         return Err(PrimFault::Fault(MufFault::BadType));
@@ -77,7 +77,7 @@ pub(crate) fn notify_but(guard: &mut Guard, frame: &Frame) -> Result<Made, PrimF
 
 /// AWAKE?.
 pub(crate) fn awake(guard: &Guard, frame: &Frame) -> Result<Made, PrimFault>
-    ensures { Makes (awake guard.now.actor (take 1 (flat frame.now).stack) (world_of guard.now)) guard.now guard.now result }
+    ensures { Makes (connections_awake guard.now.actor (take 1 (flat frame.now).stack) (world_of guard.now)) guard.now guard.now result }
 {
     let Some(player) = frame.object_at(0) else {
         return Err(PrimFault::Fault(MufFault::BadType));
@@ -103,7 +103,7 @@ pub(crate) fn connected(guard: &Guard) -> Result<Made, PrimFault>
 
 /// What CONDBREF says of its argument: nobody has that place.
 pub(crate) fn outside(guard: &Guard, frame: &Frame) -> Option<MufFault>
-    ensures { result ≡ outside guard.now.actor (take 1 (flat frame.now).stack) (world_of guard.now) }
+    ensures { result ≡ place_outside guard.now.actor (take 1 (flat frame.now).stack) (world_of guard.now) }
 {
     let place = frame.int_at(0)?;
     if is_place(guard, place) {
@@ -128,7 +128,7 @@ pub(crate) fn connected_at(guard: &Guard, frame: &Frame) -> Result<Made, PrimFau
 
 // One connection is to leave, by leave for the highest level.
 fn leave(guard: &mut Guard, d: Option<u32>) -> Result<Made, PrimFault>
-    ensures { Makes (unless (fault_of (verdict (objects_of guard.old) guard.old.actor (Shared 4))) (booted_seat d (world_of guard.old))) guard.old guard.new result }
+    ensures { Makes (row_unless (fault_of_denial (verdict (objects_of guard.old) guard.old.actor (Shared 4))) (booted_seat d (world_of guard.old))) guard.old guard.new result }
 {
     let act = Act::Shared { level: 4 };
     match (verdict(guard.db(), &guard.actor(), &act), d) {
@@ -143,7 +143,7 @@ fn leave(guard: &mut Guard, d: Option<u32>) -> Result<Made, PrimFault>
 
 /// CONBOOT.
 pub(crate) fn boot(guard: &mut Guard, frame: &Frame) -> Result<Made, PrimFault>
-    ensures { Makes (booted guard.old.actor (take 1 (flat frame.now).stack) (world_of guard.old)) guard.old guard.new result }
+    ensures { Makes (connection_booted guard.old.actor (take 1 (flat frame.now).stack) (world_of guard.old)) guard.old guard.new result }
 {
     let Some(place) = frame.int_at(0) else {
         return Err(PrimFault::Fault(MufFault::BadType));

@@ -1,11 +1,11 @@
 // Every primitive of talk.
 ghost use Rattle.std.specs.Prelude.{◌≡◌, is_some, take, ℕ, Option};
 ghost use Rattle.muf_model.specs.declared.prims.Family.TheVariants.{Talk};
-ghost use Rattle.muf_model.specs.Prims.{family_of, is_there};
+ghost use Rattle.muf_model.specs.Prims.{family_of, is_usable};
 ghost use Rattle.muf_frame.specs.inner.Shown.{Shown, flat, locked_by};
 ghost use Rattle.muck_perm.specs.inner.Guards.{world_of};
 ghost use Rattle.spec_rights.specs.Licence.{Licensed, nobody};
-ghost use Rattle.spec_prims.specs.Shared.{shared, taken};
+ghost use Rattle.spec_prims.specs.Shared.{shared, items_taken};
 ghost use Rattle.spec_prims.specs.Talk.{talk_row};
 ghost use Rattle.prim_common.specs.inner.Applied.{Applied, Makes, OnAnswer, argued_of, does_of};
 
@@ -18,7 +18,7 @@ use prim_common::{Made, give, ready};
 // What a primitive says of its arguments, as they stand.
 #[tactic(auto, using(crate::proofs::Missing::no_rule))]
 fn argued(prim: Prim, guard: &Guard, frame: &Frame) -> Option<MufFault>
-    ensures { (descr : Option ℕ) → result ≡ argued_of (talk_row descr prim) guard.now.actor (take (taken prim (flat frame.now).stack) (flat frame.now).stack) (world_of guard.now) }
+    ensures { (descr : Option ℕ) → result ≡ argued_of (talk_row descr prim) guard.now.actor (take (items_taken prim (flat frame.now).stack) (flat frame.now).stack) (world_of guard.now) }
 {
     match prim {
         Prim::ConDbref | Prim::ConBoot => rows::outside(guard, frame),
@@ -29,7 +29,7 @@ fn argued(prim: Prim, guard: &Guard, frame: &Frame) -> Option<MufFault>
 // What a primitive makes of the items that it takes.
 #[tactic(auto, using(crate::proofs::Missing::no_row))]
 fn made(prim: Prim, descr: Option<u32>, guard: &mut Guard, frame: &Frame) -> Result<Made, PrimFault>
-    ensures { Makes (does_of (talk_row descr prim) guard.old.actor (take (taken prim (flat frame.now).stack) (flat frame.now).stack) (world_of guard.old)) guard.old guard.new result }
+    ensures { Makes (does_of (talk_row descr prim) guard.old.actor (take (items_taken prim (flat frame.now).stack) (flat frame.now).stack) (world_of guard.old)) guard.old guard.new result }
 {
     match prim {
         Prim::Notify => rows::notify(guard, frame),
@@ -58,7 +58,7 @@ pub fn apply(
     requires { family_of prim ≡ Talk }
     ensures row { Applied (shared prim guard.old.actor descr (locked_by (flat frame.old).marks) (flat frame.old).stack (world_of guard.old)) frame.old frame.new guard.old guard.new result }
     ensures licensed { OnAnswer result (Licensed guard.old.actor nobody (world_of guard.old) (world_of guard.new)) }
-    ensures there { is_there prim ≡ is_some (talk_row descr prim) }
+    ensures there { is_usable prim ≡ is_some (talk_row descr prim) }
 {
     let argued = argued(prim, guard, frame);
     let taken = ready(prim, argued, guard, frame)?;

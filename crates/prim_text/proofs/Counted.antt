@@ -1,19 +1,15 @@
 -- What digits write past a bound.
-use Rattle.std.proofs.Common.{◌≡◌, ℕ, suc, ◌+◌, ◌-◌, ◌*◌, ◌<◌, ◌≤◌, Bool, true, false, cond, List, length, drop, get_or, refl, sym, ap, ◌∙◌, arith}
+use Rattle.std.proofs.Common.{◌≡◌, ℕ, suc, ◌+◌, ◌-◌, ◌*◌, ◌<◌, ◌≤◌, true, cond, List, length, drop, get_or, refl, sym, ap, ◌∙◌, arith}
 use Rattle.std.specs.Prelude.{◌&&◌, nat_le}
 use Rattle.std.specs.List.{list_all}
 use Rattle.std.proofs.Math.Seq.{drop-cons}
-use Rattle.std.proofs.lemmas.Bool.{cond-false, lt-leb, le-leb}
+use Rattle.std.proofs.lemmas.Bool.{cond-false, lt-leb, le-leb, and_right}
 use Rattle.muck_model.specs.Decimal.{is_digit, value_from}
 use Rattle.muck_model.proofs.Decimals.{value_from-grows}
 use Rattle.muf_model.specs.Texts.{amount}
 
-not_both : (a b : Bool) → b ≡ false → (a && b) ≡ false
-not_both true b e = e
-not_both false b e = refl
-
 amount_over : (most n : ℕ) (bytes : List ℕ) → most < n → amount most n bytes ≡ 0
-amount_over most n bytes over = cond-false _ _ _ (not_both (list_all is_digit bytes) _ (lt-leb _ _ (omega (arith, over, value_from-grows n bytes))))
+amount_over most n bytes over = cond-false _ _ _ (and_right (list_all is_digit bytes) _ (lt-leb _ _ (omega (arith, over, value_from-grows n bytes))))
 
 digit_from : (b : ℕ) → 48 ≤ b → b ≤ 57 → is_digit b ≡ true
 digit_from b low high = rw (le-leb 48 b low, le-leb b 57 high) refl

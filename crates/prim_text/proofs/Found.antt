@@ -4,11 +4,11 @@ use Rattle.std.specs.Prelude.{IfSome}
 use Rattle.std.proofs.lemmas.Bool.{cases_Bool, cond-true, cond-false, false≢true, cases_eq}
 use Rattle.memchr.specs.Find.{OccursAt, IsFirst, IsLast, FindsNeedle, FindsLastNeedle}
 use Rattle.memchr.proofs.lemmas.MatchLemmas.{occurs_at-true, OccursAt-true}
-use Rattle.muf_model.specs.Texts.{stands_at, first_from, last_below, first_place, last_place}
+use Rattle.muf_model.specs.Texts.{text_stands_at, first_from, last_below, first_place, last_place}
 
 -- a place where t stands is none where it doesn't
-elsewhere : (t s : List ℕ) (j k : ℕ) → OccursAt s t j → stands_at t s k ≡ false → j ≡ k → ⊥
-elsewhere t s j k occurs e same = false≢true (sym e ∙ ap (stands_at t s) (sym same) ∙ occurs_at-true s t j occurs)
+elsewhere : (t s : List ℕ) (j k : ℕ) → OccursAt s t j → text_stands_at t s k ≡ false → j ≡ k → ⊥
+elsewhere t s j k occurs e same = false≢true (sym e ∙ ap (text_stands_at t s) (sym same) ∙ occurs_at-true s t j occurs)
 
 first_is : (t s : List ℕ) (n k : ℕ) (r : Option ℕ) → IsFirst (OccursAt s t) k (k + n) r → r ≡ first_from t s k n
 first_is t s zero k None h = refl
@@ -17,7 +17,7 @@ first_is t s (suc n) k None h =
     ⊎_elim
     (λ e. absurd (h k (omega arith) (omega arith) (OccursAt-true s t k e)))
     (λ e. first_is t s n (k + 1) None (λ q a b. h q (omega arith) (omega arith)) ∙ sym (cond-false _ _ _ e))
-    (cases_Bool (stands_at t s k))
+    (cases_Bool (text_stands_at t s k))
 first_is t s (suc n) k (Some j) h =
     let low = h.0.low in
     let high = h.0.high in
@@ -28,7 +28,7 @@ first_is t s (suc n) k (Some j) h =
     (λ e.
     let other : j ≡ k → ⊥ = elsewhere t s j k h.1 e in
     first_is t s n (k + 1) (Some j) (record { low = omega arith; high = omega arith; before = λ q a b. h.0.before q (omega arith) b }, h.1) ∙ sym (cond-false _ _ _ e))
-    (cases_Bool (stands_at t s k))
+    (cases_Bool (text_stands_at t s k))
 
 last_is : (t s : List ℕ) (n : ℕ) (r : Option ℕ) → IsLast (OccursAt s t) 0 n r → r ≡ last_below t s n
 last_is t s zero None h = refl
@@ -37,7 +37,7 @@ last_is t s (suc n) None h =
     ⊎_elim
     (λ e. absurd (h n (omega arith) (omega arith) (OccursAt-true s t n e)))
     (λ e. last_is t s n None (λ q a b. h q a (omega arith)) ∙ sym (cond-false _ _ _ e))
-    (cases_Bool (stands_at t s n))
+    (cases_Bool (text_stands_at t s n))
 last_is t s (suc n) (Some j) h =
     let high = h.0.high in
     ⊎_elim
@@ -47,7 +47,7 @@ last_is t s (suc n) (Some j) h =
     (λ e.
     let other : j ≡ n → ⊥ = elsewhere t s j n h.1 e in
     last_is t s n (Some j) (record { low = omega arith; high = omega arith; after = λ q a b. h.0.after q a (omega arith) }, h.1) ∙ sym (cond-false _ _ _ e))
-    (cases_Bool (stands_at t s n))
+    (cases_Bool (text_stands_at t s n))
 
 pub found_first : (t s : List ℕ) (r : Option ℕ) → FindsNeedle s t 0 r → r ≡ first_place t s
 unfolding first_place

@@ -8,20 +8,20 @@ use Rattle.std.specs.Int.Signed.{mag}
 use Rattle.std.proofs.lemmas.Bool.{cases_lt, lt-ltb, le-ltb}
 use Rattle.std.proofs.lemmas.List.{length-take, length-drop, take_all, drop_all}
 use Rattle.std.proofs.lemmas.List.Sums.{prefix_len-le-length}
-use Rattle.muck_model.specs.Bytes.{is_outside, fault_of, text_fault, text_most}
+use Rattle.muck_model.specs.Bytes.{is_outside, fault_of_bytes, text_fault, text_most}
 use Rattle.muf_model.proofs.FaultTexts.{is_inside, IsInside, inside-append, inside-cons, inside-first, inside-decimal, from_inside}
 
 pub to_inside : (xs : List ℕ) → text_fault xs ≡ None → IsInside xs
 to_inside xs h =
     elim (cases_lt (position_or_len is_outside xs) (length xs)) [
-      | inl inside ↦ absurd (let e : fault_of (cond true (Some (position_or_len is_outside xs)) None) (length xs) ≡ None = rw (lt-ltb (position_or_len is_outside xs) (length xs) inside) at h in cc)
+      | inl inside ↦ absurd (let e : fault_of_bytes (cond true (Some (position_or_len is_outside xs)) None) (length xs) ≡ None = rw (lt-ltb (position_or_len is_outside xs) (length xs) inside) at h in cc)
       | inr past ↦ omega (arith, past, prefix_len-le-length is_inside xs)
     ]
 
 short_text : (xs : List ℕ) → text_fault xs ≡ None → length xs ≤ text_most
 short_text xs h =
     let past : length xs ≤ position_or_len is_outside xs = omega (arith, to_inside xs h) in
-    let whole : fault_of None (length xs) ≡ None = rw (le-ltb (position_or_len is_outside xs) (length xs) past) at h in
+    let whole : fault_of_bytes None (length xs) ≡ None = rw (le-ltb (position_or_len is_outside xs) (length xs) past) at h in
     elim (cases_lt text_most (length xs)) [
       | inl over ↦ absurd (let e : Some text_most ≡ None = rw (lt-ltb text_most (length xs) over) at whole in cc)
       | inr le ↦ le

@@ -1,8 +1,8 @@
 // What a primitive of texts makes, and how that takes the place of what it took.
 ghost use Rattle.std.specs.Prelude.{◌≡◌, ◌≤◌, ◌+◌, ◌++◌, None, length, drop, map, IfOk};
 ghost use Rattle.muck_model.specs.Bytes.{text_fault};
-ghost use Rattle.muf_model.specs.Answer.{put, makes};
-ghost use Rattle.muf_model.specs.TextRows.{sized, number, two_parts};
+ghost use Rattle.muf_model.specs.Answer.{items_put, makes};
+ghost use Rattle.muf_model.specs.TextRows.{text_within, number, two_parts};
 ghost use Rattle.muf_model.specs.inner.View.{view};
 ghost use Rattle.muf_model.specs.Datum.{text};
 ghost use Rattle.muf_frame.specs.inner.Shown.{Shown, flat};
@@ -34,7 +34,7 @@ pub fn number(i: i32) -> Made
 #[tactic(auto, using(crate::proofs::Making::making_steps))]
 pub fn sized(alloc: Global, bytes: Vec<u8>) -> Result<Made, PrimFault>
     requires { IsInside bytes.items }
-    ensures { Makes (sized bytes.items) result }
+    ensures { Makes (text_within bytes.items) result }
 {
     if bytes.len() > TEXT_MOST {
         return Err(PrimFault::Fault(MufFault::TextTooLong));
@@ -81,7 +81,7 @@ fn push_all(frame: &mut Frame, items: Vec<Value>)
 #[tactic(auto, using(crate::proofs::Making::giving_steps))]
 fn give_all(frame: &mut Frame, taken: usize, items: Vec<Value>) -> Result<(), MufFault>
     requires { taken ≤ length frame.old.stack }
-    ensures { Answered (put taken (makes (map view items.items)) (drop taken (flat frame.old).stack)) frame.old frame.new result }
+    ensures { Answered (items_put taken (makes (map view items.items)) (drop taken (flat frame.old).stack)) frame.old frame.new result }
 {
     if items.len() > STACK_MOST - (frame.len() - taken) {
         return Err(MufFault::StackFull);
@@ -94,7 +94,7 @@ fn give_all(frame: &mut Frame, taken: usize, items: Vec<Value>) -> Result<(), Mu
 /// So many items at the top, which are there, give way to what is made.
 pub fn give(frame: &mut Frame, taken: usize, made: Made) -> Result<(), PrimFault>
     requires { taken ≤ length frame.old.stack }
-    ensures { AppliedOr (put taken (made_of made) (drop taken (flat frame.old).stack)) frame.old frame.new result }
+    ensures { AppliedOr (items_put taken (made_of made) (drop taken (flat frame.old).stack)) frame.old frame.new result }
 {
     match made {
         Made::One(item) => Ok(frame.give(taken, item)?),

@@ -1,6 +1,6 @@
 // What texts write, how they differ, and where their spaces end.
 ghost use Rattle.std.specs.Prelude.{◌≡◌, ◌≤◌, ◌<◌, ◌^◌, length, pos, get_or};
-ghost use Rattle.muf_model.specs.Texts.{difference, amount, number_in, first_byte, lead_stripped, tail_stripped};
+ghost use Rattle.muf_model.specs.Texts.{difference, amount, number_in_text, first_byte, lead_stripped, tail_stripped};
 
 // The byte at a place, or 0 behind the last one.
 fn byte_at(bytes: &[u8], at: usize) -> i32
@@ -45,7 +45,7 @@ fn amount(bytes: &[u8], most: u64) -> u64
 
 /// The number that a whole text writes, an optional `-` and digits, in 32 bits; else 0.
 pub(crate) fn number_in(bytes: &[u8]) -> i32
-    ensures { result ≡ number_in bytes.now }
+    ensures { result ≡ number_in_text bytes.now }
 {
     match bytes.split_first() {
         Some((b'-', digits)) => (0 - amount(digits, 1 << 31) as i64) as i32,

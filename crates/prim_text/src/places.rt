@@ -1,9 +1,9 @@
 // Where a text stands in another.
 ghost use Rattle.std.specs.Prelude.{◌≡◌, ◌≤◌, ◌<◌, ◌+◌, ◌++◌, ◌∷◌, [], None, length, map, take, drop, IfOk, OnOk, IfSome, IsTrue};
 ghost use Rattle.muck_model.specs.Bytes.{text_fault};
-ghost use Rattle.muf_model.specs.Texts.{first_place, last_place, pieces, joined};
+ghost use Rattle.muf_model.specs.Texts.{first_place, last_place, text_pieces, texts_joined};
 ghost use Rattle.muf_model.specs.Datum.{text};
-ghost use Rattle.muf_model.specs.TextRows.{sized};
+ghost use Rattle.muf_model.specs.TextRows.{text_within};
 ghost use Rattle.muf_model.specs.inner.View.{view};
 ghost use Rattle.muf_model.proofs.FaultTexts.{IsInside};
 
@@ -58,7 +58,7 @@ fn push_piece(alloc: Global, items: &mut Vec<Value>, piece: &[u8]) -> Result<(),
 pub(crate) fn pieces(alloc: Global, sought: &[u8], bytes: &[u8]) -> Result<Vec<Value>, NoMemory>
     requires some { 0 < length sought.now }
     requires text { text_fault bytes.now ≡ None }
-    ensures value { IfOk result (λ items. map view items.items ≡ map text (pieces sought.now bytes.now)) }
+    ensures value { IfOk result (λ items. map view items.items ≡ map text (text_pieces sought.now bytes.now)) }
     ensures most { IfOk result (λ items. length items.items ≤ length bytes.now + 1) }
 {
     let mut items = Vec::new(alloc);
@@ -75,7 +75,7 @@ pub(crate) fn pieces(alloc: Global, sought: &[u8], bytes: &[u8]) -> Result<Vec<V
 /// Whether more than so many pieces stand between the texts that are sought.
 pub(crate) fn has_more_pieces(sought: &[u8], bytes: &[u8], most: usize) -> bool
     requires { 0 < length sought.now }
-    ensures { IsTrue result → most < length (pieces sought.now bytes.now) }
+    ensures { IsTrue result → most < length (text_pieces sought.now bytes.now) }
 {
     let mut count = 0;
     let mut rest = bytes;
@@ -110,7 +110,7 @@ pub(crate) fn substituted(
     requires some { 0 < length sought.now }
     requires text { text_fault bytes.now ≡ None }
     requires other { text_fault other.now ≡ None }
-    ensures value { IfOk result (λ made. sized made.items ≡ sized (joined other.now (pieces sought.now bytes.now))) }
+    ensures value { IfOk result (λ made. text_within made.items ≡ text_within (texts_joined other.now (text_pieces sought.now bytes.now))) }
     ensures inside { IfOk result (λ made. IsInside made.items) }
 {
     let mut made = Vec::new(alloc);

@@ -4,7 +4,7 @@ ghost use Rattle.std.specs.Char.{to_ascii_uppercase};
 ghost use Rattle.std.specs.Fmt.{signed_decimal};
 ghost use Rattle.muck_model.specs.Bytes.{text_fault, text_most};
 ghost use Rattle.muf_model.proofs.FaultTexts.{IsInside};
-ghost use Rattle.muf_model.specs.Texts.{pieces, one_byte};
+ghost use Rattle.muf_model.specs.Texts.{text_pieces, one_byte};
 ghost use Rattle.muf_model.specs.TextRows as row;
 ghost use Rattle.prim_text.specs.inner.Made.{Makes, made_of, sought_in};
 
@@ -88,7 +88,7 @@ fn exploded(alloc: Global, bytes: &[u8], sought: &[u8]) -> Result<Made, NoMemory
     requires some { 0 < length sought.now }
     requires short { length bytes.now ≤ text_most }
     requires text { text_fault bytes.now ≡ None }
-    ensures { IfOk result (λ made. row.counted_texts (pieces sought.now bytes.now) ≡ made_of made) }
+    ensures { IfOk result (λ made. row.counted_texts (text_pieces sought.now bytes.now) ≡ made_of made) }
 {
     let mut items = pieces(alloc, sought, bytes)?;
     let count = Value::Int(items.len() as i32);
@@ -212,7 +212,7 @@ fn behind(bytes: &[u8], count: usize) -> &[u8]
 #[tactic(auto, using(crate::proofs::Texts::part_steps))]
 pub(crate) fn cut_behind(alloc: Global, bytes: &[u8], count: i32) -> Result<Made, PrimFault>
     requires { text_fault bytes.now ≡ None }
-    ensures { Makes (row.cut_behind bytes.now count) result }
+    ensures { Makes (row.text_cut_behind bytes.now count) result }
 {
     if count < 0 {
         return Err(PrimFault::Fault(MufFault::BadArgument));
@@ -236,7 +236,7 @@ pub(crate) fn first_compared(first: &[u8], second: &[u8], count: i32) -> Result<
 #[tactic(auto, using(crate::proofs::Texts::row_steps))]
 pub(crate) fn middle(alloc: Global, bytes: &[u8], place: i32, count: i32) -> Result<Made, PrimFault>
     requires { text_fault bytes.now ≡ None }
-    ensures { Makes (row.middle bytes.now place count) result }
+    ensures { Makes (row.text_middle bytes.now place count) result }
 {
     if place < 1 || count < 0 {
         return Err(PrimFault::Fault(MufFault::BadArgument));

@@ -1,8 +1,8 @@
 // The shapes of the primitives of texts: what each takes, and that its answer takes its place.
 ghost use Rattle.std.specs.Prelude.{◌≡◌, ◌≤◌, ◌∷◌, [], drop, length, IsTrue};
-ghost use Rattle.muf_model.specs.Answer.{put, refuses};
+ghost use Rattle.muf_model.specs.Answer.{items_put, refuses};
 ghost use Rattle.muf_model.specs.declared.fault.MufFault.TheVariants.{StackFull};
-ghost use Rattle.muf_model.specs.Needs.{takes, a_text, an_int, int_or_object};
+ghost use Rattle.muf_model.specs.Needs.{takes_items, a_text, an_int, int_or_object};
 ghost use Rattle.muf_model.specs.TextRows as row;
 ghost use Rattle.muf_model.specs.declared.prims.Primitive.TheVariants.{StrNCmp, StrCut, MidStr, Subst, IntToStr, IntToChar};
 ghost use Rattle.muf_frame.specs.inner.Shown.{Shown, flat};
@@ -19,7 +19,7 @@ use std::alloc::Global;
 /// The primitives of one text.
 #[tactic(auto, using(crate::proofs::Reading::text_steps))]
 pub(crate) fn one_text(alloc: Global, prim: Prim, frame: &mut Frame) -> Result<(), PrimFault>
-    ensures { UsedOr prim (takes (a_text ∷ [])) (row.one_text (row.of_text prim)) frame.old frame.new result }
+    ensures { UsedOr prim (takes_items (a_text ∷ [])) (row.one_text (row.of_text prim)) frame.old frame.new result }
 {
     frame.need(1)?;
     match frame.text_at(0) {
@@ -34,7 +34,7 @@ pub(crate) fn one_text(alloc: Global, prim: Prim, frame: &mut Frame) -> Result<(
 /// The primitives of two texts, the second one on the top.
 #[tactic(auto, using(crate::proofs::Reading::text_steps))]
 pub(crate) fn two_texts(alloc: Global, prim: Prim, frame: &mut Frame) -> Result<(), PrimFault>
-    ensures { UsedOr prim (takes (a_text ∷ a_text ∷ [])) (row.two_texts (row.of_texts prim)) frame.old frame.new result }
+    ensures { UsedOr prim (takes_items (a_text ∷ a_text ∷ [])) (row.two_texts (row.of_texts prim)) frame.old frame.new result }
 {
     frame.need(2)?;
     match (frame.text_at(0), frame.text_at(1)) {
@@ -49,7 +49,7 @@ pub(crate) fn two_texts(alloc: Global, prim: Prim, frame: &mut Frame) -> Result<
 // Whether EXPLODE would put more pieces on the stack than that has room for.
 fn overflows(prim: Prim, frame: &Frame, bytes: &[u8], sought: &[u8]) -> bool
     requires { 2 ≤ length frame.now.stack }
-    ensures { IsTrue result → put 2 (sought_in prim bytes.now sought.now) (drop 2 (flat frame.now).stack) ≡ refuses StackFull }
+    ensures { IsTrue result → items_put 2 (sought_in prim bytes.now sought.now) (drop 2 (flat frame.now).stack) ≡ refuses StackFull }
 {
     if sought.is_empty() {
         return false;
@@ -63,7 +63,7 @@ fn overflows(prim: Prim, frame: &Frame, bytes: &[u8], sought: &[u8]) -> bool
 /// The primitives that seek a text, which is on the top, in another one.
 #[tactic(auto, using(crate::proofs::Reading::text_steps))]
 pub(crate) fn sought(alloc: Global, prim: Prim, frame: &mut Frame) -> Result<(), PrimFault>
-    ensures { UsedOr prim (takes (a_text ∷ a_text ∷ [])) (row.two_texts (sought_in prim)) frame.old frame.new result }
+    ensures { UsedOr prim (takes_items (a_text ∷ a_text ∷ [])) (row.two_texts (sought_in prim)) frame.old frame.new result }
 {
     frame.need(2)?;
     match (frame.text_at(0), frame.text_at(1)) {
@@ -81,7 +81,7 @@ pub(crate) fn sought(alloc: Global, prim: Prim, frame: &mut Frame) -> Result<(),
 /// SUBST.
 #[tactic(auto, using(crate::proofs::Reading::text_steps))]
 pub(crate) fn subst(alloc: Global, frame: &mut Frame) -> Result<(), PrimFault>
-    ensures { UsedOr Subst (takes (a_text ∷ a_text ∷ a_text ∷ [])) (row.three_texts row.subst) frame.old frame.new result }
+    ensures { UsedOr Subst (takes_items (a_text ∷ a_text ∷ a_text ∷ [])) (row.three_texts row.subst) frame.old frame.new result }
 {
     frame.need(3)?;
     match (frame.text_at(0), frame.text_at(1), frame.text_at(2)) {
@@ -96,7 +96,7 @@ pub(crate) fn subst(alloc: Global, frame: &mut Frame) -> Result<(), PrimFault>
 /// STRNCMP.
 #[tactic(auto, using(crate::proofs::Reading::text_steps))]
 pub(crate) fn first_compared(frame: &mut Frame) -> Result<(), PrimFault>
-    ensures { UsedOr StrNCmp (takes (an_int ∷ a_text ∷ a_text ∷ [])) (row.texts_and_int row.first_compared) frame.old frame.new result }
+    ensures { UsedOr StrNCmp (takes_items (an_int ∷ a_text ∷ a_text ∷ [])) (row.texts_and_int row.first_compared) frame.old frame.new result }
 {
     frame.need(3)?;
     match (frame.int_at(0), frame.text_at(1), frame.text_at(2)) {
@@ -111,7 +111,7 @@ pub(crate) fn first_compared(frame: &mut Frame) -> Result<(), PrimFault>
 /// STRCUT.
 #[tactic(auto, using(crate::proofs::Reading::text_steps))]
 pub(crate) fn cut_behind(alloc: Global, frame: &mut Frame) -> Result<(), PrimFault>
-    ensures { UsedOr StrCut (takes (an_int ∷ a_text ∷ [])) (row.text_and_int row.cut_behind) frame.old frame.new result }
+    ensures { UsedOr StrCut (takes_items (an_int ∷ a_text ∷ [])) (row.text_and_int row.text_cut_behind) frame.old frame.new result }
 {
     frame.need(2)?;
     match (frame.int_at(0), frame.text_at(1)) {
@@ -126,7 +126,7 @@ pub(crate) fn cut_behind(alloc: Global, frame: &mut Frame) -> Result<(), PrimFau
 /// MIDSTR.
 #[tactic(auto, using(crate::proofs::Reading::text_steps))]
 pub(crate) fn middle(alloc: Global, frame: &mut Frame) -> Result<(), PrimFault>
-    ensures { UsedOr MidStr (takes (an_int ∷ an_int ∷ a_text ∷ [])) (row.text_and_ints row.middle) frame.old frame.new result }
+    ensures { UsedOr MidStr (takes_items (an_int ∷ an_int ∷ a_text ∷ [])) (row.text_and_ints row.text_middle) frame.old frame.new result }
 {
     frame.need(3)?;
     match (frame.int_at(0), frame.int_at(1), frame.text_at(2)) {
@@ -155,7 +155,7 @@ fn number_at_top(frame: &Frame) -> Option<i32>
 /// INTOSTR.
 #[tactic(auto, using(crate::proofs::Reading::text_steps))]
 pub(crate) fn in_decimal(alloc: Global, frame: &mut Frame) -> Result<(), PrimFault>
-    ensures { UsedOr IntToStr (takes (int_or_object ∷ [])) (row.one_number row.in_decimal) frame.old frame.new result }
+    ensures { UsedOr IntToStr (takes_items (int_or_object ∷ [])) (row.one_number row.in_decimal) frame.old frame.new result }
 {
     frame.need(1)?;
     match number_at_top(frame) {
@@ -170,7 +170,7 @@ pub(crate) fn in_decimal(alloc: Global, frame: &mut Frame) -> Result<(), PrimFau
 /// ITOC.
 #[tactic(auto, using(crate::proofs::Reading::text_steps))]
 pub(crate) fn character(alloc: Global, frame: &mut Frame) -> Result<(), PrimFault>
-    ensures { UsedOr IntToChar (takes (an_int ∷ [])) (row.one_integer row.character) frame.old frame.new result }
+    ensures { UsedOr IntToChar (takes_items (an_int ∷ [])) (row.one_integer row.character) frame.old frame.new result }
 {
     frame.need(1)?;
     match frame.int_at(0) {

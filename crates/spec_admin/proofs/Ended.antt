@@ -9,17 +9,17 @@ use Rattle.muck_model.specs.Decimal.{decimal_of}
 use Rattle.spec_live.specs.Lives.{Live, reading, either, where_so, tell}
 use Rattle.spec_rights.specs.declared.act.Actor.{Actor}
 use Rattle.spec_rights.specs.Verdict.{verdict}
-use Rattle.spec_rights.specs.Asking.{answered, asked, denied_text, refused}
+use Rattle.spec_rights.specs.Asking.{denial_answered, asked, denied_text, refused}
 use Rattle.spec_commands.specs.Texts.{first_word, other_words, trimmed}
 use Rattle.spec_commands.specs.Replies.{usage}
 use Rattle.spec_commands.specs.Going.{ended}
-use Rattle.spec_commands.specs.Reading.{looked_up, incomplete, with_fit, with_parts, with_arguments, by_command, by_table}
+use Rattle.spec_commands.specs.Reading.{looked_up, incomplete, with_fit, with_parts, with_arguments, with_command_word, by_table}
 use Rattle.muck_queue.specs.declared.process.Process.{Process}
 use Rattle.muck_queue.specs.Queues.{Queue, has_pid, process}
 use Rattle.spec_admin.specs.declared.word.AdminWord.{AdminWord}
 use Rattle.spec_admin.specs.declared.word.AdminWord.TheVariants.{Kill}
-use Rattle.spec_admin.specs.Replies.{killed_reply, no_process}
-use Rattle.spec_admin.specs.Processes.{ending, may_end, process_meant, end_told, kill_told, killed}
+use Rattle.spec_admin.specs.Replies.{killed_reply, no_process_reply}
+use Rattle.spec_admin.specs.Processes.{ending_act, may_end, process_meant, end_told, kill_told, process_killed}
 use Rattle.spec_admin.specs.Lines.{admin_words, admin_shape, admin_done, admin_line, ended_by, line_ends}
 
 -- a process that is found by a number has it
@@ -40,7 +40,7 @@ meant_there text q p = at (decimal_of 2147483647 text)
     at (Some n) e = ap (λ pid. process pid q) (found_numbered (pos n) q.processes p e) ∙ e
 
 -- what ends is meant, and may be ended
-killed_meant : (a : Actor) (q : Queue) (text : List ℕ) (w : Live) (p : Process) → killed a q text w ≡ Some p → (may_end a w p ≡ true) × (process_meant text q ≡ Some p)
+killed_meant : (a : Actor) (q : Queue) (text : List ℕ) (w : Live) (p : Process) → process_killed a q text w ≡ Some p → (may_end a w p ≡ true) × (process_meant text q ≡ Some p)
 killed_meant a q text w p = at (process_meant text q)
   where
     here : (r : Process) (b : Bool) → may_end a w r ≡ b → cond b (Some r) None ≡ Some p → (may_end a w p ≡ true) × (Some r ≡ Some p)
@@ -74,8 +74,8 @@ second [] = 0
 second (b ∷ []) = 0
 second (b ∷ c ∷ text) = c
 
-other_none : no_process ≡ killed_reply → ⊥
-unfolding no_process killed_reply
+other_none : no_process_reply ≡ killed_reply → ⊥
+unfolding no_process_reply killed_reply
 other_none e = let differ : 111 ≡ 114 = ap second e in omega (arith, differ)
 
 other_denied : (denial : Denial) → denied_text denial ≡ killed_reply → ⊥
@@ -86,17 +86,17 @@ other_usage : (word : List ℕ) → usage word ≡ killed_reply → ⊥
 unfolding usage killed_reply
 other_usage word e = let differ : 115 ≡ 114 = ap second e in omega (arith, differ)
 
-kill_tells : (d : ℕ) (a : Actor) (q : Queue) (text : List ℕ) (w : Live) → TellsKilled d w (kill_told d a q text w) (killed a q text w)
+kill_tells : (d : ℕ) (a : Actor) (q : Queue) (text : List ℕ) (w : Live) → TellsKilled d w (kill_told d a q text w) (process_killed a q text w)
 unfolding kill_told asked refused
 kill_tells d a q text w = at (process_meant text q)
   where
-    judged : (p : Process) (v : Option Denial) → TellsKilled d w (answered v (refused d) (tell d killed_reply) w) (cond (is_none v) (Some p) None)
+    judged : (p : Process) (v : Option Denial) → TellsKilled d w (denial_answered v (refused d) (tell d killed_reply) w) (cond (is_none v) (Some p) None)
     judged p None = refl
     judged p (Some denial) = (denied_text denial, other_denied denial, refl)
 
     at : (m : Option Process) → TellsKilled d w (end_told d a m w) (option_and_then (λ p. cond (may_end a w p) (Some p) None) m)
-    at None = (no_process, other_none, refl)
-    at (Some p) = judged p (verdict w.objects a (ending p))
+    at None = (no_process_reply, other_none, refl)
+    at (Some p) = judged p (verdict w.objects a (ending_act p))
 
 -- what `@kill` tells by what is typed behind it
 
@@ -112,12 +112,12 @@ none_meant : (q : Queue) → process_meant [] q ≡ None
 unfolding decimal_of
 none_meant q = refl
 
-kill_typed : (d : ℕ) (a : Actor) (q : Queue) (word text : List ℕ) (w : Live) → TellsKilled d w (with_arguments d a word (admin_shape Kill) text (admin_done q d a Kill) w).0 (killed a q text w)
+kill_typed : (d : ℕ) (a : Actor) (q : Queue) (word text : List ℕ) (w : Live) → TellsKilled d w (with_arguments d a word (admin_shape Kill) text (admin_done q d a Kill) w).0 (process_killed a q text w)
 kill_typed d a q word [] w =
     let P : Option Process → Type 0 = λ m. TellsKilled d w (with_arguments d a word (admin_shape Kill) [] (admin_done q d a Kill) w).0 (option_and_then (λ p. cond (may_end a w p) (Some p) None) m) in
     subst P (sym (none_meant q)) (usage (map to_ascii_lowercase word), other_usage (map to_ascii_lowercase word), kill_missing d a q word w)
 kill_typed d a q word (b ∷ text) w =
-    let P : Live → Type 0 = λ v. TellsKilled d w v (killed a q (b ∷ text) w) in
+    let P : Live → Type 0 = λ v. TellsKilled d w v (process_killed a q (b ∷ text) w) in
     subst P (sym (kill_given d a q word b text w)) (kill_tells d a q (b ∷ text) w)
 
 -- `@kill` tells that a process was killed exactly where the line ends one
@@ -131,6 +131,6 @@ kill_line_tells d a q line w = at (looked_up admin_words (first_word (trimmed li
     text : List ℕ
     text = trimmed (other_words (trimmed line))
 
-    at : (command : Option AdminWord) → command ≡ Some Kill → TellsKilled d w (by_command admin_shape (admin_done q d a) d a word text command w).0 (ended_by a q text w command)
+    at : (command : Option AdminWord) → command ≡ Some Kill → TellsKilled d w (with_command_word admin_shape (admin_done q d a) d a word text command w).0 (ended_by a q text w command)
     at (Some Kill) e = kill_typed d a q word text w
     at command e = absurd (cc)

@@ -10,7 +10,7 @@ use Rattle.spec_rights.specs.declared.act.Actor.{Actor}
 use Rattle.spec_rights.specs.declared.act.Act.TheVariants.{Wizard, Password}
 use Rattle.spec_rights.specs.Verdict.{is_master}
 use Rattle.spec_rights.specs.Asking.{refused}
-use Rattle.spec_rights.specs.Changing.{booted}
+use Rattle.spec_rights.specs.Changing.{connections_left}
 use Rattle.spec_rights.specs.Licence.{Freedom, Judge, nobody}
 use Rattle.spec_rights.proofs.Licences.{Quiet, Stays, Ends, Whole, Always, itself, judge, quiet_order, stays_behind, ends_quiet, ends_stays, ends_quietly, ends_asked, whole_quiet, keeps_asked}
 use Rattle.spec_rights.proofs.Shown.{shown, quiet_tell, quiet_draw, quiet_refused}
@@ -21,10 +21,10 @@ use Rattle.spec_commands.specs.declared.outcome.Outcome.{Outcome}
 use Rattle.spec_commands.specs.declared.outcome.Outcome.TheVariants.{Done, NotMine}
 use Rattle.spec_commands.specs.declared.shape.Arguments.{Arguments}
 use Rattle.spec_commands.specs.Texts.{first_word, other_words, trimmed}
-use Rattle.spec_commands.specs.Building.{created_shown, written, done_where}
+use Rattle.spec_commands.specs.Building.{created_shown, change_by_leave, done_where}
 use Rattle.spec_commands.specs.Going.{Play, ended}
 use Rattle.spec_commands.specs.Programming.{over_denied}
-use Rattle.spec_commands.specs.Reading.{looked_up, incomplete, by_command, by_table}
+use Rattle.spec_commands.specs.Reading.{looked_up, incomplete, with_command_word, by_table}
 use Rattle.spec_commands.proofs.Showing.{quiet_each}
 use Rattle.spec_commands.proofs.Built.{quiet_created_shown, player_founded}
 use Rattle.spec_commands.proofs.Gone.{world_of, ends_ended}
@@ -33,7 +33,7 @@ use Rattle.spec_commands.proofs.Lawful.{Lawful, lawful_with, open_quiet, open_en
 use Rattle.spec_commands.proofs.Permitted.{Leading, leading_found}
 use Rattle.muck_queue.specs.declared.process.Process.{Process}
 use Rattle.muck_queue.specs.Queues.{Queue}
-use Rattle.spec_admin.specs.declared.word.Parameter.{Parameter}
+use Rattle.muck_model.specs.declared.tune.Parameter.{Parameter}
 use Rattle.spec_admin.specs.declared.word.AdminWord.{AdminWord}
 use Rattle.spec_admin.specs.declared.word.AdminWord.TheVariants.{Processes, Kill, Tune as TuneWord, Boot, NewPlayer, NewPassword}
 use Rattle.spec_admin.specs.Replies.{killed_reply, booted_reply, password_reply}
@@ -62,9 +62,9 @@ quiet_kill_told d a q text = at (process_meant text q)
 
 -- And so does what is told of the parameters. Who sets one leaves that to what follows.
 
-quiet_parameter_shown : (d : ℕ) (tune : Tune) (row : List ℕ × Parameter) → Quiet (parameter_shown d tune row)
+quiet_parameter_shown : (d : ℕ) (tune : Tune) (p : Parameter) → Quiet (parameter_shown d tune p)
 unfolding parameter_shown
-quiet_parameter_shown d tune row = quiet_tell d _
+quiet_parameter_shown d tune p = quiet_tell d _
 
 quiet_parameters_shown : (d : ℕ) → Quiet (parameters_shown d)
 unfolding parameters_shown
@@ -92,7 +92,7 @@ unfolding player_booted
 booted_open a free d x =
     ends_asked world_of a free None Wizard (over_denied d) _
     (λ denial. ends_ended a free None Done _ (ends_quiet a free None _ (quiet_refused d denial)))
-    (ends_ended a free (Some Wizard) Done _ (ends_quietly a free (Some Wizard) (booted x) (tell d booted_reply) (ends_stays a free (Some Wizard) (booted x) (stays_booted a free x)) (quiet_tell d booted_reply)))
+    (ends_ended a free (Some Wizard) Done _ (ends_quietly a free (Some Wizard) (connections_left x) (tell d booted_reply) (ends_stays a free (Some Wizard) (connections_left x) (stays_booted a free x)) (quiet_tell d booted_reply)))
 
 -- Players.
 
@@ -124,7 +124,7 @@ stays_drawn a free x word =
     (keeps_reading _ _ (λ second. stays_behind a free (Some (Password x)) draw _ quiet_draw (stays_password a free x _ word))))
 
 password_changed_open : (a : Actor) (free : Freedom) (d : ℕ) (x : Dbref) (word : List ℕ) → Ends itself a free None (password_changed d a x word)
-unfolding password_changed written done_where
+unfolding password_changed change_by_leave done_where
 password_changed_open a free d x word =
     let given = Some (Password x) in
     keeps_either _ _ _
@@ -162,7 +162,7 @@ pub admin_left : (q : Queue) (d : ℕ) (a : Actor) (line : List ℕ) (w : Live) 
 unfolding admin_line by_table ended unchanged
 admin_left q d a line w = at (looked_up admin_words (first_word (trimmed line)))
   where
-    at : (command : Option AdminWord) → command ≡ None → by_command admin_shape (admin_done q d a) d a (first_word (trimmed line)) (trimmed (other_words (trimmed line))) command w ≡ (w, NotMine)
+    at : (command : Option AdminWord) → command ≡ None → with_command_word admin_shape (admin_done q d a) d a (first_word (trimmed line)) (trimmed (other_words (trimmed line))) command w ≡ (w, NotMine)
     at None e = refl
     at (Some command) e = absurd (cc)
 
@@ -170,7 +170,7 @@ pub admin_mine : (q : Queue) (d : ℕ) (a : Actor) (line : List ℕ) (w : Live) 
 unfolding admin_line by_table
 admin_mine q d a line w = at (looked_up admin_words (first_word (trimmed line)))
   where
-    at : (command : Option AdminWord) → (by_command admin_shape (admin_done q d a) d a (first_word (trimmed line)) (trimmed (other_words (trimmed line))) command w).1 ≡ NotMine → command ≡ None
+    at : (command : Option AdminWord) → (with_command_word admin_shape (admin_done q d a) d a (first_word (trimmed line)) (trimmed (other_words (trimmed line))) command w).1 ≡ NotMine → command ≡ None
     at None e = refl
     at (Some command) e = absurd (subst (λ (outcome : Outcome). After (AsFollows a w) outcome) e
         ((lawful_with a None (λ es. nobody) d _ (admin_shape command) _ (admin_done q d a command) (admin_lawful a None (λ es. nobody) q d command)).follows.law w))

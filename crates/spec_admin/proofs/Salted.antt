@@ -1,8 +1,9 @@
 -- The player that is made has its password, and where none is made nothing is drawn.
-use Rattle.std.proofs.Common.{◌≡◌, ◌⊎◌, ◌<◌, ℕ, zero, suc, true, cond, List, ◌++◌, take, refl, ◌∙◌, ap, Option, Some, None, inl, inr, Result, Ok, Err, arith}
+use Rattle.std.proofs.Common.{◌≡◌, ◌⊎◌, ℕ, zero, suc, true, cond, List, ◌++◌, take, refl, ◌∙◌, ap, Option, Some, None, inl, inr, Result, Ok, Err, arith}
 use Rattle.std.specs.Option.{option_map, option_and_then, option_map_or}
-use Rattle.std.specs.Int.{byte_at, bytes_high_first}
+use Rattle.std.specs.Int.{bytes_high_first}
 use Rattle.std.proofs.lemmas.Slice.Eq.{bytes_eq-Decides}
+use Rattle.muck_laws.proofs.Texts.{byte_small}
 use Rattle.hex.specs.Hex.{IsBytes, encode_with, encode_lower, decode_of}
 use Rattle.hex.proofs.HexLemmas.{decode_of-encode_lower}
 use Rattle.muck_model.specs.declared.dbref.Dbref.{Dbref}
@@ -13,10 +14,10 @@ use Rattle.spec_live.specs.declared.object.Object.{Object}
 use Rattle.spec_live.specs.Password.{digest_of, salt_bytes, is_salted, is_digest_of}
 use Rattle.spec_live.specs.Objects.{Entry, dbref_of, is_garbage, object_in, number_in, object_at, changed_at, with_object}
 use Rattle.spec_live.specs.Moving.{with_place}
-use Rattle.spec_live.specs.Making.{grown, new_object, created, create_check}
+use Rattle.spec_live.specs.Making.{objects_grown, new_object, created, create_check}
 use Rattle.spec_live.specs.Setting.{set_at, with_password}
 use Rattle.spec_live.specs.Boards.{told_one, random_drawn}
-use Rattle.spec_live.specs.Lives.{Live, Change, ◌▸◌, followed, reading, tell, draw, random_word}
+use Rattle.spec_live.specs.Lives.{Live, Change, ◌▸◌, change_followed, reading, tell, draw, random_word}
 use Rattle.spec_live.proofs.Keeping.{Keeps, keeps_either, keeps_where}
 use Rattle.spec_live.proofs.Readers.{object_named, object_moved, object_changed, kind_is}
 use Rattle.spec_live.proofs.CreationLaws.{may_create, grown_long}
@@ -30,10 +31,6 @@ use Rattle.spec_commands.specs.Building.{made_at, created_shown}
 use Rattle.spec_admin.specs.Players.{salt_of, password_drawn, player_put, player_made}
 
 -- A digest is the one of its word.
-
-byte_small : (k n : ℕ) → byte_at k n < 256
-byte_small zero n = omega arith
-byte_small (suc k) n = omega arith
 
 high_bytes : (k n : ℕ) → IsBytes (bytes_high_first k n)
 high_bytes zero n i = omega arith
@@ -62,8 +59,8 @@ unfolding created
 made_there name owner place es p e =
     let n : ℕ = p.0 in
     let o : Object = new_object n Player name owner in
-    object_moved (changed_at n (with_object o) (grown n es)) n p.1
-    ∙ ap (λ q. option_map (with_place p.1) q) (object_named n o (grown n es) (grown_long es n (may_create Player owner place es p e).free).0)
+    object_moved (changed_at n (with_object o) (objects_grown n es)) n p.1
+    ∙ ap (λ q. option_map (with_place p.1) q) (object_named n o (objects_grown n es) (grown_long es n (may_create Player owner place es p e).free).0)
 
 -- an object that is there and isn't garbage has its number
 number_there : (es : List Entry) (n : ℕ) (o : Object) → object_in es n ≡ Some o → o.kind ≡ Player → number_in es (dbref_of n) ≡ Some n
@@ -106,7 +103,7 @@ abbrev Put : ℕ → Actor → List ℕ → List ℕ → ℕ → ℕ → Change
 Put d a name word n to = created_so n Player name a.user to (λ o. o) ▸ password_drawn (dbref_of n) word ▸ created_shown d n
 
 put_worded : (d : ℕ) (a : Actor) (name word : List ℕ) (w : Live) (p : ℕ × ℕ) → create_check Player a.user (dbref_of 0) w.objects ≡ Ok p → HasWord p.0 name word (Put d a name word p.0 p.1 w)
-unfolding followed reading created_so password_drawn password_kept created_shown draw random_drawn tell told_one new_object
+unfolding change_followed reading created_so password_drawn password_kept created_shown draw random_drawn tell told_one new_object
 put_worded d a name word w p e =
     let es : List Entry = created p.0 Player name a.user p.1 w.objects in
     let o : Object = with_place p.1 (new_object p.0 Player name a.user) in

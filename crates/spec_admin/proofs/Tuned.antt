@@ -4,9 +4,10 @@ use Rattle.std.specs.Option.{option_map, option_and_then}
 use Rattle.std.proofs.lemmas.Bool.Decides.{nat_tests}
 use Rattle.muck_model.specs.declared.tune.Tune.{Tune}
 use Rattle.muck_model.specs.Decimal.{is_decimal, value_from, decimal_of}
-use Rattle.spec_admin.specs.declared.word.Parameter.{Parameter}
-use Rattle.spec_admin.specs.declared.word.Parameter.TheVariants.{InstrSlice, PreemptUnits, M1Units, M2Units, ProcessLimit, PlayerProcesses, MpiCommands, DumpInterval}
-use Rattle.spec_admin.specs.Parameters.{parameter_most, parameter_of, with_parameter, parameter_named, value_for, retuned, IsInRange}
+use Rattle.muck_model.specs.declared.tune.Parameter.{Parameter}
+use Rattle.muck_model.specs.Parameters.{row_of, parameter_named, with_parameter, IsInRange}
+use Rattle.muck_model.proofs.Parameters.{set_in_range}
+use Rattle.spec_admin.specs.Parameters.{value_for, retuned}
 
 -- at least 1, and at most this
 abbrev Within : ℕ → ℕ → Type 0
@@ -20,21 +21,9 @@ value_within most v n true true d f g e = here d g e
     here : (d : Bool) → nat_le 1 v ≡ d → cond (nat_le 1 v) (Some v) None ≡ Some n → Within most n
     here d g e = grind (arith, nat_tests)
 
-value_in_range : (p : Parameter) (text : List ℕ) (n : ℕ) → value_for p text ≡ Some n → Within (parameter_most p) n
+value_in_range : (p : Parameter) (text : List ℕ) (n : ℕ) → value_for p text ≡ Some n → Within ((row_of p).most) n
 unfolding decimal_of
-value_in_range p text n e = value_within (parameter_most p) (value_from 0 text) n (is_decimal text) _ _ refl refl e
-
--- the parameter itself, and each other one
-set_in_range : (p r : Parameter) (n : ℕ) (tune : Tune) → Within (parameter_most p) n → Within (parameter_most r) (parameter_of r tune) → Within (parameter_most r) (parameter_of r (with_parameter p n tune))
-set_in_range InstrSlice InstrSlice n tune h k = h
-set_in_range PreemptUnits PreemptUnits n tune h k = h
-set_in_range M1Units M1Units n tune h k = h
-set_in_range M2Units M2Units n tune h k = h
-set_in_range ProcessLimit ProcessLimit n tune h k = h
-set_in_range PlayerProcesses PlayerProcesses n tune h k = h
-set_in_range MpiCommands MpiCommands n tune h k = h
-set_in_range DumpInterval DumpInterval n tune h k = h
-set_in_range p r n tune h k = k
+value_in_range p text n e = value_within ((row_of p).most) (value_from 0 text) n (is_decimal text) _ _ refl refl e
 
 pub retuned_in_range : (name text : List ℕ) (tune next : Tune) → retuned name text tune ≡ Some next → IsInRange tune → IsInRange next
 unfolding retuned

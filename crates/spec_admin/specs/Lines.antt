@@ -3,29 +3,30 @@ use Rattle.std.specs.Prelude.{ℕ, ◌||◌, List, [], ◌∷◌, ◌++◌, code
 use Rattle.std.specs.Option.{option_map_or}
 use Rattle.muck_model.specs.declared.dbref.Dbref.{Dbref}
 use Rattle.muck_model.specs.declared.tune.Tune.{Tune}
+use Rattle.muck_model.specs.declared.tune.Parameter.{Parameter}
+use Rattle.muck_model.specs.Parameters.{row_of, parameters, parameter_of}
 use Rattle.spec_live.specs.Lives.{Live, Change, ◌▸◌, reading, either, tell, tell_all, name_at}
 use Rattle.spec_rights.specs.declared.act.Actor.{Actor}
 use Rattle.spec_rights.specs.declared.act.Act.TheVariants.{Wizard}
 use Rattle.spec_rights.specs.Asking.{asked}
-use Rattle.spec_rights.specs.Changing.{booted}
+use Rattle.spec_rights.specs.Changing.{connections_left}
 use Rattle.spec_commands.specs.declared.outcome.Outcome.TheVariants.{Done, Dump as DumpAsked, Stop, Retune}
 use Rattle.spec_commands.specs.declared.shape.Form.TheVariants.{Any, One, Full}
 use Rattle.spec_commands.specs.declared.shape.Want.TheVariants.{Nothing, Text, NewName, Player}
 use Rattle.spec_commands.specs.declared.shape.Shape.{Shape}
 use Rattle.spec_commands.specs.declared.shape.Arguments.{Arguments}
 use Rattle.spec_commands.specs.Texts.{first_word, other_words, trimmed}
-use Rattle.spec_commands.specs.Finding.{each}
+use Rattle.spec_commands.specs.Finding.{for_each}
 use Rattle.spec_commands.specs.Going.{Play, ended}
-use Rattle.spec_commands.specs.Programming.{over, over_denied}
+use Rattle.spec_commands.specs.Programming.{command_over, over_denied}
 use Rattle.spec_commands.specs.Reading.{looked_up, is_empty, has_full, left_part, right_part, incomplete, shaped, by_table}
 use Rattle.muck_queue.specs.declared.process.Process.{Process}
-use Rattle.muck_queue.specs.Queues.{Queue, without}
-use Rattle.spec_admin.specs.declared.word.Parameter.{Parameter}
+use Rattle.muck_queue.specs.Queues.{Queue, without_process}
 use Rattle.spec_admin.specs.declared.word.AdminWord.{AdminWord}
 use Rattle.spec_admin.specs.declared.word.AdminWord.TheVariants.{Processes, Kill, Tune as TuneWord, Boot, Wall, NewPlayer, NewPassword, Dump, Shutdown}
-use Rattle.spec_admin.specs.Replies.{parameter_line, parameter_reply, bad_parameter, booted_reply, shouts, dumping, going_down}
-use Rattle.spec_admin.specs.Parameters.{parameters, parameter_of, retuned}
-use Rattle.spec_admin.specs.Processes.{processes_shown, kill_told, killed}
+use Rattle.spec_admin.specs.Replies.{parameter_line, parameter_reply, bad_parameter, booted_reply, shouts, dumping_reply, going_down}
+use Rattle.spec_admin.specs.Parameters.{retuned}
+use Rattle.spec_admin.specs.Processes.{processes_shown, kill_told, process_killed}
 use Rattle.spec_admin.specs.Players.{player_made, password_changed}
 
 -- What is a wizard's alone.
@@ -34,15 +35,15 @@ use Rattle.spec_admin.specs.Players.{player_made, password_changed}
 abbrev pub by_wizard : ℕ → Actor → Play → Play
 by_wizard d a go = asked a Wizard (over_denied d) go
 
-unfoldable pub parameter_shown : ℕ → Tune → List ℕ × Parameter → Change
-parameter_shown d tune row = tell d (parameter_line row.0 (parameter_of row.1 tune))
+unfoldable pub parameter_shown : ℕ → Tune → Parameter → Change
+parameter_shown d tune p = tell d (parameter_line (row_of p).name (parameter_of p tune))
 
 -- a line for each parameter
 unfoldable pub parameters_shown : ℕ → Change
-parameters_shown d = reading (λ w. w.board.tune) (λ tune. each (parameter_shown d tune) parameters)
+parameters_shown d = reading (λ w. w.board.tune) (λ tune. for_each (parameter_shown d tune) parameters)
 
 abbrev pub retune_told : ℕ → Option Tune → Play
-retune_told d None = over d bad_parameter
+retune_told d None = command_over d bad_parameter
 retune_told d (Some tune) = ended (Retune tune) (tell d parameter_reply)
 
 -- a parameter is set
@@ -58,7 +59,7 @@ tune_done d a text =
 
 -- `@boot`: the connections of a player are leaving
 unfoldable pub player_booted : ℕ → Actor → Dbref → Play
-player_booted d a x = by_wizard d a (ended Done (booted x ▸ tell d booted_reply))
+player_booted d a x = by_wizard d a (ended Done (connections_left x ▸ tell d booted_reply))
 
 -- `@wall`
 unfoldable pub shouted : ℕ → Actor → List ℕ → Play
@@ -100,7 +101,7 @@ admin_done q d a Boot args = player_booted d a args.first.object
 admin_done q d a Wall args = shouted d a args.first.text
 admin_done q d a NewPlayer args = ended Done (player_made d a args.first.text args.second.text)
 admin_done q d a NewPassword args = ended Done (password_changed d a args.first.object args.second.text)
-admin_done q d a Dump args = by_wizard d a (ended DumpAsked (tell d dumping))
+admin_done q d a Dump args = by_wizard d a (ended DumpAsked (tell d dumping_reply))
 admin_done q d a Shutdown args = by_wizard d a (ended Stop (tell d going_down))
 
 -- a line as cmd_admin does it
@@ -110,7 +111,7 @@ admin_line q d a line = by_table admin_words admin_shape (admin_done q d a) d a 
 -- The process that a line ends.
 
 abbrev pub ended_by : Actor → Queue → List ℕ → Live → Option AdminWord → Option Process
-ended_by a q text w (Some Kill) = killed a q text w
+ended_by a q text w (Some Kill) = process_killed a q text w
 ended_by a q text w command = None
 
 unfoldable pub line_ends : Actor → Queue → List ℕ → Live → Option Process
@@ -118,4 +119,4 @@ line_ends a q line w = ended_by a q (trimmed (other_words (trimmed line))) w (lo
 
 -- the processes after it
 unfoldable pub after_line : Actor → List ℕ → Live → Queue → Queue
-after_line a line w q = option_map_or (λ p. without p.number q) (line_ends a q line w) q
+after_line a line w q = option_map_or (λ p. without_process p.number q) (line_ends a q line w) q

@@ -11,7 +11,7 @@ use Rattle.spec_rights.specs.declared.act.Act.TheVariants.{Wizard, Password}
 use Rattle.spec_rights.specs.Asking.{asked, refused}
 use Rattle.spec_rights.specs.Changing.{created_so, password_kept}
 use Rattle.spec_commands.specs.Replies.{cant_be_done, bad_name}
-use Rattle.spec_commands.specs.Building.{allowed, created_shown, is_player_name, made_at, written}
+use Rattle.spec_commands.specs.Building.{allowed, created_shown, is_player_name, made_at, change_by_leave}
 use Rattle.spec_admin.specs.Replies.{password_reply}
 
 -- the most bytes of a password
@@ -46,5 +46,5 @@ player_made d a name word =
 unfoldable pub password_changed : ℕ → Actor → Dbref → List ℕ → Change
 password_changed d a x word =
     either (is_password word)
-    (written d a (Password x) (λ w. allowed (password_check x w.objects)) (password_drawn x word) password_reply)
+    (change_by_leave d a (Password x) (λ w. allowed (password_check x w.objects)) (password_drawn x word) password_reply)
     (tell d cant_be_done)

@@ -12,8 +12,8 @@ processes_count count = decimal count ++ codes " processes."
 unfoldable pub killed_reply : List ℕ
 killed_reply = codes "Process killed."
 
-unfoldable pub no_process : List ℕ
-no_process = codes "No such process."
+unfoldable pub no_process_reply : List ℕ
+no_process_reply = codes "No such process."
 
 unfoldable pub parameter_line : List ℕ → ℕ → List ℕ
 parameter_line name value = name ++ (codes " = " ++ decimal value)
@@ -34,8 +34,8 @@ shouts text = codes " shouts, \"" ++ (text ++ codes "\"")
 unfoldable pub password_reply : List ℕ
 password_reply = codes "Password changed."
 
-unfoldable pub dumping : List ℕ
-dumping = codes "Dumping."
+unfoldable pub dumping_reply : List ℕ
+dumping_reply = codes "Dumping."
 
 unfoldable pub going_down : List ℕ
 going_down = codes "Going down."

@@ -6,4 +6,4 @@ mod rows;
 mod word;
 
 pub use rows::rows_hold;
-pub use word::{AdminWord, Parameter};
+pub use word::AdminWord;

@@ -1,4 +1,4 @@
-// The words of keepers, and what they tune.
+// The words of keepers.
 
 /// What a line of a keeper does. Everybody may list and end processes of their own; all else is a wizard's.
 #[derive(Clone, Copy, Debug, PartialEq, Eq)]
@@ -21,17 +21,4 @@ pub enum AdminWord {
     Dump,
     /// The world is to stop.
     Shutdown,
-}
-
-/// A parameter of a server, as `Tune` has them.
-#[derive(Clone, Copy, Debug, PartialEq, Eq)]
-pub enum Parameter {
-    InstrSlice,
-    PreemptUnits,
-    M1Units,
-    M2Units,
-    ProcessLimit,
-    PlayerProcesses,
-    MpiCommands,
-    DumpInterval,
 }

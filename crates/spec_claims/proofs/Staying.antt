@@ -4,18 +4,18 @@ use Rattle.std.specs.List.{filter, list_any}
 use Rattle.std.specs.Ordering.{int_eq}
 use Rattle.std.proofs.lemmas.Cmp.{int_eq_equiv}
 use Rattle.std.proofs.lemmas.Bool.{eq-eqb, and_parts, eqb-true}
+use Rattle.muck_laws.proofs.Numbers.{same_pid}
 use Rattle.muck_model.specs.declared.event.Entry.{Entry}
 use Rattle.muck_model.specs.declared.event.Event.{Event}
 use Rattle.muck_model.specs.declared.event.Event.TheVariants.{Opened, Input, Closed, Moment, Exec, Planned, Claim, Slice, Commit, Lost, Idle, Take, Cut, Stored, DumpFailed, Halt, StopSeen, Died}
 use Rattle.muck_queue.specs.declared.claim.Claim.{Claim as Claimed}
 use Rattle.muck_queue.specs.declared.process.Process.{Process}
-use Rattle.muck_queue.specs.Queues.{is_due, is_claimed, is_on, has_pid, claimed, released, ended_tied, is_reading, is_awaiting}
+use Rattle.muck_queue.specs.Queues.{is_process_due, is_claimed, is_on, has_pid, claimed, released, ended_tied, is_reading, is_awaiting}
 use Rattle.spec_events.specs.World.{World, connection}
 use Rattle.spec_events.specs.Steps.{has_claim, is_lawful, is_allowed, is_died, happened, effect}
 use Rattle.spec_events.specs.Slices.{sliced}
 use Rattle.spec_events.specs.Histories.{after, AllLawful}
 use Rattle.spec_events.proofs.Happening.{effect-claims}
-use Rattle.spec_events.proofs.Modes.{same_pid}
 use Rattle.spec_claims.specs.inner.Claims.{IsSole, AreOthers}
 use Rattle.spec_claims.proofs.Kept.{same_done, same_sliced}
 
@@ -81,9 +81,9 @@ sole_other party other pid w sole apart has = at (party == other) refl (sym (cla
     at false is e = cc
 
 -- who may claim a process finds it claimed by nobody
-unclaimed : (moment : ℕ) (cs : List Claimed) (pid : ℤ) (ps : List Process) → list_any (λ p. has_pid pid p && is_due moment cs p) ps ≡ true → is_claimed pid cs ≡ false
+unclaimed : (moment : ℕ) (cs : List Claimed) (pid : ℤ) (ps : List Process) → list_any (λ p. has_pid pid p && is_process_due moment cs p) ps ≡ true → is_claimed pid cs ≡ false
 unclaimed moment cs pid [] e = cc
-unclaimed moment cs pid (p ∷ ps) e = at (has_pid pid p) refl (is_due moment cs p) refl e (unclaimed moment cs pid ps)
+unclaimed moment cs pid (p ∷ ps) e = at (has_pid pid p) refl (is_process_due moment cs p) refl e (unclaimed moment cs pid ps)
   where
     free : (a b c d : Bool) → (a && (b && (c && not d))) ≡ true → d ≡ false
     free true true true true e = cc
@@ -92,8 +92,8 @@ unclaimed moment cs pid (p ∷ ps) e = at (has_pid pid p) refl (is_due moment cs
     free true false c d e = cc
     free false b c d e = cc
 
-    at : (a : Bool) → has_pid pid p ≡ a → (b : Bool) → is_due moment cs p ≡ b → ((a && b) || list_any (λ p. has_pid pid p && is_due moment cs p) ps) ≡ true →
-        (list_any (λ p. has_pid pid p && is_due moment cs p) ps ≡ true → is_claimed pid cs ≡ false) → is_claimed pid cs ≡ false
+    at : (a : Bool) → has_pid pid p ≡ a → (b : Bool) → is_process_due moment cs p ≡ b → ((a && b) || list_any (λ p. has_pid pid p && is_process_due moment cs p) ps) ≡ true →
+        (list_any (λ p. has_pid pid p && is_process_due moment cs p) ps ≡ true → is_claimed pid cs ≡ false) → is_claimed pid cs ≡ false
     at true has true due e f = ap (λ n. is_claimed n cs) (sym (same_pid p.number pid has)) ∙ free (nat_le p.due moment) (not (is_reading p)) (not (is_awaiting p)) (is_claimed p.number cs) due
     at true has false due e f = f e
     at false has b due e f = f e

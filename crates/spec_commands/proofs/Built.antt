@@ -11,7 +11,7 @@ use Rattle.spec_live.specs.declared.fault.DbFault.{DbFault}
 use Rattle.spec_live.specs.declared.object.Object.{Object}
 use Rattle.spec_live.specs.Objects.{Entry, dbref_of, nothing, home, same, on_object}
 use Rattle.spec_live.specs.Making.{create_check}
-use Rattle.spec_live.specs.Lives.{Live, Change, followed, ◌▸◌, reading, tell}
+use Rattle.spec_live.specs.Lives.{Live, Change, change_followed, ◌▸◌, reading, tell}
 use Rattle.spec_rights.specs.declared.act.Actor.{Actor}
 use Rattle.spec_rights.specs.declared.act.Act.{Act}
 use Rattle.spec_rights.specs.declared.act.Act.TheVariants.{Move, Link, NewRoom, NewThing, NewExit, Change as ChangeAct, Wizard}
@@ -34,7 +34,7 @@ use Rattle.spec_commands.specs.declared.new.New.TheVariants.{Room, Thing, Exit}
 use Rattle.spec_commands.specs.Replies.{cant_be_done}
 use Rattle.spec_commands.specs.Finding.{message_path}
 use Rattle.spec_commands.specs.Going.{home_at}
-use Rattle.spec_commands.specs.Building.{made_at, created_shown, making, kind_of, as_new, act_in, made, thing_made, exit_opened, done_where, written, tied, link_set, link_cleared, name_set, kept, lock_kept, lock_set, placed, teleported, chowned, find_shown}
+use Rattle.spec_commands.specs.Building.{made_at, created_shown, making, kind_made, as_new, act_in, object_made, thing_made, exit_opened, done_where, change_by_leave, tied, link_set, link_cleared, name_set, text_kept, lock_kept, lock_set, object_placed, teleported, chowned, find_shown}
 use Rattle.spec_commands.specs.declared.setting.Setting.{Setting}
 use Rattle.spec_commands.specs.declared.setting.Setting.TheVariants.{Flag, NoFlag, Level}
 use Rattle.spec_commands.specs.Settings.{setting_asked, is_setting, setting_act, set_so, word_set, property_set, has_colon, path_part, value_part, assigned}
@@ -55,7 +55,7 @@ pub ends_founded : (a : Actor) (free : Freedom) (act : Act) (d : ℕ) (kind : Ki
     ((start es : List Entry) (k t : ℕ) → SameRights start es → verdict es a act ≡ None → place ≡ dbref_of t → IsNew (judge a free start) (dbref_of k) (new_in kind name a.user f k t)) →
     ((start es : List Entry) (n : ℕ) → verdict es a act ≡ None → Trailing (judge a free start) (after n)) →
     Ends itself a free (Some act) (reading (λ w. create_check kind a.user place w.objects) (λ check. made_at check (λ n to. created_so n kind name a.user to f ▸ after n) (tell d cant_be_done)))
-unfolding reading followed
+unfolding reading change_followed
 ends_founded a free act d kind name place f after touch new behind = ends_by _ (λ start w s g. at start w s g (create_check kind a.user place w.objects) refl)
   where
     at : (start : List Entry) (w : Live) → SameRights start w.objects → verdict w.objects a act ≡ None → (check : Result (ℕ × ℕ) DbFault) → create_check kind a.user place w.objects ≡ check →
@@ -78,13 +78,13 @@ pub player_founded : (a : Actor) (free : Freedom) (d : ℕ) (name : List ℕ) (p
 player_founded a free d name place after behind =
     ends_founded a free Wizard d PlayerKind name place (λ o. o) after (finishes bare) (λ start es k t s g e. player_open a free start es name a.user k t g) (λ start es n g. behind start n (wizard_allowed es a g))
 
-making_new : (a : Actor) (free : Freedom) (d : ℕ) (new : New) (name : List ℕ) (place : Dbref) → Ends itself a free (Some (act_in place new)) (making d a (kind_of new) name place (as_new new))
+making_new : (a : Actor) (free : Freedom) (d : ℕ) (new : New) (name : List ℕ) (place : Dbref) → Ends itself a free (Some (act_in place new)) (making d a (kind_made new) name place (as_new new))
 making_new a free d Room name place = ends_making a free (NewRoom place) d RoomKind name place (as_new Room) (finishes bare) (λ start es k t s g e. room_open a free start es name place k t s g e)
 making_new a free d (Thing at) name place = ends_making a free (NewThing place) d ThingKind name place (as_new (Thing at)) (finishes (homed at)) (λ start es k t s g e. thing_open a free start es name place at k t s g e)
 making_new a free d (Exit to) name place = ends_making a free (NewExit place to) d ExitKind name place (as_new (Exit to)) (finishes (linked to)) (λ start es k t s g e. exit_open a free start es name place to k t s g e)
 
-pub made_open : (a : Actor) (free : Freedom) (d : ℕ) (new : New) (name : List ℕ) (place : Dbref) → Ends itself a free None (made d a new name place)
-unfolding made
+pub made_open : (a : Actor) (free : Freedom) (d : ℕ) (new : New) (name : List ℕ) (place : Dbref) → Ends itself a free None (object_made d a new name place)
+unfolding object_made
 made_open a free d new name place = search (permitting, making_new)
 
 pub thing_made_open : (a : Actor) (free : Freedom) (d : ℕ) (name : List ℕ) → Ends itself a free None (thing_made d a name)
@@ -101,8 +101,8 @@ ends_done_where : (a : Actor) (free : Freedom) (given : Option Act) (d : ℕ) (m
 unfolding done_where
 ends_done_where a free given d may change reply p = search permitting
 
-ends_written : (a : Actor) (free : Freedom) (d : ℕ) (act : Act) (may : Live → Bool) (change : Change) (reply : List ℕ) → Ends itself a free (Some act) change → Ends itself a free None (written d a act may change reply)
-unfolding written
+ends_written : (a : Actor) (free : Freedom) (d : ℕ) (act : Act) (may : Live → Bool) (change : Change) (reply : List ℕ) → Ends itself a free (Some act) change → Ends itself a free None (change_by_leave d a act may change reply)
+unfolding change_by_leave
 ends_written a free d act may change reply p = search (permitting, ends_done_where)
 
 ruleset writing = (permitting, ends_done_where, ends_written)
@@ -127,8 +127,8 @@ pub name_set_open : (a : Actor) (free : Freedom) (d : ℕ) (x : Dbref) (name : L
 unfolding name_set
 name_set_open a free d x name = search writing
 
-pub kept_open : (a : Actor) (free : Freedom) (d : ℕ) (x : Dbref) (word text reply : List ℕ) → is_guarded (class_of (message_path word)) ≡ true → Ends itself a free None (kept d a x word text reply)
-unfolding kept
+pub kept_open : (a : Actor) (free : Freedom) (d : ℕ) (x : Dbref) (word text reply : List ℕ) → is_guarded (class_of (message_path word)) ≡ true → Ends itself a free None (text_kept d a x word text reply)
+unfolding text_kept
 kept_open a free d x word text reply h = search writing
 
 lock_kept_open : (a : Actor) (free : Freedom) (d : ℕ) (x : Dbref) (text : Option (List ℕ)) → Ends itself a free (Some (ChangeAct x)) (lock_kept d x text)
@@ -139,8 +139,8 @@ pub lock_set_open : (a : Actor) (free : Freedom) (d : ℕ) (x : Dbref) (key : Li
 unfolding lock_set
 lock_set_open a free d x key = search (writing, lock_kept_open)
 
-pub placed_open : (a : Actor) (free : Freedom) (x to : Dbref) → Ends itself a free (Some (Move x to)) (placed x to)
-unfolding placed reading
+pub placed_open : (a : Actor) (free : Freedom) (x to : Dbref) → Ends itself a free (Some (Move x to)) (object_placed x to)
+unfolding object_placed reading
 placed_open a free x to = ends_stays a free (Some (Move x to)) _ (stays_by _ (λ start w s g. at start w s g (same to home) refl))
   where
     at : (start : List Entry) (w : Live) → SameRights start w.objects → verdict w.objects a (Move x to) ≡ None → (b : Bool) → same to home ≡ b → Stay (judge a free start) w (moved_to x (cond b (home_at x w) to) w)

@@ -14,7 +14,7 @@ use Rattle.spec_commands.specs.declared.edit.EditCommand.{EditCommand}
 use Rattle.spec_commands.specs.declared.edit.EditCommand.TheVariants.{Insert, Delete, Show, Compile, Quit}
 use Rattle.spec_commands.specs.declared.edit.EditStep.{EditStep}
 use Rattle.spec_commands.specs.declared.edit.EditStep.TheVariants.{Stay}
-use Rattle.spec_commands.specs.Editing.{exiting, illegal, edit_command, lines_most, stepped, with_line, line_inserted, source_kept, edit_done, edit_some, edited_at, edited}
+use Rattle.spec_commands.specs.Editing.{exiting, illegal, edit_command, lines_most, editing_stepped, with_line, line_inserted, source_kept, edit_done, edit_some, edited_at, edited_by_line}
 use Rattle.spec_commands.proofs.Built.{permitting}
 use Rattle.spec_commands.proofs.Programmed.{quiet_lines_shown}
 
@@ -22,8 +22,8 @@ use Rattle.spec_commands.proofs.Programmed.{quiet_lines_shown}
 abbrev pub world_of : Live × EditState × EditStep → Live
 world_of p = p.0
 
-ends_stepped : (a : Actor) (free : Freedom) (given : Option Act) (step : EditStep) (s : EditState) (f : Change) → Ends itself a free given f → Ends world_of a free given (stepped step s f)
-unfolding stepped
+ends_stepped : (a : Actor) (free : Freedom) (given : Option Act) (step : EditStep) (s : EditState) (f : Change) → Ends itself a free given f → Ends world_of a free given (editing_stepped step s f)
+unfolding editing_stepped
 ends_stepped a free given step s f p = ends_by _ (λ start w. (p.law w).law start)
 
 ends_source_kept : (a : Actor) (free : Freedom) (program : Dbref) (lines : List (List ℕ)) → free.edits program ≡ true → Ends itself a free (Some (EditAct program)) (source_kept program lines)
@@ -48,7 +48,7 @@ inserted_open : (a : Actor) (free : Freedom) (d : ℕ) (s : EditState) (at : ℕ
 unfolding line_inserted
 inserted_open a free d s at line = by_cases (bytes_eq line (codes ".")) (nat_lt (length s.lines) lines_most)
   where
-    by_cases : (b c : Bool) → Ends world_of a free None (cond b (stepped Stay (record s { inserting = None }) (tell d exiting)) (cond c (stepped Stay (with_line at line s) unchanged) (stepped Stay s (tell d illegal))))
+    by_cases : (b c : Bool) → Ends world_of a free None (cond b (editing_stepped Stay (record s { inserting = None }) (tell d exiting)) (cond c (editing_stepped Stay (with_line at line s) unchanged) (editing_stepped Stay s (tell d illegal))))
     by_cases true c = search stepping
     by_cases false true = search stepping
     by_cases false false = search stepping
@@ -58,10 +58,10 @@ at_open a free d s line (Some at) h = inserted_open a free d s at line
 at_open a free d s line None h = some_open a free d s (edit_command (length s.lines) line) h
 
 -- The source changes by leave to edit it alone, and nothing else does.
-pub edited_open : (a : Actor) (free : Freedom) (d : ℕ) (s : EditState) (line : List ℕ) → free.edits s.program ≡ true → Ends world_of a free None (edited d a s line)
-unfolding edited
+pub edited_open : (a : Actor) (free : Freedom) (d : ℕ) (s : EditState) (line : List ℕ) → free.edits s.program ≡ true → Ends world_of a free None (edited_by_line d a s line)
+unfolding edited_by_line
 edited_open a free d s line h = at_open a free d s line s.inserting h
 
-pub edited_proper : (d : ℕ) (a : Actor) (s : EditState) (line : List ℕ) (w : Live) → Proper a (editing s.program) w (edited d a s line w).0
+pub edited_proper : (d : ℕ) (a : Actor) (s : EditState) (line : List ℕ) (w : Live) → Proper a (editing s.program) w (edited_by_line d a s line w).0
 edited_proper d a s line w =
-    ((whole_ends world_of a None (λ es. editing s.program) Always (edited d a s line) (λ v h. edited_open a (editing s.program) d s line (same_eq s.program s.program refl))).law w).law tt tt
+    ((whole_ends world_of a None (λ es. editing s.program) Always (edited_by_line d a s line) (λ v h. edited_open a (editing s.program) d s line (same_eq s.program s.program refl))).law w).law tt tt

@@ -17,7 +17,7 @@ use Rattle.spec_live.specs.Lives.{Live, Change, ◌▸◌, reading, tell}
 use Rattle.spec_rights.specs.declared.act.Actor.{Actor}
 use Rattle.spec_rights.specs.declared.act.Act.{Act}
 use Rattle.spec_rights.specs.declared.act.Act.TheVariants.{Take, Recycle}
-use Rattle.spec_rights.specs.Verdict.{verdict, place_of}
+use Rattle.spec_rights.specs.Verdict.{verdict, place_or_nothing}
 use Rattle.spec_rights.specs.Changing.{recycled_now}
 use Rattle.spec_rights.specs.Licence.{Freedom, at_hand, at_hand_kind}
 use Rattle.spec_rights.proofs.Licences.{Quiet, Stays, Ends, Whole, Always, itself, whole_ends, whole_asked, whole_quiet, whole_quietly, whole_by, ends_by, ends_stays}
@@ -28,10 +28,10 @@ use Rattle.spec_rights.proofs.Shown.{shown}
 use Rattle.spec_commands.specs.declared.outcome.Outcome.{Outcome}
 use Rattle.spec_commands.specs.Replies.{taken_reply, recycled_reply, dropped_reply}
 use Rattle.spec_commands.specs.declared.typed.Typed.{Typed}
-use Rattle.spec_commands.specs.declared.word.Message.{Message}
-use Rattle.spec_commands.specs.Finding.{is_so}
-use Rattle.spec_commands.specs.Going.{ended, moving, gone, gone_home, both_shown, succeeded, failed, drop_shown, led, tried, walked, walked_some, went, is_item, not_taken, taken, is_carried, drop_place, dropped, inventory_shown}
-use Rattle.spec_commands.specs.Building.{allowed, written, done_where, recycled}
+use Rattle.spec_live.specs.declared.message.Message.{Message}
+use Rattle.spec_commands.specs.Finding.{is_object_so}
+use Rattle.spec_commands.specs.Going.{ended, thing_moving, player_gone, gone_home, both_shown, succeeded, failed, drop_shown, led, tried, exit_walked, walked_some, player_went, is_item, not_taken, thing_taken, is_carried, drop_place, dropped, inventory_shown}
+use Rattle.spec_commands.specs.Building.{allowed, change_by_leave, done_where, recycled_by_command}
 use Rattle.spec_commands.proofs.Showing.{seeing, hearing, whole_where}
 
 -- The answer of a command is its world and its outcome.
@@ -48,12 +48,12 @@ whole_ended a own free given outcome f p = whole_by _ (λ w. (p.law w).law)
 
 -- Going.
 
-stays_moving : (a : Actor) (free : Freedom) (given : Option Act) (d : ℕ) (x to : Dbref) (go : Change) → free.moves x ≡ true → Stays a free None go → Stays a free given (moving d x to go)
-unfolding moving
+stays_moving : (a : Actor) (free : Freedom) (given : Option Act) (d : ℕ) (x to : Dbref) (go : Change) → free.moves x ≡ true → Stays a free None go → Stays a free given (thing_moving d x to go)
+unfolding thing_moving
 stays_moving a free given d x to go h q = search (staying, keeps_where)
 
-stays_gone : (a : Actor) (free : Freedom) (given : Option Act) (d : ℕ) (typed : Typed) (to : Dbref) (seen : Change) → free.moves a.player ≡ true → Stays a free None seen → Stays a free given (gone d a typed to seen)
-unfolding gone
+stays_gone : (a : Actor) (free : Freedom) (given : Option Act) (d : ℕ) (typed : Typed) (to : Dbref) (seen : Change) → free.moves a.player ≡ true → Stays a free None seen → Stays a free given (player_gone d a typed to seen)
+unfolding player_gone
 stays_gone a free given d typed to seen h q = search hearing depth 8
 
 pub stays_gone_home : (a : Actor) (free : Freedom) (given : Option Act) (d : ℕ) (typed : Typed) → free.moves a.player ≡ true → Stays a free given (gone_home d a typed)
@@ -76,16 +76,16 @@ pub tried_open : (a : Actor) (free : Freedom) (d : ℕ) (typed : Typed) (exit : 
 unfolding tried
 tried_open a free d typed exit line h = search (ending, ends_ended, stays_failed, stays_both_shown, ends_led)
 
-pub walked_open : (a : Actor) (free : Freedom) (d : ℕ) (hit : ExitHit) (line : List ℕ) → free.moves a.player ≡ true → Ends world_of a free None (walked d a hit line)
-unfolding walked
+pub walked_open : (a : Actor) (free : Freedom) (d : ℕ) (hit : ExitHit) (line : List ℕ) → free.moves a.player ≡ true → Ends world_of a free None (exit_walked d a hit line)
+unfolding exit_walked
 walked_open a free d hit line h = search (ending, tried_open)
 
 walked_some_open : (a : Actor) (free : Freedom) (d : ℕ) (line : List ℕ) (hit : Option ExitHit) → free.moves a.player ≡ true → Ends world_of a free None (walked_some d a line hit)
 walked_some_open a free d line None h = search (ending, ends_ended)
 walked_some_open a free d line (Some hit) h = walked_open a free d hit line h
 
-pub went_open : (a : Actor) (free : Freedom) (d : ℕ) (line : List ℕ) → free.moves a.player ≡ true → Ends world_of a free None (went d a line)
-unfolding went
+pub went_open : (a : Actor) (free : Freedom) (d : ℕ) (line : List ℕ) → free.moves a.player ≡ true → Ends world_of a free None (player_went d a line)
+unfolding player_went
 went_open a free d line h = search (ending, walked_some_open)
 
 -- Taking and dropping what is at hand.
@@ -98,10 +98,10 @@ item_kind Exit e = cc
 item_kind Player e = cc
 item_kind Garbage e = cc
 
-here_at_hand : (es : List Entry) (a : Actor) (x : Dbref) (q : Option Object) → object_at x es ≡ q → option_map_or (λ (o : Object). is_thing o.kind || is_program o.kind) q false ≡ true → same (place_of es x) (place_of es a.player) ≡ true → at_hand es a x ≡ true
+here_at_hand : (es : List Entry) (a : Actor) (x : Dbref) (q : Option Object) → object_at x es ≡ q → option_map_or (λ (o : Object). is_thing o.kind || is_program o.kind) q false ≡ true → same (place_or_nothing es x) (place_or_nothing es a.player) ≡ true → at_hand es a x ≡ true
 here_at_hand es a x None e t p = absurd (cc)
 here_at_hand es a x (Some o) e t p =
-    let here : Dbref = place_of es a.player in
+    let here : Dbref = place_or_nothing es a.player in
     let place : same o.place here ≡ true = ap (λ (y : Dbref). same y here) (sym (ap (λ (q : Option Object). option_map_or (λ (k : Object). k.place) q nothing) e)) ∙ p in
     ap (λ (q : Option Object). option_map_or (λ (k : Object). at_hand_kind k.kind && (same k.place a.player || same k.place here)) q false) e
     ∙ and_from _ _ (item_kind o.kind t) (or_right (same o.place a.player) _ place)
@@ -109,18 +109,18 @@ here_at_hand es a x (Some o) e t p =
 carried_at_hand : (es : List Entry) (a : Actor) (x : Dbref) (q : Option Object) → object_at x es ≡ q → option_map_or (λ (o : Object). (is_thing o.kind || is_program o.kind) && same o.place a.player) q false ≡ true → at_hand es a x ≡ true
 carried_at_hand es a x None e t = absurd (cc)
 carried_at_hand es a x (Some o) e t =
-    ap (λ (q : Option Object). option_map_or (λ (k : Object). at_hand_kind k.kind && (same k.place a.player || same k.place (place_of es a.player))) q false) e
-    ∙ and_from _ _ (item_kind o.kind (and_parts (is_thing o.kind || is_program o.kind) (same o.place a.player) t).0) (or_left (same o.place a.player) (same o.place (place_of es a.player)) (and_parts (is_thing o.kind || is_program o.kind) (same o.place a.player) t).1)
+    ap (λ (q : Option Object). option_map_or (λ (k : Object). at_hand_kind k.kind && (same k.place a.player || same k.place (place_or_nothing es a.player))) q false) e
+    ∙ and_from _ _ (item_kind o.kind (and_parts (is_thing o.kind || is_program o.kind) (same o.place a.player) t).0) (or_left (same o.place a.player) (same o.place (place_or_nothing es a.player)) (and_parts (is_thing o.kind || is_program o.kind) (same o.place a.player) t).1)
 
 item_at : (x : Dbref) (w : Live) → is_item x w ≡ true → option_map_or (λ (o : Object). is_thing o.kind || is_program o.kind) (object_at x w.objects) false ≡ true
-unfolding is_so
+unfolding is_object_so
 item_at x w e = e
 
 carried_at : (player x : Dbref) (w : Live) → is_carried player x w ≡ true → option_map_or (λ (o : Object). (is_thing o.kind || is_program o.kind) && same o.place player) (object_at x w.objects) false ≡ true
-unfolding is_so
+unfolding is_object_so
 carried_at player x w e = e
 
-taking : (a : Actor) (free : Freedom) (d : ℕ) (typed : Typed) (x : Dbref) → free.moves x ≡ true → Ends itself a free None (succeeded d a typed x ▸ moving d x a.player (tell d taken_reply))
+taking : (a : Actor) (free : Freedom) (d : ℕ) (typed : Typed) (x : Dbref) → free.moves x ≡ true → Ends itself a free None (succeeded d a typed x ▸ thing_moving d x a.player (tell d taken_reply))
 taking a free d typed x h = search (ending, seeing, stays_both_shown, stays_moving)
 
 stays_not_taken : (a : Actor) (free : Freedom) (given : Option Act) (d : ℕ) (typed : Typed) (x : Dbref) (denial : Denial) → Stays a free given (not_taken d a typed x denial)
@@ -130,8 +130,8 @@ stays_not_taken a free given d typed x denial = search (staying, stays_failed, k
 abbrev pub HandFree : Actor → (List Entry → Freedom) → Type 0
 HandFree a free = (es : List Entry) (x : Dbref) → at_hand es a x ≡ true → (free es).moves x ≡ true
 
-pub taken_open : (a : Actor) (own : Option ℕ) (free : List Entry → Freedom) (d : ℕ) (typed : Typed) (x : Dbref) → HandFree a free → Whole itself a own free Always (taken d a typed x)
-unfolding taken
+pub taken_open : (a : Actor) (own : Option ℕ) (free : List Entry → Freedom) (d : ℕ) (typed : Typed) (x : Dbref) → HandFree a free → Whole itself a own free Always (thing_taken d a typed x)
+unfolding thing_taken
 taken_open a own free d typed x hands =
     whole_where itself a own free Always (is_item x) _ _ (whole_quiet a own free Always _ (search shown))
     (whole_asked itself a own free _ (Take x) _ _ (λ denial. whole_ends itself a own free Always _ (λ w h. ends_stays a (free w.objects) None _ (stays_not_taken a (free w.objects) None d typed x denial)))
@@ -139,7 +139,7 @@ taken_open a own free d typed x hands =
     taking a (free w.objects) d typed x (hands w.objects x (here_at_hand w.objects a x (object_at x w.objects) refl (item_at x w h.0.1) (take_allowed w.objects a x h.1))))))
 
 dropping : (a : Actor) (free : Freedom) (d : ℕ) (typed : Typed) (x : Dbref) → free.moves x ≡ true →
-    Ends itself a free None (reading (drop_place a.player) (λ to. moving d x to (tell d dropped_reply ▸ drop_shown d a typed x)))
+    Ends itself a free None (reading (drop_place a.player) (λ to. thing_moving d x to (tell d dropped_reply ▸ drop_shown d a typed x)))
 dropping a free d typed x h = search (ending, seeing, stays_both_shown, stays_moving) depth 7
 
 pub dropped_open : (a : Actor) (own : Option ℕ) (free : List Entry → Freedom) (d : ℕ) (typed : Typed) (x : Dbref) → HandFree a free → Whole itself a own free Always (dropped d a typed x)
@@ -165,8 +165,8 @@ recycling a own free x given h = whole_by _ (λ w c g.
     let p = passed (recycle_check x w.objects) t.1 in
     recycled_proper a (free w.objects) x w p.0 t.0 p.1)
 
-pub recycled_open : (a : Actor) (own : Option ℕ) (free : List Entry → Freedom) (d : ℕ) (x : Dbref) → Whole itself a own free Always (recycled d a x)
-unfolding recycled written done_where
+pub recycled_open : (a : Actor) (own : Option ℕ) (free : List Entry → Freedom) (d : ℕ) (x : Dbref) → Whole itself a own free Always (recycled_by_command d a x)
+unfolding recycled_by_command change_by_leave done_where
 recycled_open a own free d x =
     whole_asked itself a own free Always (Recycle x) _ _ (λ denial. whole_quiet a own free Always _ (search shown))
     (whole_where itself a own free _ (λ w. allowed (recycle_check x w.objects)) _ _ (whole_quiet a own free _ _ (search shown))

@@ -15,21 +15,21 @@ use Rattle.spec_commands.specs.declared.shape.Want.TheVariants.{Nothing, Text, N
 use Rattle.spec_commands.specs.declared.shape.Shape.{Shape}
 use Rattle.spec_commands.specs.declared.shape.Arguments.{Arguments}
 use Rattle.spec_commands.specs.Going.{Play, ended}
-use Rattle.spec_commands.specs.Programming.{over}
-use Rattle.spec_commands.specs.Reading.{incomplete, judged, sought, meant, with_fit, with_parts, with_arguments}
+use Rattle.spec_commands.specs.Programming.{command_over}
+use Rattle.spec_commands.specs.Reading.{incomplete, name_judged, object_sought, part_meant, with_fit, with_parts, with_arguments}
 use Rattle.spec_commands.proofs.Showing.{keeps_finding, keeps_finding_player}
 use Rattle.spec_commands.proofs.Gone.{world_of, whole_ended}
 use Rattle.spec_commands.proofs.Plain.{Follows}
 
 -- What is so of a text that is told, and of the command, is so of it with its arguments.
-module _ {R : Live → Live × Outcome → Type 0} (d : ℕ) (a : Actor) (told : (text : List ℕ) → Keeps R (over d text)) where
-  keeps_meant : (want : Want) (text : List ℕ) (go : Dbref → Play) → ((x : Dbref) → Keeps R (go x)) → Keeps R (meant d a want text go)
-  unfolding judged sought
+module _ {R : Live → Live × Outcome → Type 0} (d : ℕ) (a : Actor) (told : (text : List ℕ) → Keeps R (command_over d text)) where
+  keeps_meant : (want : Want) (text : List ℕ) (go : Dbref → Play) → ((x : Dbref) → Keeps R (go x)) → Keeps R (part_meant d a want text go)
+  unfolding name_judged object_sought
   keeps_meant Nothing text go p = p _
   keeps_meant Text text go p = p _
   keeps_meant NewName text go p = keeps_either _ _ _ (p _) (told _)
-  keeps_meant Player text go p = keeps_finding_player (over d) text go told p
-  keeps_meant want text go p = keeps_either _ _ _ (p _) (keeps_finding (over d) a.player text go told p)
+  keeps_meant Player text go p = keeps_finding_player (command_over d) text go told p
+  keeps_meant want text go p = keeps_either _ _ _ (p _) (keeps_finding (command_over d) a.player text go told p)
 
   keeps_arguments : (word : List ℕ) (shape : Shape) (text : List ℕ) (go : Arguments → Play) → ((args : Arguments) → Keeps R (go args)) → Keeps R (with_arguments d a word shape text go)
   unfolding with_arguments with_parts with_fit incomplete

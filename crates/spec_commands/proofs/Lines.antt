@@ -7,7 +7,7 @@ use Rattle.spec_rights.proofs.Licences.{Quiet, stays_goes, quiet_unchanged}
 use Rattle.spec_rights.proofs.Shown.{quiet_tell}
 use Rattle.spec_commands.specs.Replies.{goodbye, has_disconnected}
 use Rattle.spec_live.proofs.Keeping.{keeps_followed, keeps_reading, keeps_either}
-use Rattle.spec_commands.specs.Talk.{welcome, refused_login, let_in, logged_in, connecting, quit, at_login, parting, parted}
+use Rattle.spec_commands.specs.Talk.{welcome, refused_login, let_in, logged_in, connecting, quit, at_login, parting, player_parted}
 use Rattle.spec_commands.proofs.Numbered.{Seating, seating_order, seating_quiet, seating_notes, seating_leave, seating_enter}
 use Rattle.spec_commands.proofs.Showing.{quiet_shown_others, quiet_who_shown, stays_looked}
 use Rattle.spec_commands.proofs.Noted.{notes_looked}
@@ -46,7 +46,7 @@ quiet_parting : (others : Bool) (player : Dbref) → Quiet (parting others playe
 quiet_parting true player = quiet_unchanged
 quiet_parting false player = quiet_shown_others player has_disconnected
 
-pub quiet_parted : (player : Option Dbref) → Quiet (parted player)
-unfolding parted
+pub quiet_parted : (player : Option Dbref) → Quiet (player_parted player)
+unfolding player_parted
 quiet_parted None = quiet_unchanged
 quiet_parted (Some player) = keeps_reading _ (λ others. parting others player) (λ others. quiet_parting others player)

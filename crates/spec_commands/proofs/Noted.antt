@@ -1,28 +1,29 @@
 -- What players see by messages touches notes alone: properties, what waits to be sent and the state of the random numbers.
-use Rattle.std.proofs.Common.{◌≡◌, ℕ, zero, suc, cond, List, [], ◌∷◌, refl, sym, ◌∙◌, ap, Option, Some, None}
+use Rattle.std.proofs.Common.{◌≡◌, ℕ, cond, List, [], ◌∷◌, refl, sym, ◌∙◌, ap, Option, Some, None}
 use Rattle.std.specs.Prelude.{map, slice_get}
 use Rattle.std.specs.Option.{option_map, option_map_or, option_and_then}
 use Rattle.std.specs.FinMap as props
+use Rattle.muck_laws.proofs.Places.{get_map}
 use Rattle.muck_model.specs.declared.dbref.Kind.{Kind}
 use Rattle.muck_model.specs.declared.dbref.Kind.TheVariants.{Garbage}
 use Rattle.spec_live.specs.declared.object.Object.{Object}
 use Rattle.spec_live.specs.Objects.{Entry, nothing, is_garbage, index_of, object_in, kind_in, number_in, object_at}
-use Rattle.spec_rights.specs.Verdict.{place_of}
+use Rattle.spec_rights.specs.Verdict.{place_or_nothing}
 use Rattle.muck_model.specs.declared.dbref.Dbref.{Dbref}
 use Rattle.spec_live.specs.Lives.{Change, unchanged, tell, tell_others}
 use Rattle.spec_live.proofs.Keeping.{Keeps, keeping, keeps_followed, keeps_reading, keeps_unchanged}
 use Rattle.spec_rights.specs.declared.act.Actor.{Actor}
-use Rattle.spec_mpi.specs.Messages.{heard, variables_of, shown, spoken as said_of}
+use Rattle.spec_mpi.specs.Messages.{formula_heard, variables_of, answer_shown, message_spoken as said_of}
 use Rattle.spec_mpi.specs.Touching.{without_props, TouchesNotes}
 use Rattle.spec_mpi.proofs.Leave.{heard_touches}
 use Rattle.spec_rights.proofs.Shown.{quiet_tell, quiet_tell_others}
 use Rattle.spec_mpi.proofs.Deeds.{touching_order, notes_quiet}
 use Rattle.spec_commands.specs.declared.typed.Typed.{Typed}
-use Rattle.spec_commands.specs.declared.word.Message.{Message}
+use Rattle.spec_live.specs.declared.message.Message.{Message}
 use Rattle.spec_commands.proofs.Showing.{quiet_shown_others, quiet_listed}
-use Rattle.spec_commands.specs.Messages.{message_how, spoken, spoken_some, with_message}
+use Rattle.spec_commands.specs.Messages.{message_how, text_spoken, spoken_some, with_message}
 use Rattle.spec_commands.specs.Going.{both_shown}
-use Rattle.spec_commands.specs.Finding.{shown_others, message_shown, message_to_others, listed, listed_under, room_shown, looked}
+use Rattle.spec_commands.specs.Finding.{shown_others, message_shown, message_to_others, names_listed, listed_under, room_shown, place_looked_at}
 
 abbrev pub Notes : Change → Type 0
 Notes f = Keeps TouchesNotes f
@@ -38,12 +39,12 @@ notes_tell_others room but text = notes_quiet _ (quiet_tell_others room but text
 
 ruleset noting = (keeping, touching_order, notes_unchanged, notes_tell, notes_tell_others)
 
-notes_spoken : (a : Actor) (x : Dbref) (how : List ℕ) (typed : Typed) (text : List ℕ) (go : List ℕ → Change) → ((t : List ℕ) → Notes (go t)) → Notes (spoken a x how typed text go)
-unfolding spoken said_of
+notes_spoken : (a : Actor) (x : Dbref) (how : List ℕ) (typed : Typed) (text : List ℕ) (go : List ℕ → Change) → ((t : List ℕ) → Notes (go t)) → Notes (text_spoken a x how typed text go)
+unfolding text_spoken said_of
 notes_spoken a x how typed text go q = record {
   law = λ w.
-      let said = heard a x text (variables_of how typed.word typed.rest) w in
-      touching_order.both w said.1 _ (heard_touches a x text (variables_of how typed.word typed.rest) w) ((q (shown said.0)).law said.1);
+      let said = formula_heard a x text (variables_of how typed.word typed.rest) w in
+      touching_order.both w said.1 _ (heard_touches a x text (variables_of how typed.word typed.rest) w) ((q (answer_shown said.0)).law said.1);
 }
 
 notes_spoken_some : (a : Actor) (typed : Typed) (m : Message) (x : Dbref) (otherwise : Change) (go : List ℕ → Change) (message : Option (List ℕ)) → Notes otherwise → ((t : List ℕ) → Notes (go t)) → Notes (spoken_some a typed m x otherwise go message)
@@ -61,7 +62,7 @@ notes_message_shown : (d : ℕ) (a : Actor) (typed : Typed) (m : Message) (x : D
 unfolding message_shown
 notes_message_shown d a typed m x = search (noting, notes_with_message)
 
-notes_listed : (d : ℕ) (player : Dbref) (xs : List Dbref) → Notes (listed d player xs)
+notes_listed : (d : ℕ) (player : Dbref) (xs : List Dbref) → Notes (names_listed d player xs)
 notes_listed d player xs = notes_quiet _ (quiet_listed d player xs)
 
 notes_listed_under : (d : ℕ) (player : Dbref) (head : List ℕ) (otherwise : Change) (xs : List Dbref) → Notes otherwise → Notes (listed_under d player head otherwise xs)
@@ -73,8 +74,8 @@ notes_room_shown : (d : ℕ) (a : Actor) (typed : Typed) (room : Dbref) → Note
 unfolding room_shown
 notes_room_shown d a typed room = search (noting, notes_message_shown, notes_listed_under)
 
-pub notes_looked : (d : ℕ) (a : Actor) (typed : Typed) → Notes (looked d a typed)
-unfolding looked
+pub notes_looked : (d : ℕ) (a : Actor) (typed : Typed) → Notes (place_looked_at d a typed)
+unfolding place_looked_at
 notes_looked d a typed = search (noting, notes_room_shown)
 
 notes_message_to_others : (a : Actor) (typed : Typed) (m : Message) (x : Dbref) → Notes (message_to_others a typed m x)
@@ -89,11 +90,6 @@ notes_both_shown d a typed mine theirs x = search (noting, notes_message_shown, 
 
 abbrev bare : Object → Object
 bare o = record o { props = props.empty }
-
-get_map : {X Y : Type 0} (g : X → Y) (xs : List X) (k : ℕ) → slice_get (map g xs) k ≡ option_map g (slice_get xs k)
-get_map g [] k = refl
-get_map g (x ∷ xs) zero = refl
-get_map g (x ∷ xs) (suc k) = get_map g xs k
 
 bare_seen : (q : Option Entry) → option_map bare (option_map (λ (e : Entry). e.object) q) ≡ option_map (λ (e : Entry). e.object) (option_map without_props q)
 bare_seen None = refl
@@ -131,7 +127,7 @@ found_same : (es fs : List Entry) → map without_props fs ≡ map without_props
 found_same es fs h None = refl
 found_same es fs h (Some n) = objects_same es fs h n
 
-pub place_same : (es fs : List Entry) → map without_props fs ≡ map without_props es → (d : Dbref) → place_of fs d ≡ place_of es d
+pub place_same : (es fs : List Entry) → map without_props fs ≡ map without_props es → (d : Dbref) → place_or_nothing fs d ≡ place_or_nothing es d
 unfolding object_at
 place_same es fs h d =
     sym (place_bare (option_and_then (object_in fs) (number_in fs d)))

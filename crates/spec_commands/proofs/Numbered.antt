@@ -4,7 +4,7 @@ use Rattle.std.specs.Prelude.{map, ◌==◌}
 use Rattle.muck_model.specs.declared.dbref.Dbref.{Dbref}
 use Rattle.spec_live.specs.Objects.{Entry}
 use Rattle.spec_mpi.specs.Touching.{without_props, TouchesNotes}
-use Rattle.spec_live.specs.Connections.{Connection, has_number, changed_in, left, seated}
+use Rattle.spec_live.specs.Connections.{Connection, is_connection, changed_in, left, player_seated}
 use Rattle.spec_live.specs.Boards.{on_connection, leaving_one, seated_one}
 use Rattle.spec_live.proofs.Keeping.{Keeps, Order, stays, one, join, keeps_more}
 use Rattle.spec_live.proofs.Lives.{Goes, board, shows, leaves_one, seats, mute, readies, viewed_one, viewed_again}
@@ -75,7 +75,7 @@ leavers_ties may (c ∷ cs) (d ∷ ds) e =
     let rest : ties ds ≡ ties cs = cc in
     (ap (λ (t : ℕ × Option Dbref × Bool). t.0) head, inl (ap (λ (t : ℕ × Option Dbref × Bool). t.2) head), leavers_ties may cs ds rest)
 
-pub leavers_both : (n : ℕ) (cs ds es : List Connection) → LeaversLicensed (has_number n) cs ds → LeaversLicensed (has_number n) ds es → LeaversLicensed (has_number n) cs es
+pub leavers_both : (n : ℕ) (cs ds es : List Connection) → LeaversLicensed (is_connection n) cs ds → LeaversLicensed (is_connection n) ds es → LeaversLicensed (is_connection n) cs es
 leavers_both n [] [] [] r s = tt
 leavers_both n [] [] (e ∷ es) r s = absurd s
 leavers_both n [] (d ∷ ds) es r s = absurd r
@@ -83,14 +83,14 @@ leavers_both n (c ∷ cs) [] es r s = absurd r
 leavers_both n (c ∷ cs) (d ∷ ds) [] r s = absurd s
 leavers_both n (c ∷ cs) (d ∷ ds) (e ∷ es) r s =
     let P : ℕ → Type 0 = λ k. Open (λ (leaving : Bool). k == n) d.leaving e.leaving in
-    (s.0 ∙ r.0, open_both (λ leaving. has_number n c) c.leaving d.leaving e.leaving r.1 (subst P r.0 s.1), leavers_both n cs ds es r.2 s.2)
+    (s.0 ∙ r.0, open_both (λ leaving. is_connection n c) c.leaving d.leaving e.leaving r.1 (subst P r.0 s.1), leavers_both n cs ds es r.2 s.2)
 
-leavers_changed_in : (d : ℕ) (f : Connection → Connection) → ((c : Connection) → (f c).number ≡ c.number) → (cs : List Connection) → LeaversLicensed (has_number d) cs (changed_in d f cs)
+leavers_changed_in : (d : ℕ) (f : Connection → Connection) → ((c : Connection) → (f c).number ≡ c.number) → (cs : List Connection) → LeaversLicensed (is_connection d) cs (changed_in d f cs)
 leavers_changed_in d f keeps [] = tt
-leavers_changed_in d f keeps (c ∷ cs) = at (has_number d c) refl (leavers_changed_in d f keeps cs)
+leavers_changed_in d f keeps (c ∷ cs) = at (is_connection d c) refl (leavers_changed_in d f keeps cs)
   where
-    at : (b : Bool) → has_number d c ≡ b → LeaversLicensed (has_number d) cs (changed_in d f cs) → LeaversLicensed (has_number d) (c ∷ cs) (cond b (f c ∷ cs) (c ∷ changed_in d f cs))
-    at true e h = (keeps c, inr e, leavers_ties (has_number d) cs cs refl)
+    at : (b : Bool) → is_connection d c ≡ b → LeaversLicensed (is_connection d) cs (changed_in d f cs) → LeaversLicensed (is_connection d) (c ∷ cs) (cond b (f c ∷ cs) (c ∷ changed_in d f cs))
+    at true e h = (keeps c, inr e, leavers_ties (is_connection d) cs cs refl)
     at false e h = (refl, inl refl, h)
 
 -- Worlds of which only properties and the connections differ, which keep their numbers, and of which only d may begin to leave; what
@@ -100,14 +100,14 @@ pub record Seats (d : ℕ) (w v : Live) : Type 0 where
   pub goes : Goes acts w v
   pub tune : v.board.tune ≡ w.board.tune
   pub numbers : numbers v.board.connections ≡ numbers w.board.connections
-  pub leavers : LeaversLicensed (has_number d) w.board.connections v.board.connections
+  pub leavers : LeaversLicensed (is_connection d) w.board.connections v.board.connections
 
 abbrev pub Seating : ℕ → Change → Type 0
 Seating d f = Keeps (Seats d) f
 
 pub seating_order : (d : ℕ) → Order (Seats d)
 seating_order d = record {
-  itself = λ w. record { objects = refl; goes = stays; tune = refl; numbers = refl; leavers = leavers_ties (has_number d) w.board.connections w.board.connections refl };
+  itself = λ w. record { objects = refl; goes = stays; tune = refl; numbers = refl; leavers = leavers_ties (is_connection d) w.board.connections w.board.connections refl };
   both = λ u v w r s. record { objects = s.objects ∙ r.objects; goes = join r.goes s.goes; tune = s.tune ∙ r.tune; numbers = s.numbers ∙ r.numbers; leavers = leavers_both d _ _ _ r.leavers s.leavers };
 }
 
@@ -117,7 +117,7 @@ seating_quiet d f q = keeps_more f (λ w v s. record {
   goes = one (shows w v refl s);
   tune = s.tune;
   numbers = numbers-ties w.board.connections v.board.connections (readies w v s).ties;
-  leavers = leavers_ties (has_number d) w.board.connections v.board.connections (readies w v s).ties;
+  leavers = leavers_ties (is_connection d) w.board.connections v.board.connections (readies w v s).ties;
 }) q
 
 pub seating_notes : (d : ℕ) (f : Change) → Keeps TouchesNotes f → Keeps (Goes acts) f → Seating d f
@@ -126,7 +126,7 @@ seating_notes d f q g = record {
       let v : Live = f w in
       let s = q.law w in
       let same = viewed_again mute tie w.board.connections v.board.connections s.connections in
-      record { objects = s.objects; goes = g.law w; tune = s.tune; numbers = numbers-ties w.board.connections v.board.connections same; leavers = leavers_ties (has_number d) w.board.connections v.board.connections same };
+      record { objects = s.objects; goes = g.law w; tune = s.tune; numbers = numbers-ties w.board.connections v.board.connections same; leavers = leavers_ties (is_connection d) w.board.connections v.board.connections same };
 }
 
 seating_other : (d : ℕ) (f : Connection → Connection) → ((c : Connection) → (f c).number ≡ c.number) → Keeps (Goes acts) (on_board (on_connection d f)) → Seating d (on_board (on_connection d f))
@@ -139,4 +139,4 @@ seating_leave d = seating_other d left (λ c. refl) (record { law = λ w. one (b
 
 pub seating_enter : (d : ℕ) (player : Dbref) → Seating d (enter d player)
 unfolding enter seated_one
-seating_enter d player = seating_other d (seated player) (λ c. refl) (record { law = λ w. one (board _ w (seats d player w.board refl)) })
+seating_enter d player = seating_other d (player_seated player) (λ c. refl) (record { law = λ w. one (board _ w (seats d player w.board refl)) })

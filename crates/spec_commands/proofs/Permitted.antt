@@ -10,25 +10,25 @@ use Rattle.spec_live.specs.Objects.{Entry}
 use Rattle.spec_live.specs.Lives.{Live, reading, unchanged}
 use Rattle.spec_rights.specs.declared.act.Actor.{Actor}
 use Rattle.spec_rights.specs.Verdict.{is_guarded}
-use Rattle.spec_rights.specs.Licence.{Freedom, moving, clearing, oneself}
+use Rattle.spec_rights.specs.Licence.{Freedom, moving_freely, clearing, oneself}
 use Rattle.spec_rights.proofs.Licences.{Own, Proper, Whole, Always, itself, whole_ends, whole_quiet, ends_stays, quiet_unchanged, whole_by}
 use Rattle.spec_commands.specs.declared.outcome.Outcome.{Outcome}
 use Rattle.spec_commands.specs.declared.outcome.Outcome.TheVariants.{Done, NotMine}
 use Rattle.spec_commands.specs.declared.word.PlayWord.{PlayWord}
 use Rattle.spec_commands.specs.declared.word.PlayWord.TheVariants.{Look, Say, Pose, Go, Get, Drop, Home}
-use Rattle.spec_commands.specs.declared.word.Message.{Message}
-use Rattle.spec_commands.specs.declared.word.Message.TheVariants.{Describe, Success, OthersSuccess, Fail, OthersFail, Drop as DropMessage, OthersDrop}
+use Rattle.spec_live.specs.declared.message.Message.{Message}
+use Rattle.spec_live.specs.declared.message.Message.TheVariants.{Describe, Success, OthersSuccess, Fail, OthersFail, Drop as DropMessage, OthersDrop}
 use Rattle.spec_commands.specs.declared.word.BuildWord.{BuildWord}
 use Rattle.spec_commands.specs.declared.shape.Shape.{Shape}
 use Rattle.spec_commands.specs.declared.shape.Arguments.{Arguments}
 use Rattle.spec_commands.specs.declared.word.BuildWord.TheVariants.{Unlink, Recycle, Find, Program, Edit, List as ListWord, Run}
-use Rattle.spec_commands.specs.Finding.{message_path, look_shown, examined}
+use Rattle.spec_commands.specs.Finding.{message_path, look_shown, thing_examined}
 use Rattle.spec_commands.specs.Texts.{first_word, other_words, trimmed}
 use Rattle.spec_commands.specs.Talking.{said, posed, paged, whispered}
-use Rattle.spec_commands.specs.Going.{Play, ended, walked}
+use Rattle.spec_commands.specs.Going.{Play, ended, exit_walked}
 use Rattle.spec_commands.specs.Free.{moves_word, moves_by, free_play, clears_word, clears, free_command, free_through, free_line}
-use Rattle.spec_commands.specs.Reading.{looked_up, by_command, by_table}
-use Rattle.spec_commands.specs.Commands.{play_words, play_shape, line_typed, play_done, signed, play_line, message_name, build_words, build_shape, build_done, build_line, or_next, or_else, commanded, begins_with_sign, through, played}
+use Rattle.spec_commands.specs.Reading.{looked_up, with_command_word, by_table}
+use Rattle.spec_commands.specs.Commands.{play_words, play_shape, line_typed, play_done, said_by_sign, play_line, message_name, build_words, build_shape, build_done, build_line, or_next, play_or_else, commanded, begins_with_sign, through, played}
 use Rattle.spec_commands.proofs.Showing.{seeing, hearing}
 use Rattle.spec_live.proofs.Keeping.{Keeps, keeps_either}
 use Rattle.spec_commands.proofs.Built.{building, link_cleared_open, quiet_find_shown}
@@ -45,13 +45,13 @@ self_free a = same_eq a.player a.player refl
 
 -- what its word is for, where the word may be of builders too
 abbrev WordFree : Bool → PlayWord → Actor → List Entry → Freedom
-WordFree may command a es = clearing may (moving (moves_word (Some command) a es))
+WordFree may command a es = clearing may (moving_freely (moves_word (Some command) a es))
 
 -- most only show
 ruleset showing = (seeing, quiet_inventory_shown)
 
 play_open : (a : Actor) (own : Option ℕ) (may : Bool) (d : ℕ) (typed : Typed) (command : PlayWord) (args : Arguments) → Whole world_of a own (WordFree may command a) Always (play_done d a typed command args)
-unfolding play_done look_shown examined said posed paged whispered
+unfolding play_done look_shown thing_examined said posed paged whispered
 play_open a own may d typed Look args = open_ends a own _ _ (λ now. ends_stays a now None _ (search (hearing, keeps_either)))
 play_open a own may d typed Go args = whole_ends world_of a own _ Always _ (λ w h. went_open a _ d _ (self_free a))
 play_open a own may d typed Get args = whole_ended a own _ Always Done _ (taken_open a own _ d typed _ (λ es x h. h))
@@ -64,7 +64,7 @@ play_lawful a own may d typed command args = record { licence = play_open a own 
 
 -- What builders do.
 
-message_guarded : (message : Message) → is_guarded (class_of (message_path (message_name message))) ≡ true
+pub message_guarded : (message : Message) → is_guarded (class_of (message_path (message_name message))) ≡ true
 message_guarded Describe = refl
 message_guarded Success = refl
 message_guarded OthersSuccess = refl
@@ -113,8 +113,8 @@ pub record Leading (P : Live → Outcome → Type 0) (a : Actor) (own : Option �
   pub left : Left P f
 
 -- what is so of a line and of the next is so where the first leaves to the next what isn't its own
-pub keeps_or : {R : Live → Live × Outcome → Type 0} (P : Live → Outcome → Type 0) (f g : Play) → Left P f → Keeps R f → Keeps R g → Keeps R (or_else f g)
-unfolding or_else
+pub keeps_or : {R : Live → Live × Outcome → Type 0} (P : Live → Outcome → Type 0) (f g : Play) → Left P f → Keeps R f → Keeps R g → Keeps R (play_or_else f g)
+unfolding play_or_else
 keeps_or {R} P f g left p q = record { law = λ w. next_kept (P w) (R w) g w (f w).0 (f w).1 (left.law w) (p.law w) (q.law w) }
 
 leading_lawful : {P : Live → Outcome → Type 0} (a : Actor) (own : Option ℕ) (free : List Entry → Freedom) (f : Play) → Lawful P a own free f → Leading P a own free f
@@ -126,12 +126,12 @@ leading_none P a own free = record { licence = whole_ended a own free Always Not
 
 -- a line that is looked up in a table
 pub leading_found : {C : Type 0} (P : Live → Outcome → Type 0) (a : Actor) (own : Option ℕ) (free : Option C → List Entry → Freedom) (shape_of : C → Shape) (go : C → Arguments → Play) (d : ℕ) (word text : List ℕ) (found : Option C) →
-    ((command : C) (args : Arguments) → Lawful P a own (free (Some command)) (go command args)) → Leading P a own (free found) (by_command shape_of go d a word text found)
+    ((command : C) (args : Arguments) → Lawful P a own (free (Some command)) (go command args)) → Leading P a own (free found) (with_command_word shape_of go d a word text found)
 leading_found P a own free shape_of go d word text None p = leading_none P a own (free None)
 leading_found P a own free shape_of go d word text (Some command) p = leading_lawful a own (free (Some command)) _ (lawful_with a own (free (Some command)) d word (shape_of command) text (go command) (p command))
 
-signed_lawful : (a : Actor) (own : Option ℕ) (may : Bool) (d : ℕ) (command : PlayWord) (word text : List ℕ) → Lawful Untuned a own (WordFree may command a) (signed d a command word text)
-unfolding signed
+signed_lawful : (a : Actor) (own : Option ℕ) (may : Bool) (d : ℕ) (command : PlayWord) (word text : List ℕ) → Lawful Untuned a own (WordFree may command a) (said_by_sign d a command word text)
+unfolding said_by_sign
 signed_lawful a own may d command word text = lawful_with a own (WordFree may command a) d word (play_shape command) text _ (play_lawful a own may d _ command)
 
 pub play_leading : (a : Actor) (own : Option ℕ) (may : Bool) (d : ℕ) (line : List ℕ) → Leading Untuned a own (λ es. clearing may (free_play a line es)) (play_line d a line)
@@ -139,12 +139,12 @@ unfolding play_line by_table free_play
 play_leading a own may d [] = leading_none Untuned a own _
 play_leading a own may d (b ∷ line) = at (b == 34) (b == 58)
   where
-    at : (q r : Bool) → Leading Untuned a own (λ es. clearing may (moving (moves_by (q || r) (looked_up play_words (first_word (trimmed (b ∷ line)))) a es)))
-        (cond q (signed d a Say (codes "say") (trimmed line)) (cond r (signed d a Pose (codes "pose") (trimmed line))
-        (by_command play_shape (play_done d a (line_typed (b ∷ line))) d a (first_word (trimmed (b ∷ line))) (trimmed (other_words (trimmed (b ∷ line)))) (looked_up play_words (first_word (trimmed (b ∷ line)))))))
+    at : (q r : Bool) → Leading Untuned a own (λ es. clearing may (moving_freely (moves_by (q || r) (looked_up play_words (first_word (trimmed (b ∷ line)))) a es)))
+        (cond q (said_by_sign d a Say (codes "say") (trimmed line)) (cond r (said_by_sign d a Pose (codes "pose") (trimmed line))
+        (with_command_word play_shape (play_done d a (line_typed (b ∷ line))) d a (first_word (trimmed (b ∷ line))) (trimmed (other_words (trimmed (b ∷ line)))) (looked_up play_words (first_word (trimmed (b ∷ line)))))))
     at true r = leading_lawful a own _ _ (signed_lawful a own may d Say _ _)
     at false true = leading_lawful a own _ _ (signed_lawful a own may d Pose _ _)
-    at false false = leading_found Untuned a own (λ word es. clearing may (moving (moves_word word a es))) play_shape _ d _ _ (looked_up play_words (first_word (trimmed (b ∷ line)))) (play_lawful a own may d _)
+    at false false = leading_found Untuned a own (λ word es. clearing may (moving_freely (moves_word word a es))) play_shape _ d _ _ (looked_up play_words (first_word (trimmed (b ∷ line)))) (play_lawful a own may d _)
 
 pub build_leading : (a : Actor) (own : Option ℕ) (free : List Entry → Freedom) (d : ℕ) (line : List ℕ) → Leading Untuned a own (λ es. clearing (clears line) (free es)) (build_line d a line)
 unfolding build_line by_table clears
@@ -160,7 +160,7 @@ commanded_leading a own d line = record { licence = keeps_or Untuned _ _ play.le
     build : Leading Untuned a own (free_command a line) (build_line d a line)
     build = build_leading a own (free_play a line) d line
 
-walked_lawful : (a : Actor) (own : Option ℕ) (d : ℕ) (hit : ExitHit) (line : List ℕ) → Lawful Untuned a own (λ es. oneself a) (walked d a hit line)
+walked_lawful : (a : Actor) (own : Option ℕ) (d : ℕ) (hit : ExitHit) (line : List ℕ) → Lawful Untuned a own (λ es. oneself a) (exit_walked d a hit line)
 walked_lawful a own d hit line = record { licence = whole_ends world_of a own _ Always _ (λ w h. walked_open a (oneself a) d hit line (self_free a)); follows = plain_walked d a hit line }
 
 through_leading : (a : Actor) (own : Option ℕ) (d : ℕ) (line : List ℕ) (hit : Option ExitHit) → Leading Untuned a own (free_through false hit a line) (through d a line hit)

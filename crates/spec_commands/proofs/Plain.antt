@@ -2,7 +2,7 @@
 use Rattle.std.proofs.Common.{ℕ, List, Option, Some, None, Result, Ok, Err}
 use Rattle.muck_match.specs.declared.exits.ExitHit.{ExitHit}
 use Rattle.spec_live.specs.declared.fault.DbFault.{DbFault}
-use Rattle.spec_live.specs.Lives.{Live, Change, followed}
+use Rattle.spec_live.specs.Lives.{Live, Change, change_followed}
 use Rattle.spec_live.proofs.Keeping.{Keeps, keeps_reading, keeps_either, keeps_where}
 use Rattle.spec_rights.specs.declared.act.Actor.{Actor}
 use Rattle.spec_rights.proofs.Licences.{keeps_asked}
@@ -14,7 +14,7 @@ use Rattle.spec_commands.specs.declared.word.PlayWord.TheVariants.{Go}
 use Rattle.spec_commands.specs.declared.word.BuildWord.{BuildWord}
 use Rattle.spec_commands.specs.declared.word.BuildWord.TheVariants.{Program}
 use Rattle.spec_commands.specs.declared.shape.Arguments.{Arguments}
-use Rattle.spec_commands.specs.Going.{Play, ended, led, tried, walked, walked_some, went}
+use Rattle.spec_commands.specs.Going.{Play, ended, led, tried, exit_walked, walked_some, player_went}
 use Rattle.spec_commands.specs.Programming.{program_put, program_at, program_new, program_made, program_edited, program_listed, program_run}
 use Rattle.spec_commands.specs.Commands.{play_done, build_done}
 
@@ -42,16 +42,16 @@ plain_ended outcome f h = record { law = h }
 plain_done : (f : Change) → Plain (ended Done f)
 plain_done f = plain_ended Done f (λ w. tt)
 
-plain_followed : (f : Change) (g : Play) → Plain g → Plain (followed f g)
-unfolding followed
+plain_followed : (f : Change) (g : Play) → Plain g → Plain (change_followed f g)
+unfolding change_followed
 plain_followed f g p = record { law = λ w. p.law (f w) }
 
 ruleset plain = (plain_done, plain_ended, plain_followed, keeps_asked, keeps_reading, keeps_either, keeps_where)
 
 -- Going.
 
-pub plain_walked : (d : ℕ) (a : Actor) (hit : ExitHit) (line : List ℕ) → Plain (walked d a hit line)
-unfolding walked tried led
+pub plain_walked : (d : ℕ) (a : Actor) (hit : ExitHit) (line : List ℕ) → Plain (exit_walked d a hit line)
+unfolding exit_walked tried led
 plain_walked d a hit line = search plain depth 9
 
 plain_some : (d : ℕ) (a : Actor) (line : List ℕ) (hit : Option ExitHit) → Plain (walked_some d a line hit)
@@ -59,7 +59,7 @@ plain_some d a line None = plain_done _
 plain_some d a line (Some hit) = plain_walked d a hit line
 
 pub plain_play : (d : ℕ) (a : Actor) (typed : Typed) (command : PlayWord) (args : Arguments) → Plain (play_done d a typed command args)
-unfolding play_done went
+unfolding play_done player_went
 plain_play d a typed Go args = search (plain, plain_some)
 plain_play d a typed command args = search plain
 

@@ -8,7 +8,7 @@ use Rattle.spec_live.specs.declared.fault.DbFault.{DbFault}
 use Rattle.spec_live.specs.Objects.{Entry}
 use Rattle.spec_live.specs.Making.{create_check}
 use Rattle.spec_live.specs.Setting.{with_level}
-use Rattle.spec_live.specs.Lives.{Live, followed, ◌▸◌, reading, tell}
+use Rattle.spec_live.specs.Lives.{Live, change_followed, ◌▸◌, reading, tell}
 use Rattle.spec_rights.specs.declared.act.Actor.{Actor}
 use Rattle.spec_rights.specs.declared.act.Act.TheVariants.{NewProgram}
 use Rattle.spec_rights.specs.Verdict.{verdict}
@@ -37,7 +37,7 @@ ruleset programming = (permitting, ends_ended, quiet_lines_shown)
 -- Making.
 
 ends_program_new : (a : Actor) (free : Freedom) (d : ℕ) (name : List ℕ) → Ends world_of a free (Some NewProgram) (program_new d a name)
-unfolding program_new program_put reading ended followed
+unfolding program_new program_put reading ended change_followed
 ends_program_new a free d name = ends_by _ (λ start w s g. at start w s g (create_check Program a.user a.player w.objects) refl)
   where
     at : (start : List Entry) (w : Live) → SameRights start w.objects → verdict w.objects a NewProgram ≡ None → (check : Result (ℕ × ℕ) DbFault) → create_check Program a.user a.player w.objects ≡ check →

@@ -12,13 +12,13 @@ use Rattle.spec_rights.specs.declared.act.Act.{Act}
 use Rattle.spec_rights.proofs.Permitted.{staying}
 use Rattle.spec_live.proofs.Lives.{Loose}
 use Rattle.spec_rights.proofs.Licences.{Quiet, Stays, Whole, whole_told, quiet_unchanged, quiet_order, whole_by, stays_by, stays_quiet, stay_both, stay_rights}
-use Rattle.spec_mpi.specs.Messages.{heard, variables_of, shown as shown_of, spoken as said_of}
+use Rattle.spec_mpi.specs.Messages.{formula_heard, variables_of, answer_shown as shown_of, message_spoken as said_of}
 use Rattle.spec_mpi.proofs.Leave.{stays_heard}
 use Rattle.spec_commands.specs.declared.typed.Typed.{Typed}
-use Rattle.spec_commands.specs.declared.word.Message.{Message}
-use Rattle.spec_commands.specs.Messages.{message_how, spoken, spoken_some, with_message}
+use Rattle.spec_live.specs.declared.message.Message.{Message}
+use Rattle.spec_commands.specs.Messages.{message_how, text_spoken, spoken_some, with_message}
 use Rattle.spec_commands.specs.declared.presence.Presence.{Presence}
-use Rattle.spec_commands.specs.Finding.{each, chosen, finding, named_player, finding_player, where_so, finding_object, shown_others, message_or, message_shown, message_to_others, listed, listed_under, room_shown, looked, owner_shown}
+use Rattle.spec_commands.specs.Finding.{for_each, object_chosen, finding, named_player, finding_player, where_so, finding_object, shown_others, message_or, message_shown, message_to_others, names_listed, listed_under, room_shown, place_looked_at, owner_shown}
 use Rattle.spec_commands.specs.Talking.{said_to, presence_shown, who_shown}
 use Rattle.spec_live.proofs.Keeping.{Keeps, keeps_followed, keeps_reading, keeps_where}
 use Rattle.spec_commands.specs.Talk.{waits}
@@ -34,21 +34,21 @@ whole_where out a own free given test otherwise go p q = whole_told out a own fr
     at true = whole_by _ (λ w. (q.law w).law)
     at false = whole_by _ (λ w c h. (p.law w).law c h.0)
 
-pub quiet_each : {X : Type 0} (go : X → Change) (xs : List X) → ((x : X) → Quiet (go x)) → Quiet (each go xs)
-unfolding each
+pub quiet_each : {X : Type 0} (go : X → Change) (xs : List X) → ((x : X) → Quiet (go x)) → Quiet (for_each go xs)
+unfolding for_each
 quiet_each go [] q = quiet_unchanged
-quiet_each go (x ∷ xs) q = keeps_followed (go x) (each go xs) quiet_order (q x) (quiet_each go xs q)
+quiet_each go (x ∷ xs) q = keeps_followed (go x) (for_each go xs) quiet_order (q x) (quiet_each go xs q)
 
 -- Finding.
 
-keeps_chosen : {W Y : Type 0} {R : W → Y → Type 0} (refuse : List ℕ → W → Y) (text : List ℕ) (go : Dbref → W → Y) (hit : Found) → ((t : List ℕ) → Keeps R (refuse t)) → ((x : Dbref) → Keeps R (go x)) → Keeps R (chosen refuse text go hit)
+keeps_chosen : {W Y : Type 0} {R : W → Y → Type 0} (refuse : List ℕ → W → Y) (text : List ℕ) (go : Dbref → W → Y) (hit : Found) → ((t : List ℕ) → Keeps R (refuse t)) → ((x : Dbref) → Keeps R (go x)) → Keeps R (object_chosen refuse text go hit)
 keeps_chosen refuse text go (One x) p q = q x
 keeps_chosen refuse text go Nobody p q = p _
 keeps_chosen refuse text go Many p q = p _
 
 pub keeps_finding : {Y : Type 0} {R : Live → Y → Type 0} (refuse : List ℕ → Live → Y) (player : Dbref) (text : List ℕ) (go : Dbref → Live → Y) → ((t : List ℕ) → Keeps R (refuse t)) → ((x : Dbref) → Keeps R (go x)) → Keeps R (finding refuse player text go)
 unfolding finding
-keeps_finding refuse player text go p q = keeps_reading _ (chosen refuse text go) (λ hit. keeps_chosen refuse text go hit p q)
+keeps_finding refuse player text go p q = keeps_reading _ (object_chosen refuse text go) (λ hit. keeps_chosen refuse text go hit p q)
 
 keeps_named : {W Y : Type 0} {R : W → Y → Type 0} (refuse : List ℕ → W → Y) (name : List ℕ) (go : Dbref → W → Y) (hit : Option Dbref) → ((t : List ℕ) → Keeps R (refuse t)) → ((x : Dbref) → Keeps R (go x)) → Keeps R (named_player refuse name go hit)
 keeps_named refuse name go (Some x) p q = q x
@@ -68,10 +68,10 @@ pub ruleset finds = (keeps_where, keeps_finding, keeps_finding_player, keeps_fin
 -- Messages.
 
 -- what is spoken changes what its player may change by it, and then what is done with it
-stays_spoken : (a : Actor) (free : Freedom) (given : Option Act) (x : Dbref) (how : List ℕ) (typed : Typed) (text : List ℕ) (go : List ℕ → Change) → ((t : List ℕ) → Stays a free None (go t)) → Stays a free given (spoken a x how typed text go)
-unfolding spoken said_of
+stays_spoken : (a : Actor) (free : Freedom) (given : Option Act) (x : Dbref) (how : List ℕ) (typed : Typed) (text : List ℕ) (go : List ℕ → Change) → ((t : List ℕ) → Stays a free None (go t)) → Stays a free given (text_spoken a x how typed text go)
+unfolding text_spoken said_of
 stays_spoken a free given x how typed text go q = stays_by _ (λ start w r h.
-    let said = heard a x text (variables_of how typed.word typed.rest) w in
+    let said = formula_heard a x text (variables_of how typed.word typed.rest) w in
     let first = ((stays_heard a free x text (variables_of how typed.word typed.rest)).law w).law start r tt in
     stay_both _ _ _ _ first (((q (shown_of said.0)).law said.1).law start (stay_rights _ start w said.1 r first) tt))
 
@@ -102,8 +102,8 @@ stays_message_to_others a free given typed m x = search (shown, stays_with_messa
 
 -- Looking.
 
-pub quiet_listed : (d : ℕ) (player : Dbref) (xs : List Dbref) → Quiet (listed d player xs)
-unfolding listed
+pub quiet_listed : (d : ℕ) (player : Dbref) (xs : List Dbref) → Quiet (names_listed d player xs)
+unfolding names_listed
 quiet_listed d player [] = search shown
 quiet_listed d player (x ∷ xs) = keeps_followed _ _ quiet_order (search shown) (quiet_listed d player xs)
 
@@ -116,8 +116,8 @@ pub stays_room_shown : (a : Actor) (free : Freedom) (given : Option Act) (d : �
 unfolding room_shown
 stays_room_shown a free given d typed room = search (staying, stays_message_shown, quiet_listed_under) depth 9
 
-pub stays_looked : (a : Actor) (free : Freedom) (given : Option Act) (d : ℕ) (typed : Typed) → Stays a free given (looked d a typed)
-unfolding looked
+pub stays_looked : (a : Actor) (free : Freedom) (given : Option Act) (d : ℕ) (typed : Typed) → Stays a free given (place_looked_at d a typed)
+unfolding place_looked_at
 stays_looked a free given d typed = search (staying, stays_room_shown)
 
 pub quiet_owner_shown : (d : ℕ) (x : Dbref) → Quiet (owner_shown d x)

@@ -10,7 +10,7 @@ use Rattle.muck_model.specs.declared.edit.EditState.{EditState}
 use Rattle.spec_live.specs.declared.object.Object.{Object}
 use Rattle.spec_live.specs.Objects.{Entry, dbref_of, is_garbage, object_in, kind_in, mark_in, number_in, object_at}
 use Rattle.spec_live.specs.Setting.{with_lines, lines_set}
-use Rattle.spec_live.specs.Lives.{Live, Change, followed, reading, either, where_so, unchanged, tell}
+use Rattle.spec_live.specs.Lives.{Live, Change, change_followed, reading, either, where_so, unchanged, tell}
 use Rattle.spec_live.proofs.Keeping.{Keeps, keeps_more, keeps_after}
 use Rattle.spec_live.proofs.Readers.{mark_elsewhere}
 use Rattle.spec_rights.specs.declared.act.Actor.{Actor}
@@ -25,7 +25,7 @@ use Rattle.spec_commands.specs.declared.edit.EditCommand.TheVariants.{Insert, De
 use Rattle.spec_commands.specs.declared.edit.EditStep.{EditStep}
 use Rattle.spec_commands.specs.declared.edit.EditStep.TheVariants.{Stay, Compile as ToCompile, Left}
 use Rattle.spec_commands.specs.Programming.{source_of}
-use Rattle.spec_commands.specs.Editing.{exiting, illegal, editor_exited, edit_command, lines_most, stepped, with_line, line_inserted, same_lines, source_kept, edit_done, edit_some, edited_at, edited}
+use Rattle.spec_commands.specs.Editing.{exiting, illegal, editor_exited, edit_command, lines_most, editing_stepped, with_line, line_inserted, same_lines, source_kept, edit_done, edit_some, edited_at, edited_by_line}
 use Rattle.spec_commands.proofs.Edited.{world_of}
 use Rattle.spec_commands.proofs.Programmed.{quiet_lines_shown}
 
@@ -44,7 +44,7 @@ rewrites_quiet : (f : Change) → Quiet f → Keeps Rewrites f
 rewrites_quiet f q = keeps_more f (λ w v s. record { marks = λ n. inl (ap (λ os. mark_in os n) s.objects) }) q
 
 -- behind it some text is shown
-rewrites_told : (f g : Change) → Keeps Rewrites f → Quiet g → Keeps Rewrites (followed f g)
+rewrites_told : (f g : Change) → Keeps Rewrites f → Quiet g → Keeps Rewrites (change_followed f g)
 rewrites_told f g p q = keeps_after f g (λ w v u r s. record {
   marks = λ n.
       let P : List Entry → Type 0 = λ os. (mark_in os n ≡ mark_in w.objects n) ⊎ (option_map_or (λ o. o.lines) (object_at (dbref_of n) os) [] ≡ source_of (dbref_of n) w → ⊥) in
@@ -109,11 +109,11 @@ rewrites_kept program lines = record { law = λ w. at w (same_lines (source_of p
 
 -- A line of the editor.
 
-edits_stepped : (step : EditStep) (s : EditState) (f : Change) → Keeps Rewrites f → Editing (stepped step s f)
-unfolding stepped
+edits_stepped : (step : EditStep) (s : EditState) (f : Change) → Keeps Rewrites f → Editing (editing_stepped step s f)
+unfolding editing_stepped
 edits_stepped step s f p = record { law = λ w. p.law w }
 
-edits_quiet : (step : EditStep) (s : EditState) (f : Change) → Quiet f → Editing (stepped step s f)
+edits_quiet : (step : EditStep) (s : EditState) (f : Change) → Quiet f → Editing (editing_stepped step s f)
 edits_quiet step s f q = edits_stepped step s f (rewrites_quiet f q)
 
 edits_done : (a : Actor) (d : ℕ) (s : EditState) (command : EditCommand) → Editing (edit_done d a s command)
@@ -130,13 +130,13 @@ edits_inserted : (d : ℕ) (s : EditState) (at : ℕ) (line : List ℕ) → Edit
 unfolding line_inserted
 edits_inserted d s at line = by_cases (bytes_eq line (codes ".")) (nat_lt (length s.lines) lines_most)
   where
-    by_cases : (b c : Bool) → Editing (cond b (stepped Stay (record s { inserting = None }) (tell d exiting)) (cond c (stepped Stay (with_line at line s) unchanged) (stepped Stay s (tell d illegal))))
+    by_cases : (b c : Bool) → Editing (cond b (editing_stepped Stay (record s { inserting = None }) (tell d exiting)) (cond c (editing_stepped Stay (with_line at line s) unchanged) (editing_stepped Stay s (tell d illegal))))
     by_cases true c = edits_quiet _ _ _ (quiet_tell d exiting)
     by_cases false true = edits_quiet _ _ _ quiet_unchanged
     by_cases false false = edits_quiet _ _ _ (quiet_tell d illegal)
 
-pub edited_rewrites : (d : ℕ) (a : Actor) (s : EditState) (line : List ℕ) → Editing (edited d a s line)
-unfolding edited
+pub edited_rewrites : (d : ℕ) (a : Actor) (s : EditState) (line : List ℕ) → Editing (edited_by_line d a s line)
+unfolding edited_by_line
 edited_rewrites d a s line = by_place s.inserting
   where
     some : (command : Option EditCommand) → Editing (edit_some d a s command)

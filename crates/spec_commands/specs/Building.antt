@@ -12,15 +12,15 @@ use Rattle.muck_prop.specs.declared.value.PropValue.TheVariants.{Text}
 use Rattle.muck_match.specs.Words.{is_same}
 use Rattle.muck_match.specs.declared.naming.Found.{Found}
 use Rattle.muck_match.specs.declared.naming.Found.TheVariants.{One}
-use Rattle.muck_match.specs.Naming.{found, player_named}
+use Rattle.muck_match.specs.Naming.{thing_found, player_named}
 use Rattle.muck_lock.specs.Naming.{Naming, naming}
 use Rattle.muck_lock.specs.Grammar.{lock_of}
-use Rattle.muck_lock.specs.Printed.{printed}
+use Rattle.muck_lock.specs.Printed.{lock_printed}
 use Rattle.spec_live.specs.declared.fault.DbFault.{DbFault}
 use Rattle.spec_live.specs.declared.object.Object.{Object}
 use Rattle.spec_live.specs.Objects.{Entry, dbref_of, nothing, home, same, is_thing, is_player, is_program, object_at}
 use Rattle.spec_live.specs.Making.{create_check}
-use Rattle.spec_live.specs.Setting.{any, checked, with_link, with_home, link_check, home_check, owner_check, may_link, may_live}
+use Rattle.spec_live.specs.Setting.{every_number, checked, with_link, with_home, link_check, home_check, owner_check, may_link, may_live}
 use Rattle.spec_live.specs.Recycling.{recycle_check}
 use Rattle.spec_live.specs.Seen.{scenery_of, long_form}
 use Rattle.spec_live.specs.Lives.{Live, Change, ◌▸◌, reading, either, tell, place_at}
@@ -28,11 +28,11 @@ use Rattle.spec_rights.specs.declared.act.Actor.{Actor}
 use Rattle.spec_rights.specs.declared.act.Act.{Act}
 use Rattle.spec_rights.specs.declared.act.Act.TheVariants.{Move, Link, NewRoom, NewThing, NewExit, Change as ChangeAct, Rename, Recycle, SetOwner}
 use Rattle.spec_rights.specs.Asking.{asked, refused}
-use Rattle.spec_rights.specs.Changing.{moved_to, named, linked, homed, owned_by, stored, recycled_now, created_so}
+use Rattle.spec_rights.specs.Changing.{moved_to, name_given, linked, homed, object_owned_by, property_stored, recycled_now, created_so}
 use Rattle.spec_commands.specs.declared.new.New.{New}
 use Rattle.spec_commands.specs.declared.new.New.TheVariants.{Room, Thing, Exit}
 use Rattle.spec_commands.specs.Replies.{cant_be_done, bad_name, bad_key, created_reply, linked_reply, unlinked_reply, named_reply, locked_reply, teleported_reply, recycled_reply, chowned_reply, found_count}
-use Rattle.spec_commands.specs.Finding.{where_so, is_so, message_path, listed}
+use Rattle.spec_commands.specs.Finding.{where_so, is_object_so, message_path, names_listed}
 use Rattle.spec_commands.specs.Going.{may_move, movable, home_at}
 
 -- Names.
@@ -75,17 +75,17 @@ making d a kind name place f =
 
 -- a thing may have its home there
 abbrev pub may_house : Dbref → Live → Bool
-may_house to w = is_so (λ o. may_live ThingKind o.kind) to w
+may_house to w = is_object_so (λ o. may_live ThingKind o.kind) to w
 
 -- an exit may lead there
 abbrev pub may_lead : Dbref → Live → Bool
-may_lead to w = same to home || (same to nothing || is_so (λ o. may_link ExitKind o.kind) to w)
+may_lead to w = same to home || (same to nothing || is_object_so (λ o. may_link ExitKind o.kind) to w)
 
 -- what is to be made: its kind, the field that is set at once, and what that may be; and the act by which it is asked
-abbrev pub kind_of : New → Kind
-kind_of Room = RoomKind
-kind_of (Thing at) = ThingKind
-kind_of (Exit to) = ExitKind
+abbrev pub kind_made : New → Kind
+kind_made Room = RoomKind
+kind_made (Thing at) = ThingKind
+kind_made (Exit to) = ExitKind
 
 abbrev pub as_new : New → Object → Object
 as_new Room = λ o. o
@@ -103,18 +103,18 @@ act_in place (Thing at) = NewThing place
 act_in place (Exit to) = NewExit place to
 
 -- it is made in a place, where neither a rule nor the world denies it
-unfoldable pub made : ℕ → Actor → New → List ℕ → Dbref → Change
-made d a new name place =
+unfoldable pub object_made : ℕ → Actor → New → List ℕ → Dbref → Change
+object_made d a new name place =
     asked a (act_in place new) (refused d)
-    (where_so (may_be new) (tell d cant_be_done) (making d a (kind_of new) name place (as_new new)))
+    (where_so (may_be new) (tell d cant_be_done) (making d a (kind_made new) name place (as_new new)))
 
 -- `@create`: a thing that the player carries, whose home is the player's
 unfoldable pub thing_made : ℕ → Actor → List ℕ → Change
-thing_made d a name = reading (home_at a.player) (λ at. made d a (Thing at) name a.player)
+thing_made d a name = reading (home_at a.player) (λ at. object_made d a (Thing at) name a.player)
 
 -- `@open`: an exit where the player is
 unfoldable pub exit_opened : ℕ → Actor → List ℕ → Dbref → Change
-exit_opened d a name to = reading (place_at a.player) (λ here. made d a (Exit to) name here)
+exit_opened d a name to = reading (place_at a.player) (λ here. object_made d a (Exit to) name here)
 
 -- Writing, which a rule or the world may refuse.
 
@@ -123,50 +123,50 @@ unfoldable pub done_where : ℕ → (Live → Bool) → Change → List ℕ → 
 done_where d may change reply = where_so may (tell d cant_be_done) (change ▸ tell d reply)
 
 -- the rules are asked first
-unfoldable pub written : ℕ → Actor → Act → (Live → Bool) → Change → List ℕ → Change
-written d a act may change reply = asked a act (refused d) (done_where d may change reply)
+unfoldable pub change_by_leave : ℕ → Actor → Act → (Live → Bool) → Change → List ℕ → Change
+change_by_leave d a act may change reply = asked a act (refused d) (done_where d may change reply)
 
 -- Links and homes.
 
 -- exits and rooms have a link, things and players a home
-abbrev pub has_home : Dbref → Live → Bool
-has_home x w = is_so (λ o. is_thing o.kind || is_player o.kind) x w
+abbrev pub object_has_home : Dbref → Live → Bool
+object_has_home x w = is_object_so (λ o. is_thing o.kind || is_player o.kind) x w
 
 abbrev pub is_linkable : Dbref → Live → Bool
-is_linkable x w = is_so (λ o. not (is_program o.kind)) x w
+is_linkable x w = is_object_so (λ o. not (is_program o.kind)) x w
 
 -- a link, or the home of what has one
 abbrev pub may_tie : Dbref → Dbref → Dbref → Live → Bool
-may_tie x link at w = if has_home x w then allowed (home_check x at w.objects) else allowed (link_check x link w.objects)
+may_tie x link at w = if object_has_home x w then allowed (home_check x at w.objects) else allowed (link_check x link w.objects)
 
 unfoldable pub tied : Dbref → Dbref → Dbref → Change
-tied x link at = reading (has_home x) (λ b. either b (homed x at) (linked x link))
+tied x link at = reading (object_has_home x) (λ b. either b (homed x at) (linked x link))
 
 -- `@link`
 unfoldable pub link_set : ℕ → Actor → Dbref → Dbref → Change
-link_set d a x to = where_so (is_linkable x) (tell d cant_be_done) (written d a (Link x to) (may_tie x to to) (tied x to to) linked_reply)
+link_set d a x to = where_so (is_linkable x) (tell d cant_be_done) (change_by_leave d a (Link x to) (may_tie x to to) (tied x to to) linked_reply)
 
 -- `@unlink`: a link is cleared, and a home becomes `#0`
 unfoldable pub link_cleared : ℕ → Actor → Dbref → Change
 link_cleared d a x =
-    where_so (is_linkable x) (tell d cant_be_done) (written d a (Link x nothing) (may_tie x nothing (dbref_of 0)) (tied x nothing (dbref_of 0)) unlinked_reply)
+    where_so (is_linkable x) (tell d cant_be_done) (change_by_leave d a (Link x nothing) (may_tie x nothing (dbref_of 0)) (tied x nothing (dbref_of 0)) unlinked_reply)
 
 -- Names, messages and locks.
 
 -- a player has a name that no other has
 abbrev pub may_be_called : Dbref → List ℕ → Live → Bool
-may_be_called x name w = if is_so (λ o. is_player o.kind) x w then is_player_name w.objects name else is_name name
+may_be_called x name w = if is_object_so (λ o. is_player o.kind) x w then is_player_name w.objects name else is_name name
 
-abbrev pub is_there : Dbref → Live → Bool
-is_there x w = allowed (checked any x w.objects)
+abbrev pub is_still_there : Dbref → Live → Bool
+is_still_there x w = allowed (checked every_number x w.objects)
 
 -- `@name`
 unfoldable pub name_set : ℕ → Actor → Dbref → List ℕ → Change
-name_set d a x name = where_so (may_be_called x name) (tell d bad_name) (written d a (Rename x) (is_there x) (named x name) named_reply)
+name_set d a x name = where_so (may_be_called x name) (tell d bad_name) (change_by_leave d a (Rename x) (is_still_there x) (name_given x name) named_reply)
 
 -- a message or a lock is kept; an empty text clears it
-unfoldable pub kept : ℕ → Actor → Dbref → List ℕ → List ℕ → List ℕ → Change
-kept d a x word text reply = written d a (ChangeAct x) (is_there x) (stored x (message_path word) (Text text)) reply
+unfoldable pub text_kept : ℕ → Actor → Dbref → List ℕ → List ℕ → List ℕ → Change
+text_kept d a x word text reply = change_by_leave d a (ChangeAct x) (is_still_there x) (property_stored x (message_path word) (Text text)) reply
 
 -- the names in a key are found by the player, and no program is a key
 abbrev pub found_one : Found → Option Dbref
@@ -174,21 +174,21 @@ found_one (One x) = Some x
 found_one found = None
 
 abbrev pub keys_in : List Entry → Dbref → Naming
-keys_in es player = naming (λ name. found_one (found (scenery_of es) player name)) (λ x. option_map_or (λ o. is_program o.kind) (object_at x es) false)
+keys_in es player = naming (λ name. found_one (thing_found (scenery_of es) player name)) (λ x. option_map_or (λ o. is_program o.kind) (object_at x es) false)
 
 abbrev pub key_names : Live → Dbref → Naming
 key_names w player = keys_in w.objects player
 
 -- the text that is kept of a key: the lock as it is printed, where that isn't too long
 abbrev pub key_kept : Result Lock ℕ → Option (List ℕ)
-key_kept (Ok lock) = if nat_le (length (printed lock)) text_most then Some (printed lock) else None
+key_kept (Ok lock) = if nat_le (length (lock_printed lock)) text_most then Some (lock_printed lock) else None
 key_kept (Err at) = None
 
 abbrev pub key_read : Dbref → List ℕ → Live → Option (List ℕ)
 key_read player key w = key_kept (lock_of (key_names w player) key)
 
 abbrev pub lock_kept : ℕ → Dbref → Option (List ℕ) → Change
-lock_kept d x (Some text) = done_where d (is_there x) (stored x (message_path (codes "lok")) (Text text)) locked_reply
+lock_kept d x (Some text) = done_where d (is_still_there x) (property_stored x (message_path (codes "lok")) (Text text)) locked_reply
 lock_kept d x None = tell d bad_key
 
 -- `@lock`
@@ -201,35 +201,35 @@ lock_set d a x key = asked a (ChangeAct x) (refused d) (reading (key_read a.play
 abbrev pub meant_place : Dbref → Dbref → Live → Dbref
 meant_place x to w = if same to home then home_at x w else to
 
-unfoldable pub placed : Dbref → Dbref → Change
-placed x to = reading (meant_place x to) (λ place. moved_to x place)
+unfoldable pub object_placed : Dbref → Dbref → Change
+object_placed x to = reading (meant_place x to) (λ place. moved_to x place)
 
 -- `@teleport`
 unfoldable pub teleported : ℕ → Actor → Dbref → Dbref → Change
-teleported d a x to = written d a (Move x to) (λ w. movable x (meant_place x to w) w) (placed x to) teleported_reply
+teleported d a x to = change_by_leave d a (Move x to) (λ w. movable x (meant_place x to w) w) (object_placed x to) teleported_reply
 
 -- `@recycle`
-unfoldable pub recycled : ℕ → Actor → Dbref → Change
-recycled d a x = written d a (Recycle x) (λ w. allowed (recycle_check x w.objects)) (recycled_now x) recycled_reply
+unfoldable pub recycled_by_command : ℕ → Actor → Dbref → Change
+recycled_by_command d a x = change_by_leave d a (Recycle x) (λ w. allowed (recycle_check x w.objects)) (recycled_now x) recycled_reply
 
 -- `@chown`
 unfoldable pub chowned : ℕ → Actor → Dbref → Dbref → Change
-chowned d a x owner = written d a (SetOwner x owner) (λ w. allowed (owner_check x owner w.objects)) (owned_by x owner) chowned_reply
+chowned d a x owner = change_by_leave d a (SetOwner x owner) (λ w. allowed (owner_check x owner w.objects)) (object_owned_by x owner) chowned_reply
 
 -- Looking things up.
 
 -- the first text stands in the second, without regard to case
-abbrev pub begins : List ℕ → List ℕ → Bool
-begins [] text = true
-begins (b ∷ part) [] = false
-begins (b ∷ part) (c ∷ text) = b == c && begins part text
+abbrev pub text_begins : List ℕ → List ℕ → Bool
+text_begins [] text = true
+text_begins (b ∷ part) [] = false
+text_begins (b ∷ part) (c ∷ text) = b == c && text_begins part text
 
-abbrev pub stands_in : List ℕ → List ℕ → Bool
-stands_in part [] = begins part []
-stands_in part (c ∷ text) = begins part (c ∷ text) || stands_in part text
+abbrev pub text_stands_in : List ℕ → List ℕ → Bool
+text_stands_in part [] = text_begins part []
+text_stands_in part (c ∷ text) = text_begins part (c ∷ text) || text_stands_in part text
 
 unfoldable pub holds_name : List ℕ → List ℕ → Bool
-holds_name part name = stands_in (map to_ascii_lowercase part) (map to_ascii_lowercase name)
+holds_name part name = text_stands_in (map to_ascii_lowercase part) (map to_ascii_lowercase name)
 
 -- the user's objects whose name holds the text, by number, where the first number is n
 unfoldable pub owned_named : Dbref → List ℕ → ℕ → List Entry → List Dbref
@@ -244,4 +244,4 @@ owned_named user part n (e ∷ es) =
 
 -- `@find`
 unfoldable pub find_shown : ℕ → Actor → List ℕ → Change
-find_shown d a part = reading (λ w. owned_named a.user part 0 w.objects) (λ xs. listed d a.player xs ▸ tell d (found_count (length xs)))
+find_shown d a part = reading (λ w. owned_named a.user part 0 w.objects) (λ xs. names_listed d a.player xs ▸ tell d (found_count (length xs)))

@@ -18,14 +18,14 @@ use Rattle.spec_commands.specs.declared.edit.EditStep.{EditStep}
 use Rattle.spec_commands.specs.declared.edit.EditStep.TheVariants.{Stay, Compile as ToCompile, Left}
 use Rattle.spec_commands.specs.Texts.{first_word, other_words, trimmed, is_alike}
 use Rattle.spec_commands.specs.Finding.{where_so}
-use Rattle.spec_commands.specs.Going.{is_program_at}
+use Rattle.spec_commands.specs.Going.{is_program_there}
 use Rattle.spec_commands.specs.Programming.{source_of, lines_shown}
 use Rattle.spec_commands.specs.Reading.{is_empty}
 
 -- Replies.
 
-unfoldable pub entering : List ℕ
-entering = codes "Entering insert mode."
+unfoldable pub entering_reply : List ℕ
+entering_reply = codes "Entering insert mode."
 
 unfoldable pub exiting : List ℕ
 exiting = codes "Exiting insert mode."
@@ -91,8 +91,8 @@ edit_command count line =
 abbrev pub Editing : Type 0
 Editing = Live → Live × EditState × EditStep
 
-unfoldable pub stepped : EditStep → EditState → Change → Editing
-stepped step s f w = (f w, s, step)
+unfoldable pub editing_stepped : EditStep → EditState → Change → Editing
+editing_stepped step s f w = (f w, s, step)
 
 abbrev pub with_line : ℕ → List ℕ → EditState → EditState
 with_line at line s = record s { lines = insert s.lines at line; inserting = Some (at + 1) }
@@ -100,9 +100,9 @@ with_line at line s = record s { lines = insert s.lines at line; inserting = Som
 -- while lines are inserted each is one of the source, up to a `.`
 unfoldable pub line_inserted : ℕ → EditState → ℕ → List ℕ → Editing
 line_inserted d s at line =
-    if bytes_eq line (codes ".") then stepped Stay (record s { inserting = None }) (tell d exiting)
-    else if nat_lt (length s.lines) lines_most then stepped Stay (with_line at line s) unchanged
-    else stepped Stay s (tell d illegal)
+    if bytes_eq line (codes ".") then editing_stepped Stay (record s { inserting = None }) (tell d exiting)
+    else if nat_lt (length s.lines) lines_most then editing_stepped Stay (with_line at line s) unchanged
+    else editing_stepped Stay s (tell d illegal)
 
 -- two sources are the same
 abbrev pub same_lines : List (List ℕ) → List (List ℕ) → Bool
@@ -113,14 +113,14 @@ unfoldable pub source_kept : Dbref → List (List ℕ) → Change
 source_kept program lines = where_so (λ w. same_lines (source_of program w) lines) (lines_kept program lines) unchanged
 
 unfoldable pub edit_done : ℕ → Actor → EditState → EditCommand → Editing
-edit_done d a s (Insert at) = stepped Stay (record s { inserting = Some at }) (tell d entering)
-edit_done d a s (Delete from to) = stepped Stay (record s { lines = remove_range s.lines from to }) (tell d deleted_reply)
-edit_done d a s (Show from to) = stepped Stay s (lines_shown d (slice_range s.lines from to))
-edit_done d a s Compile = asked a (Edit s.program) (λ denial. stepped Stay s (refused d denial)) (stepped ToCompile s (source_kept s.program s.lines))
-edit_done d a s Quit = asked a (Edit s.program) (λ denial. stepped Left s (refused d denial ▸ tell d editor_exited)) (stepped Left s (source_kept s.program s.lines ▸ tell d editor_exited))
+edit_done d a s (Insert at) = editing_stepped Stay (record s { inserting = Some at }) (tell d entering_reply)
+edit_done d a s (Delete from to) = editing_stepped Stay (record s { lines = remove_range s.lines from to }) (tell d deleted_reply)
+edit_done d a s (Show from to) = editing_stepped Stay s (lines_shown d (slice_range s.lines from to))
+edit_done d a s Compile = asked a (Edit s.program) (λ denial. editing_stepped Stay s (refused d denial)) (editing_stepped ToCompile s (source_kept s.program s.lines))
+edit_done d a s Quit = asked a (Edit s.program) (λ denial. editing_stepped Left s (refused d denial ▸ tell d editor_exited)) (editing_stepped Left s (source_kept s.program s.lines ▸ tell d editor_exited))
 
 abbrev pub edit_some : ℕ → Actor → EditState → Option EditCommand → Editing
-edit_some d a s None = stepped Stay s (tell d illegal)
+edit_some d a s None = editing_stepped Stay s (tell d illegal)
 edit_some d a s (Some command) = edit_done d a s command
 
 abbrev pub edited_at : ℕ → Actor → EditState → List ℕ → Option ℕ → Editing
@@ -128,20 +128,20 @@ edited_at d a s line (Some at) = line_inserted d s at line
 edited_at d a s line None = edit_some d a s (edit_command (length s.lines) line)
 
 -- a line that comes from the connection d to the editor of an actor
-unfoldable pub edited : ℕ → Actor → EditState → List ℕ → Editing
-edited d a s line = edited_at d a s line s.inserting
+unfoldable pub edited_by_line : ℕ → Actor → EditState → List ℕ → Editing
+edited_by_line d a s line = edited_at d a s line s.inserting
 
 -- An editor that is open: its program is there, its lines are not too many, and lines are inserted between them.
 pub record IsOpen (s : EditState) (w : Live) : Type 0 where
-  pub program : is_program_at s.program w ≡ true
+  pub program : is_program_there s.program w ≡ true
   pub few : length s.lines ≤ lines_most
   pub within : IfSome s.inserting (λ at. at ≤ length s.lines)
 
 -- the same, as it is asked
 
 -- lines are inserted between the lines, where they are
-abbrev pub is_between : EditState → Bool
-is_between s = option_map_or (λ at. nat_le at (length s.lines)) s.inserting true
+abbrev pub inserts_between : EditState → Bool
+inserts_between s = option_map_or (λ at. nat_le at (length s.lines)) s.inserting true
 
-abbrev pub is_open : EditState → Live → Bool
-is_open s w = is_program_at s.program w && (nat_le (length s.lines) lines_most && is_between s)
+abbrev pub is_editor_open : EditState → Live → Bool
+is_editor_open s w = is_program_there s.program w && (nat_le (length s.lines) lines_most && inserts_between s)

@@ -5,7 +5,7 @@ use Rattle.std.specs.List.{filter}
 use Rattle.muck_model.specs.declared.dbref.Dbref.{Dbref}
 use Rattle.muck_match.specs.declared.naming.Found.{Found}
 use Rattle.muck_match.specs.declared.naming.Found.TheVariants.{One, None as Nobody, Many}
-use Rattle.muck_match.specs.Naming.{found, player_named}
+use Rattle.muck_match.specs.Naming.{thing_found, player_named}
 use Rattle.spec_live.specs.declared.object.Object.{Object}
 use Rattle.spec_live.specs.Flags.{dark}
 use Rattle.spec_live.specs.Objects.{Entry, same, is_room, object_at}
@@ -16,8 +16,8 @@ use Rattle.spec_rights.specs.declared.act.Actor.{Actor}
 use Rattle.spec_live.specs.Worth.{lock_text}
 use Rattle.spec_rights.specs.Levels.{command_level, controls_as, flag_at, name_shown, owner_at}
 use Rattle.spec_commands.specs.declared.typed.Typed.{Typed}
-use Rattle.spec_commands.specs.declared.word.Message.{Message}
-use Rattle.spec_commands.specs.declared.word.Message.TheVariants.{Describe}
+use Rattle.spec_live.specs.declared.message.Message.{Message}
+use Rattle.spec_live.specs.declared.message.Message.TheVariants.{Describe}
 use Rattle.spec_commands.specs.Replies.{not_understood, not_known, contents_head, cant_be_done, nothing_special, owner_line, lock_line}
 use Rattle.spec_commands.specs.Messages.{with_message}
 pub use Rattle.spec_commands.specs.Messages.{message_path}
@@ -27,20 +27,20 @@ unfoldable pub actor_of : List Entry → Dbref → Actor
 actor_of es player = record { level = command_level es player; user = player; player = player }
 
 -- this is done for each of these, one after another
-unfoldable pub each : {X : Type 0} → (X → Change) → List X → Change
-each go [] = unchanged
-each go (x ∷ xs) = go x ▸ each go xs
+unfoldable pub for_each : {X : Type 0} → (X → Change) → List X → Change
+for_each go [] = unchanged
+for_each go (x ∷ xs) = go x ▸ for_each go xs
 
 -- Finding. `refuse` says how a command ends that doesn't find what it was told.
 
-abbrev pub chosen : {W Y : Type 0} → (List ℕ → W → Y) → List ℕ → (Dbref → W → Y) → Found → W → Y
-chosen refuse text go (One x) = go x
-chosen refuse text go Nobody = refuse (not_understood text)
-chosen refuse text go Many = refuse (not_known text)
+abbrev pub object_chosen : {W Y : Type 0} → (List ℕ → W → Y) → List ℕ → (Dbref → W → Y) → Found → W → Y
+object_chosen refuse text go (One x) = go x
+object_chosen refuse text go Nobody = refuse (not_understood text)
+object_chosen refuse text go Many = refuse (not_known text)
 
 -- what the player means by the text
 unfoldable pub finding : {Y : Type 0} → (List ℕ → Live → Y) → Dbref → List ℕ → (Dbref → Live → Y) → Live → Y
-finding refuse player text go = reading (λ w. found (scenery_of w.objects) player text) (chosen refuse text go)
+finding refuse player text go = reading (λ w. thing_found (scenery_of w.objects) player text) (object_chosen refuse text go)
 
 abbrev pub named_player : {W Y : Type 0} → (List ℕ → W → Y) → List ℕ → (Dbref → W → Y) → Option Dbref → W → Y
 named_player refuse name go (Some x) = go x
@@ -51,11 +51,11 @@ unfoldable pub finding_player : {Y : Type 0} → (List ℕ → Live → Y) → L
 finding_player refuse name go = reading (λ w. player_named (scenery_of w.objects) name) (named_player refuse name go)
 
 -- an object that is there and passes the test
-unfoldable pub is_so : (Object → Bool) → Dbref → Live → Bool
-is_so test x w = option_map_or test (object_at x w.objects) false
+unfoldable pub is_object_so : (Object → Bool) → Dbref → Live → Bool
+is_object_so test x w = option_map_or test (object_at x w.objects) false
 
 abbrev pub is_object : Dbref → Live → Bool
-is_object x w = is_so (λ o. true) x w
+is_object x w = is_object_so (λ o. true) x w
 
 -- an object that is there, found by its name
 unfoldable pub finding_object : ℕ → Actor → List ℕ → (Dbref → Change) → Change
@@ -82,14 +82,14 @@ message_to_others a typed m x = with_message a typed m x unchanged (λ text. sho
 -- Looking.
 
 -- the names of these objects, one a line
-unfoldable pub listed : ℕ → Dbref → List Dbref → Change
-listed d player [] = unchanged
-listed d player (x ∷ xs) = reading (name_shown player x) (tell d) ▸ listed d player xs
+unfoldable pub names_listed : ℕ → Dbref → List Dbref → Change
+names_listed d player [] = unchanged
+names_listed d player (x ∷ xs) = reading (name_shown player x) (tell d) ▸ names_listed d player xs
 
 -- a head and the names, where there are any
 unfoldable pub listed_under : ℕ → Dbref → List ℕ → Change → List Dbref → Change
 listed_under d player head otherwise [] = otherwise
-listed_under d player head otherwise (x ∷ xs) = tell d head ▸ listed d player (x ∷ xs)
+listed_under d player head otherwise (x ∷ xs) = tell d head ▸ names_listed d player (x ∷ xs)
 
 -- another object that isn't hidden from the player
 abbrev pub is_seen : Live → Dbref → Dbref → Bool
@@ -107,11 +107,11 @@ room_shown d a typed room =
     ▸ reading (seen_in a.player room) (listed_under d a.player contents_head unchanged)
 
 -- the player looks at where it is
-unfoldable pub looked : ℕ → Actor → Typed → Change
-looked d a typed = reading (place_at a.player) (room_shown d a typed)
+unfoldable pub place_looked_at : ℕ → Actor → Typed → Change
+place_looked_at d a typed = reading (place_at a.player) (room_shown d a typed)
 
 abbrev pub is_room_at : Dbref → Live → Bool
-is_room_at x w = is_so (λ o. is_room o.kind) x w
+is_room_at x w = is_object_so (λ o. is_room o.kind) x w
 
 -- the player looks at something: a room is shown whole
 unfoldable pub look_shown : ℕ → Actor → Typed → Dbref → Change
@@ -126,7 +126,7 @@ unfoldable pub owner_shown : ℕ → Dbref → Change
 owner_shown d x = reading (λ w. name_at (owner_at w.objects x) w) (λ name. tell d (owner_line name))
 
 -- the player sees the name, the owner and the lock of something, and of what it doesn't control the owner alone
-unfoldable pub examined : ℕ → Actor → Dbref → Change
-examined d a x =
+unfoldable pub thing_examined : ℕ → Actor → Dbref → Change
+thing_examined d a x =
     where_so (is_own a x) (owner_shown d x)
     (reading (name_shown a.player x) (tell d) ▸ owner_shown d x ▸ reading (λ w. lock_text x w.objects) (λ text. tell d (lock_line text)))

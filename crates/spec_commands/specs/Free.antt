@@ -6,7 +6,7 @@ use Rattle.muck_match.specs.Exits.{exit_for}
 use Rattle.spec_live.specs.Objects.{Entry, same}
 use Rattle.spec_live.specs.Seen.{scenery_of}
 use Rattle.spec_rights.specs.declared.act.Actor.{Actor}
-use Rattle.spec_rights.specs.Licence.{Freedom, moving, clearing, oneself, at_hand}
+use Rattle.spec_rights.specs.Licence.{Freedom, moving_freely, clearing, oneself, at_hand}
 use Rattle.spec_commands.specs.declared.word.PlayWord.{PlayWord}
 use Rattle.spec_commands.specs.declared.word.PlayWord.TheVariants.{Go, Get, Drop, Home}
 use Rattle.spec_commands.specs.declared.word.BuildWord.{BuildWord}
@@ -29,7 +29,7 @@ moves_by false word a es = moves_word word a es
 
 -- by a line of players: by one that begins with a sign nothing, and else what its first word moves
 unfoldable pub free_play : Actor → List ℕ → List Entry → Freedom
-free_play a line es = moving (moves_by (begins_with_sign line) (looked_up play_words (first_word (trimmed line))) a es)
+free_play a line es = moving_freely (moves_by (begins_with_sign line) (looked_up play_words (first_word (trimmed line))) a es)
 
 abbrev pub clears_word : Option BuildWord → Bool
 clears_word (Some Unlink) = true

@@ -9,7 +9,7 @@ use Rattle.spec_live.specs.declared.fault.DbFault.{DbFault}
 use Rattle.spec_live.specs.Objects.{nothing, home, same, is_thing, is_program, object_at}
 use Rattle.spec_live.specs.Moving.{move_check}
 use Rattle.spec_live.specs.Seen.{scenery_of, listed_in}
-use Rattle.spec_live.specs.Lives.{Live, Change, followed, ◌▸◌, reading, either, unchanged, tell, place_at, name_at}
+use Rattle.spec_live.specs.Lives.{Live, Change, change_followed, ◌▸◌, reading, either, unchanged, tell, place_at, name_at}
 use Rattle.spec_rights.specs.declared.act.Actor.{Actor}
 use Rattle.spec_rights.specs.declared.act.Act.TheVariants.{Walk, Take}
 use Rattle.spec_rights.specs.Asking.{asked, refused}
@@ -17,10 +17,10 @@ use Rattle.spec_rights.specs.Changing.{moved_to}
 use Rattle.spec_commands.specs.declared.outcome.Outcome.{Outcome}
 use Rattle.spec_commands.specs.declared.outcome.Outcome.TheVariants.{Done, Start}
 use Rattle.spec_commands.specs.declared.typed.Typed.{Typed}
-use Rattle.spec_commands.specs.declared.word.Message.{Message}
-use Rattle.spec_commands.specs.declared.word.Message.TheVariants.{Success, OthersSuccess, Fail, OthersFail, Drop, OthersDrop}
+use Rattle.spec_live.specs.declared.message.Message.{Message}
+use Rattle.spec_live.specs.declared.message.Message.TheVariants.{Success, OthersSuccess, Fail, OthersFail, Drop, OthersDrop}
 use Rattle.spec_commands.specs.Replies.{cant_be_done, cant_go, cant_take, has_left, has_arrived, carrying_head, carrying_nothing, taken_reply, dropped_reply}
-use Rattle.spec_commands.specs.Finding.{where_so, is_room_at, is_so, message_or, message_shown, message_to_others, shown_others, listed_under, looked}
+use Rattle.spec_commands.specs.Finding.{where_so, is_room_at, is_object_so, message_or, message_shown, message_to_others, shown_others, listed_under, place_looked_at}
 
 -- A line of a player: what it does, and what is to follow.
 abbrev pub Play : Type 0
@@ -45,18 +45,18 @@ abbrev pub movable : Dbref → Dbref → Live → Bool
 movable x to w = may_move (move_check x to w.objects)
 
 -- x is moved, and go follows; where the world refuses that is told
-unfoldable pub moving : ℕ → Dbref → Dbref → Change → Change
-moving d x to go = where_so (movable x to) (tell d cant_be_done) (moved_to x to ▸ go)
+unfoldable pub thing_moving : ℕ → Dbref → Dbref → Change → Change
+thing_moving d x to go = where_so (movable x to) (tell d cant_be_done) (moved_to x to ▸ go)
 
 -- the player goes to another place: others see it leave and arrive, then `seen` is shown, and it looks
-unfoldable pub gone : ℕ → Actor → Typed → Dbref → Change → Change
-gone d a typed to seen =
+unfoldable pub player_gone : ℕ → Actor → Typed → Dbref → Change → Change
+player_gone d a typed to seen =
     where_so (movable a.player to) (tell d cant_be_done)
-    (shown_others a.player has_left ▸ moved_to a.player to ▸ shown_others a.player has_arrived ▸ seen ▸ looked d a typed)
+    (shown_others a.player has_left ▸ moved_to a.player to ▸ shown_others a.player has_arrived ▸ seen ▸ place_looked_at d a typed)
 
 -- the player walks home
 unfoldable pub gone_home : ℕ → Actor → Typed → Change
-gone_home d a typed = reading (home_at a.player) (λ to. gone d a typed to unchanged)
+gone_home d a typed = reading (home_at a.player) (λ to. player_gone d a typed to unchanged)
 
 -- What a player and the others see who are there.
 
@@ -93,51 +93,51 @@ exit_typed hit line w = record { word = alias_of hit w; rest = argument_of hit l
 abbrev pub led_place : Dbref → Dbref → Live → Dbref
 led_place player to w = if same to home then home_at player w else to
 
-abbrev pub is_program_at : Dbref → Live → Bool
-is_program_at x w = is_so (λ o. is_program o.kind) x w
+abbrev pub is_program_there : Dbref → Live → Bool
+is_program_there x w = is_object_so (λ o. is_program o.kind) x w
 
 -- the exit leads there: a program is to be started, and to any other place the player goes
 unfoldable pub led : ℕ → Actor → Typed → Dbref → List ℕ → Dbref → Play
 led d a typed exit line to =
     either (same to nothing) (ended Done (tell d cant_go))
-    (where_so (is_program_at to)
-    (ended Done (reading (led_place a.player to) (λ place. gone d a typed place (drop_shown d a typed exit))))
+    (where_so (is_program_there to)
+    (ended Done (reading (led_place a.player to) (λ place. player_gone d a typed place (drop_shown d a typed exit))))
     (ended (Start to exit line typed.rest) unchanged))
 
 -- the player tries the exit: its messages of failure or of success, and then it goes to where the exit leads
 unfoldable pub tried : ℕ → Actor → Typed → Dbref → List ℕ → Play
 tried d a typed exit line =
     asked a (Walk exit) (λ denial. ended Done (failed d a typed cant_go exit))
-    (followed (succeeded d a typed exit) (reading (link_at exit) (led d a typed exit line)))
+    (change_followed (succeeded d a typed exit) (reading (link_at exit) (led d a typed exit line)))
 
 -- the player walks through an exit that takes the line
-unfoldable pub walked : ℕ → Actor → ExitHit → List ℕ → Play
-walked d a hit line = reading (exit_typed hit line) (λ typed. tried d a typed hit.exit line)
+unfoldable pub exit_walked : ℕ → Actor → ExitHit → List ℕ → Play
+exit_walked d a hit line = reading (exit_typed hit line) (λ typed. tried d a typed hit.exit line)
 
 abbrev pub walked_some : ℕ → Actor → List ℕ → Option ExitHit → Play
 walked_some d a line None = ended Done (tell d cant_go)
-walked_some d a line (Some hit) = walked d a hit line
+walked_some d a line (Some hit) = exit_walked d a hit line
 
 -- `go` and the words that an exit takes
-unfoldable pub went : ℕ → Actor → List ℕ → Play
-went d a line = reading (λ w. exit_for (scenery_of w.objects) a.player line) (walked_some d a line)
+unfoldable pub player_went : ℕ → Actor → List ℕ → Play
+player_went d a line = reading (λ w. exit_for (scenery_of w.objects) a.player line) (walked_some d a line)
 
 -- Taking and dropping.
 
 abbrev pub is_item : Dbref → Live → Bool
-is_item x w = is_so (λ o. is_thing o.kind || is_program o.kind) x w
+is_item x w = is_object_so (λ o. is_thing o.kind || is_program o.kind) x w
 
 -- a lock that doesn't open is told by the object's own messages, and any other denial by its rule
 abbrev pub not_taken : ℕ → Actor → Typed → Dbref → Denial → Change
 not_taken d a typed x denial = either (denial.rule == 10) (failed d a typed cant_take x) (refused d denial)
 
-unfoldable pub taken : ℕ → Actor → Typed → Dbref → Change
-taken d a typed x =
+unfoldable pub thing_taken : ℕ → Actor → Typed → Dbref → Change
+thing_taken d a typed x =
     where_so (is_item x) (tell d cant_be_done)
-    (asked a (Take x) (not_taken d a typed x) (succeeded d a typed x ▸ moving d x a.player (tell d taken_reply)))
+    (asked a (Take x) (not_taken d a typed x) (succeeded d a typed x ▸ thing_moving d x a.player (tell d taken_reply)))
 
 abbrev pub is_carried : Dbref → Dbref → Live → Bool
-is_carried player x w = is_so (λ o. (is_thing o.kind || is_program o.kind) && same o.place player) x w
+is_carried player x w = is_object_so (λ o. (is_thing o.kind || is_program o.kind) && same o.place player) x w
 
 -- where something goes that is dropped: to the place, or where the room sends it
 abbrev pub drop_place : Dbref → Live → Dbref
@@ -148,7 +148,7 @@ drop_place player w =
 unfoldable pub dropped : ℕ → Actor → Typed → Dbref → Change
 dropped d a typed x =
     where_so (is_carried a.player x) (tell d cant_be_done)
-    (reading (drop_place a.player) (λ to. moving d x to (tell d dropped_reply ▸ drop_shown d a typed x)))
+    (reading (drop_place a.player) (λ to. thing_moving d x to (tell d dropped_reply ▸ drop_shown d a typed x)))
 
 -- what the player carries
 unfoldable pub inventory_shown : ℕ → Dbref → Change

@@ -4,30 +4,18 @@ use Rattle.muck_model.specs.declared.dbref.Dbref.{Dbref}
 use Rattle.spec_live.specs.Lives.{Change, reading}
 use Rattle.spec_rights.specs.declared.act.Actor.{Actor}
 use Rattle.spec_live.specs.Worth.{message_at}
-use Rattle.spec_mpi.specs.Messages.{spoken as said_of}
+use Rattle.spec_mpi.specs.Messages.{message_spoken as said_of}
 use Rattle.spec_commands.specs.declared.typed.Typed.{Typed}
-use Rattle.spec_commands.specs.declared.word.Message.{Message}
-use Rattle.spec_commands.specs.declared.word.Message.TheVariants.{Describe, Success, OthersSuccess, Fail, OthersFail, Drop, OthersDrop}
+use Rattle.spec_live.specs.declared.message.Message.{Message}
+use Rattle.spec_live.specs.Messages.{row_of}
 
--- The seven messages: the word of each in its path, and how it is called where it is spoken.
+-- The last part of the path of a message, and how it is called where it is spoken.
 
 abbrev pub message_name : Message → List ℕ
-message_name Describe = codes "de"
-message_name Success = codes "sc"
-message_name OthersSuccess = codes "osc"
-message_name Fail = codes "fl"
-message_name OthersFail = codes "ofl"
-message_name Drop = codes "dr"
-message_name OthersDrop = codes "odr"
+message_name m = (row_of m).name
 
 abbrev pub message_how : Message → List ℕ
-message_how Describe = codes "(@desc)"
-message_how Success = codes "(@succ)"
-message_how OthersSuccess = codes "(@osucc)"
-message_how Fail = codes "(@fail)"
-message_how OthersFail = codes "(@ofail)"
-message_how Drop = codes "(@drop)"
-message_how OthersDrop = codes "(@odrop)"
+message_how m = (row_of m).how
 
 abbrev pub message_path : List ℕ → List (List ℕ)
 message_path word = codes "_" ∷ word ∷ []
@@ -39,12 +27,12 @@ look_typed = record { word = codes "look"; rest = [] }
 
 -- A text that x carries is spoken by the rights of the actor, with how it is called and what was typed as its variables, and this is done
 -- with what is shown of it, in the world that it leaves. A fault is shown as `MPI error N.`
-unfoldable pub spoken : Actor → Dbref → List ℕ → Typed → List ℕ → (List ℕ → Change) → Change
-spoken a x how typed text go w = let said = said_of a x how typed.word typed.rest text w in go said.0 said.1
+unfoldable pub text_spoken : Actor → Dbref → List ℕ → Typed → List ℕ → (List ℕ → Change) → Change
+text_spoken a x how typed text go w = let said = said_of a x how typed.word typed.rest text w in go said.0 said.1
 
 abbrev pub spoken_some : Actor → Typed → Message → Dbref → Change → (List ℕ → Change) → Option (List ℕ) → Change
 spoken_some a typed m x otherwise go None = otherwise
-spoken_some a typed m x otherwise go (Some text) = spoken a x (message_how m) typed text go
+spoken_some a typed m x otherwise go (Some text) = text_spoken a x (message_how m) typed text go
 
 -- a message of x is spoken once, where x has it, and then this is done with what comes of it
 unfoldable pub with_message : Actor → Typed → Message → Dbref → Change → (List ℕ → Change) → Change

@@ -25,8 +25,8 @@ lines_shown d [] = unchanged
 lines_shown d (line ∷ lines) = tell d line ▸ lines_shown d lines
 
 -- a command is over where something is told
-abbrev pub over : ℕ → List ℕ → Play
-over d text = ended Done (tell d text)
+abbrev pub command_over : ℕ → List ℕ → Play
+command_over d text = ended Done (tell d text)
 
 abbrev pub over_denied : ℕ → Denial → Play
 over_denied d denial = ended Done (refused d denial)
@@ -44,7 +44,7 @@ program_put d a name n to level =
 
 abbrev pub program_at : ℕ → Actor → List ℕ → ℕ → Result (ℕ × ℕ) DbFault → Play
 program_at d a name level (Ok p) = program_put d a name p.0 p.1 level
-program_at d a name level (Err fault) = over d cant_be_done
+program_at d a name level (Err fault) = command_over d cant_be_done
 
 -- a program that the player carries, where the world allows one more
 unfoldable pub program_new : ℕ → Actor → List ℕ → Play

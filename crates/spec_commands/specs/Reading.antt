@@ -17,9 +17,9 @@ use Rattle.spec_commands.specs.declared.shape.Arguments.{Arguments}
 use Rattle.spec_commands.specs.Texts.{first_word, other_words, trimmed, is_alike}
 use Rattle.spec_commands.specs.Replies.{usage, bad_name, cant_be_done}
 use Rattle.spec_commands.specs.Finding.{finding, finding_player, where_so, is_object}
-use Rattle.spec_commands.specs.Going.{Play, ended, is_program_at}
+use Rattle.spec_commands.specs.Going.{Play, ended, is_program_there}
 use Rattle.spec_commands.specs.Building.{is_name}
-use Rattle.spec_commands.specs.Programming.{over}
+use Rattle.spec_commands.specs.Programming.{command_over}
 
 -- the command of a word in a table, without regard to case
 abbrev pub looked_up : {C : Type 0} → List (List ℕ × C) → List ℕ → Option C
@@ -53,12 +53,12 @@ abbrev pub has_full : List ℕ → Bool
 has_full text = has_two text && not (is_empty (right_part text))
 
 -- no part is missing
-abbrev pub is_whole : Form → List ℕ → Bool
-is_whole Any text = true
-is_whole One text = not (is_empty text)
-is_whole Two text = has_two text
-is_whole Full text = has_full text
-is_whole OneOrFull text = if has_equals text then has_full text else not (is_empty text)
+abbrev pub has_all_parts : Form → List ℕ → Bool
+has_all_parts Any text = true
+has_all_parts One text = not (is_empty text)
+has_all_parts Two text = has_two text
+has_all_parts Full text = has_full text
+has_all_parts OneOrFull text = if has_equals text then has_full text else not (is_empty text)
 
 -- the parts; where there is one alone, the second is empty
 abbrev pub left_in : Form → List ℕ → List ℕ
@@ -90,22 +90,22 @@ abbrev pub unsought : (Dbref → Play) → Play
 unsought go = go nothing
 
 -- a name that is to be given
-unfoldable pub judged : ℕ → List ℕ → (Dbref → Play) → Play
-judged d text go = either (is_name text) (go nothing) (over d bad_name)
+unfoldable pub name_judged : ℕ → List ℕ → (Dbref → Play) → Play
+name_judged d text go = either (is_name text) (go nothing) (command_over d bad_name)
 
 -- what a part means is found; a part that is left out means nothing
-unfoldable pub sought : ℕ → Actor → List ℕ → (Dbref → Play) → Play
-sought d a text go = either (is_empty text) (go nothing) (finding (over d) a.player text go)
+unfoldable pub object_sought : ℕ → Actor → List ℕ → (Dbref → Play) → Play
+object_sought d a text go = either (is_empty text) (go nothing) (finding (command_over d) a.player text go)
 
 -- a part as its command wants it
-abbrev pub meant : ℕ → Actor → Want → List ℕ → (Dbref → Play) → Play
-meant d a Nothing text = unsought
-meant d a Text text = unsought
-meant d a NewName text = judged d text
-meant d a Found text = sought d a text
-meant d a Object text = sought d a text
-meant d a Program text = sought d a text
-meant d a Player text = finding_player (over d) text
+abbrev pub part_meant : ℕ → Actor → Want → List ℕ → (Dbref → Play) → Play
+part_meant d a Nothing text = unsought
+part_meant d a Text text = unsought
+part_meant d a NewName text = name_judged d text
+part_meant d a Found text = object_sought d a text
+part_meant d a Object text = object_sought d a text
+part_meant d a Program text = object_sought d a text
+part_meant d a Player text = finding_player (command_over d) text
 
 -- what was found is of the kind that is wanted
 abbrev pub is_fit : Want → Argument → Live → Bool
@@ -114,7 +114,7 @@ is_fit Text argument w = true
 is_fit NewName argument w = true
 is_fit Found argument w = true
 is_fit Object argument w = is_empty argument.text || is_object argument.object w
-is_fit Program argument w = is_program_at argument.object w
+is_fit Program argument w = is_program_there argument.object w
 is_fit Player argument w = true
 
 abbrev pub are_fit : Shape → Arguments → Live → Bool
@@ -125,25 +125,25 @@ abbrev pub argued : List ℕ → Dbref → List ℕ → Dbref → Arguments
 argued left x right y = record { first = record { text = left; object = x }; second = record { text = right; object = y } }
 
 unfoldable pub with_fit : ℕ → Shape → Arguments → (Arguments → Play) → Play
-with_fit d shape arguments go = where_so (are_fit shape arguments) (over d cant_be_done) (go arguments)
+with_fit d shape arguments go = where_so (are_fit shape arguments) (command_over d cant_be_done) (go arguments)
 
 -- what the parts mean from left to right, and then whether it is of the kinds that are wanted
 unfoldable pub with_parts : ℕ → Actor → Shape → List ℕ → List ℕ → (Arguments → Play) → Play
 with_parts d a shape left right go =
-    meant d a shape.first left (λ x. meant d a shape.second right (λ y. with_fit d shape (argued left x right y) go))
+    part_meant d a shape.first left (λ x. part_meant d a shape.second right (λ y. with_fit d shape (argued left x right y) go))
 
 -- the arguments of a command with this word, out of the text behind it
 unfoldable pub with_arguments : ℕ → Actor → List ℕ → Shape → List ℕ → (Arguments → Play) → Play
 with_arguments d a word shape text go =
-    either (is_whole shape.form text) (with_parts d a shape (left_in shape.form text) (right_in shape.form text) go) (ended Done (incomplete d word))
+    either (has_all_parts shape.form text) (with_parts d a shape (left_in shape.form text) (right_in shape.form text) go) (ended Done (incomplete d word))
 
 -- A line whose first word may be a command's.
 
-abbrev pub by_command : {C : Type 0} → (C → Shape) → (C → Arguments → Play) → ℕ → Actor → List ℕ → List ℕ → Option C → Play
-by_command shape_of go d a word text None = ended NotMine unchanged
-by_command shape_of go d a word text (Some command) = with_arguments d a word (shape_of command) text (go command)
+abbrev pub with_command_word : {C : Type 0} → (C → Shape) → (C → Arguments → Play) → ℕ → Actor → List ℕ → List ℕ → Option C → Play
+with_command_word shape_of go d a word text None = ended NotMine unchanged
+with_command_word shape_of go d a word text (Some command) = with_arguments d a word (shape_of command) text (go command)
 
 -- its command is looked up in the table, and what stands behind it are its arguments
 unfoldable pub by_table : {C : Type 0} → List (List ℕ × C) → (C → Shape) → (C → Arguments → Play) → ℕ → Actor → List ℕ → Play
 by_table rows shape_of go d a line =
-    by_command shape_of go d a (first_word (trimmed line)) (trimmed (other_words (trimmed line))) (looked_up rows (first_word (trimmed line)))
+    with_command_word shape_of go d a (first_word (trimmed line)) (trimmed (other_words (trimmed line))) (looked_up rows (first_word (trimmed line)))

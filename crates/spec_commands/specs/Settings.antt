@@ -15,11 +15,11 @@ use Rattle.spec_live.specs.Lives.{Live, Change, tell}
 use Rattle.spec_rights.specs.declared.act.Actor.{Actor}
 use Rattle.spec_rights.specs.declared.act.Act.{Act}
 use Rattle.spec_rights.specs.declared.act.Act.TheVariants.{Write, SetFlag, SetLevel}
-use Rattle.spec_rights.specs.Changing.{is_flag, flag_set, flag_cleared, leveled, stored}
+use Rattle.spec_rights.specs.Changing.{is_flag, flag_set, flag_cleared, leveled, property_stored}
 use Rattle.spec_commands.specs.declared.setting.Setting.{Setting}
 use Rattle.spec_commands.specs.declared.setting.Setting.TheVariants.{Flag, NoFlag, Level}
 use Rattle.spec_commands.specs.Replies.{cant_be_done, flag_reply, property_reply}
-use Rattle.spec_commands.specs.Building.{allowed, is_there, written}
+use Rattle.spec_commands.specs.Building.{allowed, is_still_there, change_by_leave}
 
 -- What a word asks.
 
@@ -71,12 +71,12 @@ set_so x (Level level) = leveled x level
 -- The command.
 
 abbrev pub word_set : ℕ → Actor → Dbref → Option Setting → Change
-word_set d a x (Some setting) = written d a (setting_act x setting) (may_set x setting) (set_so x setting) flag_reply
+word_set d a x (Some setting) = change_by_leave d a (setting_act x setting) (may_set x setting) (set_so x setting) flag_reply
 word_set d a x None = tell d cant_be_done
 
 -- a value is kept at a path that a text writes; the empty one removes what is there
 abbrev pub property_set : ℕ → Actor → Dbref → List (List ℕ) → List ℕ → Option PropFault → Change
-property_set d a x path value None = written d a (Write x path) (is_there x) (stored x path (Text value)) property_reply
+property_set d a x path value None = change_by_leave d a (Write x path) (is_still_there x) (property_stored x path (Text value)) property_reply
 property_set d a x path value (Some fault) = tell d cant_be_done
 
 abbrev pub is_colon : ℕ → Bool

@@ -7,13 +7,13 @@ use Rattle.muck_match.specs.Naming.{player_named}
 use Rattle.spec_live.specs.Objects.{Entry, object_at}
 use Rattle.spec_live.specs.Password.{is_digest_of}
 use Rattle.spec_live.specs.Seen.{scenery_of}
-use Rattle.spec_live.specs.Connections.{is_of}
-use Rattle.spec_live.specs.Boards.{on_connection, player_in, closed}
+use Rattle.spec_live.specs.Connections.{is_connection_of}
+use Rattle.spec_live.specs.Boards.{on_connection, player_in, connection_closed}
 use Rattle.spec_live.specs.Lives.{Change, ◌▸◌, reading, either, unchanged, on_board, tell, leave, enter}
 use Rattle.spec_commands.specs.Texts.{first_word, other_words, trimmed, is_alike}
 use Rattle.spec_commands.specs.Replies.{goodbye, has_connected, has_disconnected}
 use Rattle.spec_commands.specs.Messages.{look_typed}
-use Rattle.spec_commands.specs.Finding.{actor_of, shown_others, looked}
+use Rattle.spec_commands.specs.Finding.{actor_of, shown_others, place_looked_at}
 use Rattle.spec_commands.specs.Talking.{who_shown}
 
 unfoldable pub welcome : List ℕ
@@ -30,7 +30,7 @@ proved name word es = option_and_then (λ player. if option_map_or (λ o. is_dig
 
 abbrev pub let_in : ℕ → Option Dbref → Change
 let_in d None = tell d refused_login
-let_in d (Some player) = enter d player ▸ reading (λ w. actor_of w.objects player) (λ a. shown_others player has_connected ▸ looked d a look_typed)
+let_in d (Some player) = enter d player ▸ reading (λ w. actor_of w.objects player) (λ a. shown_others player has_connected ▸ place_looked_at d a look_typed)
 
 unfoldable pub logged_in : ℕ → List ℕ → List ℕ → Change
 logged_in d name word = reading (λ w. proved name word w.objects) (let_in d)
@@ -65,10 +65,10 @@ parting true player = unchanged
 parting false player = shown_others player has_disconnected
 
 -- others see it where a player has no other connection
-unfoldable pub parted : Option Dbref → Change
-parted None = unchanged
-parted (Some player) = reading (λ w. list_any (is_of player) w.board.connections) (λ others. parting others player)
+unfoldable pub player_parted : Option Dbref → Change
+player_parted None = unchanged
+player_parted (Some player) = reading (λ w. list_any (is_connection_of player) w.board.connections) (λ others. parting others player)
 
 -- a connection goes
 unfoldable pub gone_away : ℕ → Change
-gone_away d = reading (λ w. player_in d w.board) (λ player. on_board (closed d) ▸ parted player)
+gone_away d = reading (λ w. player_in d w.board) (λ player. on_board (connection_closed d) ▸ player_parted player)

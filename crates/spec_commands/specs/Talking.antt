@@ -1,14 +1,15 @@
 -- What players say.
-use Rattle.std.specs.Prelude.{ℕ, Bool, ◌&&◌, ◌==◌, if◌then◌else◌, List, [], ◌∷◌, ◌++◌, length, codes, Option}
+use Rattle.std.specs.Prelude.{ℕ, Bool, ◌&&◌, ◌==◌, if◌then◌else◌, List, [], ◌∷◌, ◌++◌, length, codes, take, Option}
 use Rattle.std.specs.Option.{option_map}
 use Rattle.std.specs.List.{list_any, filter_map}
 use Rattle.muck_model.specs.declared.dbref.Dbref.{Dbref}
+use Rattle.muck_model.specs.Bytes.{text_most}
 use Rattle.spec_live.specs.Objects.{same, is_player}
-use Rattle.spec_live.specs.Connections.{Connection, is_of}
+use Rattle.spec_live.specs.Connections.{Connection, is_connection_of}
 use Rattle.spec_live.specs.Lives.{Live, Change, ◌▸◌, reading, tell, tell_player, place_at, name_at}
 use Rattle.spec_commands.specs.Replies.{cant_be_done, you_say, says, you_say_to, says_to, not_connected, connected_line, connected_count}
 use Rattle.spec_commands.specs.declared.presence.Presence.{Presence}
-use Rattle.spec_commands.specs.Finding.{where_so, is_so, each, shown_others}
+use Rattle.spec_commands.specs.Finding.{where_so, is_object_so, for_each, shown_others}
 
 unfoldable pub said : ℕ → Dbref → List ℕ → Change
 said d player text = tell d (you_say text) ▸ shown_others player (says text)
@@ -21,8 +22,12 @@ pose_tail (b ∷ text) = if b == 39 then b ∷ text else 32 ∷ b ∷ text
 unfoldable pub posed : ℕ → Dbref → List ℕ → Change
 posed d player text = reading (name_at player) (λ name. tell d (name ++ pose_tail text)) ▸ shown_others player (pose_tail text)
 
+-- what others hear of it, who see the name of who spoke in front
+abbrev pub heard_as : Bool → List ℕ → List ℕ → List ℕ
+heard_as pose name text = take text_most (name ++ (if pose then pose_tail text else says text))
+
 abbrev pub is_connected : Dbref → Live → Bool
-is_connected player w = list_any (is_of player) w.board.connections
+is_connected player w = list_any (is_connection_of player) w.board.connections
 
 -- the player and the other one see what was said to that one alone
 unfoldable pub said_to : ℕ → Dbref → Dbref → List ℕ → List ℕ → Change
@@ -36,7 +41,7 @@ paged d player to text =
 
 -- a player who is where the player is
 abbrev pub is_company : Dbref → Dbref → Live → Bool
-is_company player to w = is_so (λ o. is_player o.kind && same o.place (place_at player w)) to w
+is_company player to w = is_object_so (λ o. is_player o.kind && same o.place (place_at player w)) to w
 
 unfoldable pub whispered : ℕ → Dbref → Dbref → List ℕ → Change
 whispered d player to text = where_so (is_company player to) (tell d cant_be_done) (said_to d player to (codes "whisper") text)
@@ -55,4 +60,4 @@ presence_shown d p = reading (name_at p.player) (λ name. tell d (connected_line
 
 -- a line for each connection with a player, and how many they are
 unfoldable pub who_shown : ℕ → Change
-who_shown d = reading (λ w. presences w.board.connections) (λ ps. each (presence_shown d) ps ▸ tell d (connected_count (length ps)))
+who_shown d = reading (λ w. presences w.board.connections) (λ ps. for_each (presence_shown d) ps ▸ tell d (connected_count (length ps)))

@@ -22,5 +22,5 @@ pub use rows::rows_hold;
 pub use setting::{Setting, flag_lettered, setting_act, setting_asked};
 pub use shape::{Argument, Arguments, Form, Shape, Want};
 pub use typed::Typed;
-pub use word::{BuildWord, Message, PlayWord};
+pub use word::{BuildWord, PlayWord};
 pub use words::{alike, cut_at, cut_word, trim};

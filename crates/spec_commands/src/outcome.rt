@@ -6,6 +6,13 @@ use muck_model::{Dbref, Line, Tune};
 pub enum Outcome {
     /// It is done.
     Done,
+    /// It was said, or posed, and the others who are there heard it.
+    Said {
+        /// It was posed.
+        pose: bool,
+        /// The text that was given.
+        text: Line,
+    },
     /// The first word is none of this crate's; nothing happened.
     NotMine,
     /// A program is to be started.

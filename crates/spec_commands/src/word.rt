@@ -1,4 +1,5 @@
 // The words of commands.
+use spec_live::Message;
 
 /// What players do.
 #[derive(Clone, Copy, Debug, PartialEq, Eq)]
@@ -16,18 +17,6 @@ pub enum PlayWord {
     Examine,
     Who,
     Quit,
-}
-
-/// A message of an object.
-#[derive(Clone, Copy, Debug, PartialEq, Eq)]
-pub enum Message {
-    Describe,
-    Success,
-    OthersSuccess,
-    Fail,
-    OthersFail,
-    Drop,
-    OthersDrop,
 }
 
 /// What builders do.

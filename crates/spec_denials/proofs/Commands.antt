@@ -6,7 +6,7 @@ use Rattle.spec_live.specs.Connections.{Connection}
 use Rattle.spec_commands.specs.Talk.{waits}
 use Rattle.muck_queue.specs.Queues.{reader}
 use Rattle.spec_events.specs.World.{World, connection, on_live}
-use Rattle.spec_events.specs.Lines.{in_world, line_for, line_done, done}
+use Rattle.spec_events.specs.Lines.{in_world, line_for, line_done, first_line_done}
 use Rattle.spec_denials.specs.Commands.{OfCommand, OfSeat, OfLine}
 
 module _ (P : Dbref → List ℕ → World → World → Type 0) (d : ℕ) (so : (player : Dbref) (line : List ℕ) (w : World) → P player line w (in_world d player line w)) where
@@ -39,10 +39,10 @@ module _ (P : Dbref → List ℕ → World → World → Type 0) (d : ℕ) (so :
   nobody_so None w v = tt
   nobody_so (Some pid) w v = tt
 
-  pub line_so : (w : World) → OfLine P d w (done d (connection d w) w)
-  unfolding done
+  pub line_so : (w : World) → OfLine P d w (first_line_done d (connection d w) w)
+  unfolding first_line_done
   line_so w = at (connection d w)
     where
-      at : (o : Option Connection) → OfSeat P (reader d w.queue) o d w (done d o w)
+      at : (o : Option Connection) → OfSeat P (reader d w.queue) o d w (first_line_done d o w)
       at None = nobody_so (reader d w.queue) w w
       at (Some c) = seat_so (reader d w.queue) c w (line_done d c.player c.editor c.waiting w) (lines_so c.player c.editor c.waiting w)

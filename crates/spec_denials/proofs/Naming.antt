@@ -2,6 +2,7 @@
 use Rattle.std.proofs.Common.{◌≡◌, ℕ, zero, suc, ℤ, negsuc, Bool, true, false, cond, List, [], ◌∷◌, ◌++◌, drop, length, Option, Some, None, refl, sym, ◌∙◌, ap, subst, nat_lt, ◌+◌}
 use Rattle.std.specs.Option.{option_or}
 use Rattle.std.specs.Prelude.{option_map}
+use Rattle.muck_laws.proofs.Options.{option_or_last}
 use Rattle.muck_model.specs.declared.dbref.Denial.{Denial}
 use Rattle.spec_live.specs.Lives.{Live}
 use Rattle.spec_live.specs.Objects.{Entry}
@@ -15,10 +16,10 @@ use Rattle.muf_model.specs.declared.needs.Need.{Need}
 use Rattle.muf_model.specs.Answer.{too_few}
 use Rattle.muf_model.specs.Datum.{Datum, int, object}
 use Rattle.muf_model.specs.Needs.{Needs, Many}
-use Rattle.muf_model.specs.Ladder.{short, miscounted, too_short, unfit, absent, walk, distant, wanted}
-use Rattle.muf_model.specs.Kinds.{kind_of, suits}
-use Rattle.spec_prims.specs.Asking.{numbered, fault_of, level_fault, near_fault, is_there}
-use Rattle.spec_prims.specs.Row.{Row, gives, refuses, breaks, unless, given_upon}
+use Rattle.muf_model.specs.Ladder.{short, miscounted, too_short, unfit, absent, first_refusal, distant, wanted}
+use Rattle.muf_model.specs.Kinds.{kind_of_item, suits}
+use Rattle.spec_prims.specs.Asking.{object_numbered, fault_of_denial, level_fault, near_fault, is_number_there}
+use Rattle.spec_prims.specs.Row.{WorldAnswer, gives, refuses, breaks, row_unless, given_upon}
 use Rattle.spec_prims.specs.Shared.{fault_by}
 use Rattle.spec_denials.specs.Acts.{near_act, near_acts, acts_with}
 use Rattle.spec_denials.specs.Asked.{first_denied, FaultNames, RowNames}
@@ -48,7 +49,7 @@ abbrev pub TestNames : Option ℕ → Option MufFault → Type 0
 TestNames rule None = rule ≡ None
 TestNames rule (Some f) = FaultNames rule f
 
-pub tests_verdict : (o : Option Denial) → TestNames (rule_of o) (fault_of o)
+pub tests_verdict : (o : Option Denial) → TestNames (rule_of o) (fault_of_denial o)
 tests_verdict None = refl
 tests_verdict (Some d) = refl
 
@@ -101,13 +102,13 @@ plain_too_short needs locked stack = at needs.many
         (plain_or (miscounted (drop m.at stack)) _ (plain_miscounted (drop m.at stack)) (plain_short (length (wanted (record needs { many = Some m }) stack)) locked stack))
 
 plain_unfit : (n : Need) (x : Datum) → Plain (unfit n x)
-plain_unfit n x = plain_if (suits n.kind (kind_of x)) None (Some BadType) refl tt
+plain_unfit n x = plain_if (suits n.kind (kind_of_item x)) None (Some BadType) refl tt
 
 plain_absent : (there : ℤ → Bool) (n : Need) (x : Datum) → Plain (absent there n x)
 plain_absent there n (object d) = plain_if n.there (cond (there d) None (Some NoSuchObject)) None (plain_if (there d) None (Some NoSuchObject) refl tt) refl
 plain_absent there n _ = plain_if n.there None None refl refl
 
-plain_walk : (test : Need → Datum → Option MufFault) → ((n : Need) (x : Datum) → Plain (test n x)) → (ns : List Need) (xs : List Datum) → Plain (walk test ns xs)
+plain_walk : (test : Need → Datum → Option MufFault) → ((n : Need) (x : Datum) → Plain (test n x)) → (ns : List Need) (xs : List Datum) → Plain (first_refusal test ns xs)
 plain_walk test h [] xs = refl
 plain_walk test h (n ∷ ns) [] = refl
 plain_walk test h (n ∷ ns) (x ∷ xs) = plain_or _ _ (h n x) (plain_walk test h ns xs)
@@ -118,16 +119,16 @@ module _ (a : Actor) (es : List Entry) where
   unfolding near_fault
   names_near n (object d) = at n.near
     where
-      at : (b : Bool) → TestNames (first_denied es a (cond b (Near (numbered d) ∷ []) [])) (cond b (fault_of (verdict es a (Near (numbered d)))) None)
-      at true = subst (λ r. TestNames r (fault_of (verdict es a (Near (numbered d))))) (sym (denied_one es a (Near (numbered d)))) (tests_verdict (verdict es a (Near (numbered d))))
+      at : (b : Bool) → TestNames (first_denied es a (cond b (Near (object_numbered d) ∷ []) [])) (cond b (fault_of_denial (verdict es a (Near (object_numbered d)))) None)
+      at true = subst (λ r. TestNames r (fault_of_denial (verdict es a (Near (object_numbered d))))) (sym (denied_one es a (Near (object_numbered d)))) (tests_verdict (verdict es a (Near (object_numbered d))))
       at false = refl
   names_near n _ = plain_if n.near None None refl refl
 
-  names_walk : (ns : List Need) (xs : List Datum) → TestNames (first_denied es a (near_acts ns xs)) (walk (distant (near_fault a es)) ns xs)
+  names_walk : (ns : List Need) (xs : List Datum) → TestNames (first_denied es a (near_acts ns xs)) (first_refusal (distant (near_fault a es)) ns xs)
   names_walk [] xs = refl
   names_walk (n ∷ ns) [] = refl
   names_walk (n ∷ ns) (x ∷ xs) =
-      subst (λ r. TestNames r (walk (distant (near_fault a es)) (n ∷ ns) (x ∷ xs))) (sym (denied_both es a (near_act n x) (near_acts ns xs)))
+      subst (λ r. TestNames r (first_refusal (distant (near_fault a es)) (n ∷ ns) (x ∷ xs))) (sym (denied_both es a (near_act n x) (near_acts ns xs)))
       (tests_or (first_denied es a (near_act n x)) (first_denied es a (near_acts ns xs)) _ _ (names_near n x) (names_walk ns xs))
 
   names_level : (level : ℕ) → TestNames (rule_of (verdict es a (Shared level))) (level_fault a es level)
@@ -137,37 +138,33 @@ module _ (a : Actor) (es : List Entry) where
 -- Rows.
 
 module _ (B : MufFault → Live → Type 0) where
-  pub rows_unless : (r s : Option ℕ) (o : Option MufFault) (row : Row) → TestNames r o → RowNames B s row → RowNames B (option_or r s) (unless o row)
+  pub rows_unless : (r s : Option ℕ) (o : Option MufFault) (row : WorldAnswer) → TestNames r o → RowNames B s row → RowNames B (option_or r s) (row_unless o row)
   rows_unless r s None row h k = subst (λ x. RowNames B (option_or x s) row) (sym h) k
   rows_unless r s (Some f) row h k = fault_or r s f h
 
-  pub rows_plain : (s : Option ℕ) (o : Option MufFault) (row : Row) → Plain o → RowNames B s row → RowNames B s (unless o row)
+  pub rows_plain : (s : Option ℕ) (o : Option MufFault) (row : WorldAnswer) → Plain o → RowNames B s row → RowNames B s (row_unless o row)
   rows_plain s o row h k = rows_unless None s o row h k
 
-  rows_full : (c : Bool) (r : Option ℕ) (f : MufFault) (row : Row) → FaultNames r f → RowNames B r row → RowNames B r (cond c (refuses f) row)
+  rows_full : (c : Bool) (r : Option ℕ) (f : MufFault) (row : WorldAnswer) → FaultNames r f → RowNames B r row → RowNames B r (cond c (refuses f) row)
   rows_full true r f row h k = h
   rows_full false r f row h k = k
 
-  pub rows_upon : (rest : List Datum) (r : Option ℕ) (row : Row) → RowNames B r row → RowNames B r (given_upon rest row)
+  pub rows_upon : (rest : List Datum) (r : Option ℕ) (row : WorldAnswer) → RowNames B r row → RowNames B r (given_upon rest row)
   rows_upon rest r (gives items v) h = rows_full _ r StackFull (gives (items ++ rest) v) tt h
   rows_upon rest r (refuses f) h = h
   rows_upon rest r (breaks f v) h = h
 
   -- one act, behind which no other is asked for
-  pub rows_leave : (es : List Entry) (a : Actor) (act : Act) (row : Row) → RowNames B None row → RowNames B (first_denied es a (act ∷ [])) (unless (fault_of (verdict es a act)) row)
-  rows_leave es a act row h = rows_unless (rule_of (verdict es a act)) None (fault_of (verdict es a act)) row (tests_verdict (verdict es a act)) h
+  pub rows_leave : (es : List Entry) (a : Actor) (act : Act) (row : WorldAnswer) → RowNames B None row → RowNames B (first_denied es a (act ∷ [])) (row_unless (fault_of_denial (verdict es a act)) row)
+  rows_leave es a act row h = rows_unless (rule_of (verdict es a act)) None (fault_of_denial (verdict es a act)) row (tests_verdict (verdict es a act)) h
 
 -- What every primitive asks first: its level, and what has to be near; then it is as its own acts say.
-
-or_last : (sh near own : Option ℕ) → option_or (option_or (option_or sh None) near) own ≡ option_or sh (option_or near own)
-or_last None near own = refl
-or_last (Some n) near own = refl
 
 -- the acts of the tests, as these put them together
 pub denied_with : (es : List Entry) (a : Actor) (needs : Needs) (level : ℕ) (stack : List Datum) (own : List Act) →
     option_or (option_or (option_or (rule_of (verdict es a (Shared level))) None) (first_denied es a (near_acts (wanted needs stack) stack))) (first_denied es a own) ≡ first_denied es a (acts_with (Some needs) level stack own)
 denied_with es a needs level stack own =
-    or_last (rule_of (verdict es a (Shared level))) (first_denied es a (near_acts (wanted needs stack) stack)) (first_denied es a own)
+    option_or_last (rule_of (verdict es a (Shared level))) (first_denied es a (near_acts (wanted needs stack) stack)) (first_denied es a own)
     ∙ ap (option_or (rule_of (verdict es a (Shared level)))) (sym (denied_both es a (near_acts (wanted needs stack) stack) own))
 
 pub names_first : (needs : Needs) (level : ℕ) (argued : Option MufFault) (a : Actor) (locked : ℕ) (stack : List Datum) (w : Live) → Plain argued →
@@ -179,14 +176,14 @@ names_first needs level argued a locked stack w h =
     tests_or (option_or sh None) near _ _
     (tests_or None (option_or sh None) (too_short needs locked stack) _ (plain_too_short needs locked stack)
     (tests_or sh None (level_fault a es level) _ (names_level a es level)
-    (plain_or (walk unfit (wanted needs stack) stack) _ (plain_walk unfit plain_unfit (wanted needs stack) stack)
-    (plain_walk (absent (is_there es)) (plain_absent (is_there es)) (wanted needs stack) stack))))
+    (plain_or (first_refusal unfit (wanted needs stack) stack) _ (plain_walk unfit plain_unfit (wanted needs stack) stack)
+    (plain_walk (absent (is_number_there es)) (plain_absent (is_number_there es)) (wanted needs stack) stack))))
     (tests_or None near argued _ h (names_walk a es (wanted needs stack) stack))
 
 -- one whole row, behind what it asks first
-pub names_by : (B : MufFault → Live → Type 0) (needs : Option Needs) (level : ℕ) (own : List Act) (argued : Option MufFault) (row : Row) (rest : List Datum) (a : Actor) (locked : ℕ) (stack : List Datum) (w : Live) →
-    Plain argued → RowNames B (first_denied w.objects a own) row → RowNames B (first_denied w.objects a (acts_with needs level stack own)) (unless (fault_by needs level argued a locked stack w) (given_upon rest row))
+pub names_by : (B : MufFault → Live → Type 0) (needs : Option Needs) (level : ℕ) (own : List Act) (argued : Option MufFault) (row : WorldAnswer) (rest : List Datum) (a : Actor) (locked : ℕ) (stack : List Datum) (w : Live) →
+    Plain argued → RowNames B (first_denied w.objects a own) row → RowNames B (first_denied w.objects a (acts_with needs level stack own)) (row_unless (fault_by needs level argued a locked stack w) (given_upon rest row))
 names_by B None level own argued row rest a locked stack w h k = tt
 names_by B (Some needs) level own argued row rest a locked stack w h k =
-    subst (λ r. RowNames B r (unless (fault_by (Some needs) level argued a locked stack w) (given_upon rest row))) (denied_with w.objects a needs level stack own)
+    subst (λ r. RowNames B r (row_unless (fault_by (Some needs) level argued a locked stack w) (given_upon rest row))) (denied_with w.objects a needs level stack own)
     (rows_unless B _ (first_denied w.objects a own) (fault_by (Some needs) level argued a locked stack w) (given_upon rest row) (names_first needs level argued a locked stack w h) (rows_upon B rest _ row k))

@@ -1,9 +1,10 @@
 -- What the rows of properties and of talk ask for.
-use Rattle.std.proofs.Common.{◌≡◌, ℕ, ℤ, pos, Bool, true, false, cond, List, [], ◌∷◌, take, drop, map, Option, Some, None, refl, subst, ap, inl, inr}
+use Rattle.std.proofs.Common.{◌≡◌, ℕ, ℤ, pos, Bool, true, false, cond, List, [], ◌∷◌, take, drop, map, Option, Some, None, refl, subst, inl, inr}
 use Rattle.std.specs.Option.{option_map_or, option_and_then}
-use Rattle.std.specs.Prelude.{is_none, is_some, ◌&&◌}
+use Rattle.std.specs.Prelude.{is_some, ◌&&◌}
 use Rattle.std.specs.List.{filter}
 use Rattle.std.specs.FinMap.{keys}
+use Rattle.muck_laws.proofs.Options.{none_of, some_is}
 use Rattle.muck_model.specs.declared.dbref.Dbref.{Dbref}
 use Rattle.muck_prop.specs.declared.path.PropFault.{PropFault}
 use Rattle.muck_prop.specs.declared.value.PropValue.{PropValue}
@@ -19,32 +20,32 @@ use Rattle.spec_rights.specs.declared.act.Actor.{Actor}
 use Rattle.spec_rights.specs.declared.act.Act.{Act}
 use Rattle.spec_rights.specs.declared.act.Act.TheVariants.{Read, Write, Shared}
 use Rattle.spec_rights.specs.Verdict.{verdict}
-use Rattle.spec_rights.specs.Changing.{stored, unstored}
+use Rattle.spec_rights.specs.Changing.{property_stored, unstored}
 use Rattle.muf_model.specs.declared.fault.MufFault.{MufFault}
 use Rattle.muf_model.specs.declared.fault.MufFault.TheVariants.{BadArgument, StackFull}
 use Rattle.muf_model.specs.Datum.{Datum, int, text, object}
-use Rattle.spec_prims.specs.Asking.{numbered, fault_of}
-use Rattle.spec_prims.specs.Row.{Row, gives, refuses, breaks, unless, given_upon}
-use Rattle.spec_prims.specs.PropRows.{at_path, value_of, looked, first_holder, sought, name_fault, begins, may_read, next_read, walked, put_at, put, text_or, added, removed}
-use Rattle.spec_prims.specs.Talk.{notified, told_but, notified_but, booted_seat, booted, seat_at, is_place, outside, awake, connected_at, player_given, player_at, descriptors}
+use Rattle.spec_prims.specs.Asking.{object_numbered, fault_of_denial}
+use Rattle.spec_prims.specs.Row.{WorldAnswer, gives, refuses, breaks, row_unless, given_upon}
+use Rattle.spec_prims.specs.PropRows.{row_at_path, value_of, property_looked_at, first_holder, property_sought, directory_fault, listing_begins, may_read, next_read, properties_walked, property_put_at, property_put, text_or, property_added, removed}
+use Rattle.spec_prims.specs.Talk.{notified, told_but, notified_but, booted_seat, connection_booted, seat_at, is_place, place_outside, connections_awake, connected_at, player_given, player_at, descriptors}
 use Rattle.spec_denials.specs.Acts.{looks, up_to_holder, looks_up, puts, adds, removes}
 use Rattle.spec_denials.specs.Asked.{first_denied, RowNames, IsListed, NameListed, RowLists}
 use Rattle.spec_denials.proofs.Naming.{rule_of, Plain, plain_if, tests_verdict, rows_unless, rows_leave}
 
 module _ (B : MufFault → Live → Type 0) (a : Actor) (w : Live) where
-  names_path : (o : Option PropFault) (r : Option ℕ) (row : Row) → RowNames B r row → RowNames B r (at_path o row)
+  names_path : (o : Option PropFault) (r : Option ℕ) (row : WorldAnswer) → RowNames B r row → RowNames B r (row_at_path o row)
   names_path None r row h = h
   names_path (Some f) r row h = tt
 
-  pub names_looked : (look : Option Object → List (List ℕ) → Datum) (items : List Datum) → RowNames B (first_denied w.objects a (looks items)) (looked look a items w)
+  pub names_looked : (look : Option Object → List (List ℕ) → Datum) (items : List Datum) → RowNames B (first_denied w.objects a (looks items)) (property_looked_at look a items w)
   names_looked look (text t ∷ object d ∷ []) =
-      names_path (path_fault t) _ _ (rows_leave B w.objects a (Read (numbered d) (segments_of t)) (gives (look (object_at (numbered d) w.objects) (segments_of t) ∷ []) w) refl)
+      names_path (path_fault t) _ _ (rows_leave B w.objects a (Read (object_numbered d) (segments_of t)) (gives (look (object_at (object_numbered d) w.objects) (segments_of t) ∷ []) w) refl)
   names_looked look _ = tt
 
   abbrev reads : List (List ℕ) → List Dbref → List Act
   reads path ds = map (λ e. Read e path) ds
 
-  names_held : (shown : Option PropValue → Datum) (e : Dbref) (path : List (List ℕ)) (ds : List Dbref) (o : Option PropValue) (later : Row) →
+  names_held : (shown : Option PropValue → Datum) (e : Dbref) (path : List (List ℕ)) (ds : List Dbref) (o : Option PropValue) (later : WorldAnswer) →
       RowNames B (first_denied w.objects a (reads path ds)) later →
       RowNames B (first_denied w.objects a (reads path (cond (is_some o) [] ds))) (option_map_or (λ value. gives (shown (Some value) ∷ object e.0 ∷ []) w) o later)
   names_held shown e path ds None later h = h
@@ -53,31 +54,31 @@ module _ (B : MufFault → Live → Type 0) (a : Actor) (w : Live) where
   names_holder : (shown : Option PropValue → Datum) (path : List (List ℕ)) (ds : List Dbref) → RowNames B (first_denied w.objects a (reads path (up_to_holder path ds w.objects))) (first_holder shown a path ds w)
   names_holder shown path [] = refl
   names_holder shown path (e ∷ ds) =
-      rows_unless B (rule_of (verdict w.objects a (Read e path))) _ (fault_of (verdict w.objects a (Read e path))) _ (tests_verdict (verdict w.objects a (Read e path)))
+      rows_unless B (rule_of (verdict w.objects a (Read e path))) _ (fault_of_denial (verdict w.objects a (Read e path))) _ (tests_verdict (verdict w.objects a (Read e path)))
       (names_held shown e path (up_to_holder path ds w.objects) (value_of (object_at e w.objects) path) (first_holder shown a path ds w) (names_holder shown path ds))
 
-  pub names_sought : (shown : Option PropValue → Datum) (items : List Datum) → RowNames B (first_denied w.objects a (looks_up items w.objects)) (sought shown a items w)
-  names_sought shown (text t ∷ object d ∷ []) = names_path (path_fault t) _ _ (names_holder shown (segments_of t) (numbered d ∷ places_of w.objects (numbered d)))
+  pub names_sought : (shown : Option PropValue → Datum) (items : List Datum) → RowNames B (first_denied w.objects a (looks_up items w.objects)) (property_sought shown a items w)
+  names_sought shown (text t ∷ object d ∷ []) = names_path (path_fault t) _ _ (names_holder shown (segments_of t) (object_numbered d ∷ places_of w.objects (object_numbered d)))
   names_sought shown _ = tt
 
-  pub names_walked : (items : List Datum) → RowNames B None (walked a items w)
-  names_walked (text t ∷ object d ∷ []) = names_path (name_fault t) None (gives (text (option_map_or path_text (next_read a (numbered d) (begins t) w) []) ∷ []) w) refl
+  pub names_walked : (items : List Datum) → RowNames B None (properties_walked a items w)
+  names_walked (text t ∷ object d ∷ []) = names_path (directory_fault t) None (gives (text (option_map_or path_text (next_read a (object_numbered d) (listing_begins t) w) []) ∷ []) w) refl
   names_walked _ = tt
 
-  names_put_at : (t : List ℕ) (d : ℤ) (value : PropValue) → RowNames B (first_denied w.objects a (Write (numbered d) (segments_of t) ∷ [])) (put_at a t d value w)
-  names_put_at t d value = names_path (path_fault t) _ _ (rows_leave B w.objects a (Write (numbered d) (segments_of t)) (gives [] (stored (numbered d) (segments_of t) value w)) refl)
+  names_put_at : (t : List ℕ) (d : ℤ) (value : PropValue) → RowNames B (first_denied w.objects a (Write (object_numbered d) (segments_of t) ∷ [])) (property_put_at a t d value w)
+  names_put_at t d value = names_path (path_fault t) _ _ (rows_leave B w.objects a (Write (object_numbered d) (segments_of t)) (gives [] (property_stored (object_numbered d) (segments_of t) value w)) refl)
 
-  pub names_put : (items : List Datum) → RowNames B (first_denied w.objects a (puts items)) (put a items w)
+  pub names_put : (items : List Datum) → RowNames B (first_denied w.objects a (puts items)) (property_put a items w)
   names_put (int n ∷ text t ∷ object d ∷ []) = names_put_at t d (Number n)
   names_put (text u ∷ text t ∷ object d ∷ []) = names_put_at t d (Text u)
   names_put _ = tt
 
-  pub names_added : (items : List Datum) → RowNames B (first_denied w.objects a (adds items)) (added a items w)
+  pub names_added : (items : List Datum) → RowNames B (first_denied w.objects a (adds items)) (property_added a items w)
   names_added (int n ∷ text u ∷ text t ∷ object d ∷ []) = names_put_at t d (text_or u n)
   names_added _ = tt
 
   pub names_removed : (items : List Datum) → RowNames B (first_denied w.objects a (removes items)) (removed a items w)
-  names_removed (text t ∷ object d ∷ []) = names_path (path_fault t) _ _ (rows_leave B w.objects a (Write (numbered d) (segments_of t)) (gives [] (unstored (numbered d) (segments_of t) w)) refl)
+  names_removed (text t ∷ object d ∷ []) = names_path (path_fault t) _ _ (rows_leave B w.objects a (Write (object_numbered d) (segments_of t)) (gives [] (unstored (object_numbered d) (segments_of t) w)) refl)
   names_removed _ = tt
 
   -- Talk.
@@ -94,7 +95,7 @@ module _ (B : MufFault → Live → Type 0) (a : Actor) (w : Live) where
   names_notified_but (text t ∷ int (pos n) ∷ rest) = names_told_but t _ (drop n rest)
   names_notified_but _ = tt
 
-  pub names_awake : (items : List Datum) → RowNames B None (awake a items w)
+  pub names_awake : (items : List Datum) → RowNames B None (connections_awake a items w)
   names_awake (object d ∷ []) = refl
   names_awake _ = tt
 
@@ -114,29 +115,22 @@ module _ (B : MufFault → Live → Type 0) (a : Actor) (w : Live) where
   names_seat (Some d) = refl
   names_seat None = tt
 
-  pub names_booted : (items : List Datum) → RowNames B (first_denied w.objects a (Shared 4 ∷ [])) (booted a items w)
+  pub names_booted : (items : List Datum) → RowNames B (first_denied w.objects a (Shared 4 ∷ [])) (connection_booted a items w)
   names_booted (int i ∷ []) = rows_leave B w.objects a (Shared 4) (booted_seat (seat_at i w) w) (names_seat (seat_at i w))
   names_booted _ = tt
 
-  pub plain_outside : (items : List Datum) → Plain (outside a items w)
+  pub plain_outside : (items : List Datum) → Plain (place_outside a items w)
   plain_outside (int i ∷ []) = plain_if (is_place i w) None (Some BadArgument) refl tt
   plain_outside _ = refl
 
 -- NEXTPROP gives no name of a property that the actor may not read.
-
-some_same : (x y : List (List ℕ)) → Some x ≡ Some y → x ≡ y
-some_same x y e = ap (λ (o : Option (List (List ℕ))). option_map_or (λ z. z) o x) e
-
-none_of : {X : Type 0} (o : Option X) → is_none o ≡ true → o ≡ None
-none_of None e = refl
-none_of (Some x) e = absurd cc
 
 module _ (test : List (List ℕ) → Bool) (dir : List (List ℕ)) (after : Option (List (List ℕ))) (c : List (List ℕ)) where
   abbrev Passes : List (List (List ℕ)) → Type 0
   Passes ks = next_among dir after ks ≡ Some c → test c ≡ true
 
   passes_chosen : (q : List (List ℕ)) (rest : List (List (List ℕ))) → test (child dir q) ≡ true → Passes rest → (b : Bool) → cond b (Some (child dir q)) (next_among dir after rest) ≡ Some c → test c ≡ true
-  passes_chosen q rest is next true e = subst (λ x. test x ≡ true) (some_same (child dir q) c e) is
+  passes_chosen q rest is next true e = subst (λ x. test x ≡ true) (some_is (child dir q) c e) is
   passes_chosen q rest is next false e = next e
 
   passes_one : (q : List (List ℕ)) (rest : List (List (List ℕ))) → Passes rest → (b : Bool) → test (child dir q) ≡ b → Passes (cond b (q ∷ rest) rest)
@@ -161,22 +155,22 @@ module _ (a : Actor) (w : Live) (d : Dbref) where
   lists_full true t name rest h = tt
   lists_full false t name rest h = h
 
-  lists_upon : (o : Option PropFault) (t name : List ℕ) (rest : List Datum) → IsListed a w.objects d name → RowLists a w.objects (text t ∷ object d.0 ∷ rest) (given_upon rest (at_path o (gives (text name ∷ []) w)))
+  lists_upon : (o : Option PropFault) (t name : List ℕ) (rest : List Datum) → IsListed a w.objects d name → RowLists a w.objects (text t ∷ object d.0 ∷ rest) (given_upon rest (row_at_path o (gives (text name ∷ []) w)))
   lists_upon None t name rest h = lists_full _ t name rest h
   lists_upon (Some f) t name rest h = tt
 
-lists_unless : (a : Actor) (es : List Entry) (stack : List Datum) (o : Option MufFault) (row : Row) → RowLists a es stack row → RowLists a es stack (unless o row)
+lists_unless : (a : Actor) (es : List Entry) (stack : List Datum) (o : Option MufFault) (row : WorldAnswer) → RowLists a es stack row → RowLists a es stack (row_unless o row)
 lists_unless a es stack None row h = h
 lists_unless a es stack (Some f) row h = tt
 
-lists_any : (a : Actor) (es : List Entry) (stack : List Datum) (row : Row) → ((items : List Datum) → NameListed a es stack items) → RowLists a es stack row
+lists_any : (a : Actor) (es : List Entry) (stack : List Datum) (row : WorldAnswer) → ((items : List Datum) → NameListed a es stack items) → RowLists a es stack row
 lists_any a es stack (gives items v) h = h items
 lists_any a es stack (refuses f) h = tt
 lists_any a es stack (breaks f v) h = tt
 
 -- what it does with the two items that it takes
-pub lists_walked : (a : Actor) (w : Live) (o : Option MufFault) (stack : List Datum) → RowLists a w.objects stack (unless o (given_upon (drop 2 stack) (walked a (take 2 stack) w)))
+pub lists_walked : (a : Actor) (w : Live) (o : Option MufFault) (stack : List Datum) → RowLists a w.objects stack (row_unless o (given_upon (drop 2 stack) (properties_walked a (take 2 stack) w)))
 lists_walked a w o (text t ∷ object d ∷ rest) =
-    lists_unless a w.objects (text t ∷ object d ∷ rest) o (given_upon rest (at_path (name_fault t) (gives (text (option_map_or path_text (next_read a (numbered d) (begins t) w) []) ∷ []) w)))
-    (lists_upon a w (numbered d) (name_fault t) t (option_map_or path_text (next_read a (numbered d) (begins t) w) []) rest (listed_one a w (numbered d) (begins t) (next_read a (numbered d) (begins t) w) refl))
+    lists_unless a w.objects (text t ∷ object d ∷ rest) o (given_upon rest (row_at_path (directory_fault t) (gives (text (option_map_or path_text (next_read a (object_numbered d) (listing_begins t) w) []) ∷ []) w)))
+    (lists_upon a w (object_numbered d) (directory_fault t) t (option_map_or path_text (next_read a (object_numbered d) (listing_begins t) w) []) rest (listed_one a w (object_numbered d) (listing_begins t) (next_read a (object_numbered d) (listing_begins t) w) refl))
 lists_walked a w o stack = lists_any a w.objects stack _ (λ items. tt)

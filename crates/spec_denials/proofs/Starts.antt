@@ -19,7 +19,7 @@ use Rattle.spec_commands.specs.declared.edit.EditStep.{EditStep}
 use Rattle.spec_commands.specs.declared.edit.EditStep.TheVariants.{Compile}
 use Rattle.spec_commands.specs.Finding.{actor_of}
 use Rattle.spec_commands.specs.Commands.{played}
-use Rattle.spec_commands.specs.Editing.{edited, editor_exited, is_open}
+use Rattle.spec_commands.specs.Editing.{edited_by_line, editor_exited, is_editor_open}
 use Rattle.spec_commands.specs.Talk.{waits}
 use Rattle.spec_admin.specs.Lines.{after_line, line_ends}
 use Rattle.muf_model.specs.declared.fault.MufFault.{MufFault}
@@ -31,13 +31,13 @@ use Rattle.muck_library.specs.Library.{Library, formed}
 use Rattle.muck_library.specs.Programs.{built_tree}
 use Rattle.muck_queue.specs.declared.process.Process.{Process}
 use Rattle.muck_queue.specs.Queues as queues
-use Rattle.muck_queue.specs.Queues.{Queue, process, without, on_process, told_line, added, is_full, ended_running, trigger_cleared, reader}
+use Rattle.muck_queue.specs.Queues.{Queue, process, without_process, on_process, told_line, process_added, is_queue_full, ended_running, trigger_cleared, reader}
 use Rattle.spec_events.specs.declared.starting.Call.{Call}
 use Rattle.spec_events.specs.declared.starting.Manner.{Manner}
 use Rattle.spec_events.specs.World.{World, on_live, on_queue, with_library}
-use Rattle.spec_events.specs.Following.{unbuilt, followed, swept, settled}
-use Rattle.spec_events.specs.Starting.{by_command, beginning, new_process, joined, word_started, form_started, built_started, begun, start_told, start_judged, launched}
-use Rattle.spec_events.specs.Lines.{with_editor, compiled_so, compiled, next_editor, after_edit, edited_line, in_editor, typed, ended_behind, left_by, followed_up, in_world, command, is_abort, program_aborted, given_line, line_for, line_done, done}
+use Rattle.spec_events.specs.Following.{unbuilt, mark_followed, swept, settled}
+use Rattle.spec_events.specs.Starting.{by_command, program_beginning, new_process, process_joined, word_started, form_started, built_started, program_begun, start_told, start_judged, launched}
+use Rattle.spec_events.specs.Lines.{with_editor, compiled_so, compiled, next_editor, after_edit, edited_line, in_editor, typed, ended_behind, processes_after_line, followed_up, in_world, command, is_abort, program_aborted, given_line, line_for, line_done, first_line_done}
 use Rattle.spec_denials.specs.Starts.{LineStarts}
 
 -- the program of a process may be started by its player
@@ -48,18 +48,18 @@ abbrev BegunSo : World → World × Result ℤ MufFault → Type 0
 BegunSo w (v, Ok n) = LineStarts w v
 BegunSo w (v, Err f) = v.queue.last ≡ w.queue.last
 
-joined_starts : (p : Process) (w : World) → MayStart w p.player p.program → BegunSo w (joined p w)
-unfolding added
-joined_starts p w h = either (is_full p.player w.live.board.tune w.queue)
+joined_starts : (p : Process) (w : World) → MayStart w p.player p.program → BegunSo w (process_joined p w)
+unfolding process_added
+joined_starts p w h = either (is_queue_full p.player w.live.board.tune w.queue)
   where
-    either : (b : Bool) → BegunSo w (cond b (w, Err ProcessLimit) (on_queue (added p) w, Ok (w.queue.last +ℤ pos 1)))
+    either : (b : Bool) → BegunSo w (cond b (w, Err ProcessLimit) (on_queue (process_added p) w, Ok (w.queue.last +ℤ pos 1)))
     either true = refl
-    either false = inr (w.queue.processes, queues.numbered (w.queue.last +ℤ pos 1) p, refl, h)
+    either false = inr (w.queue.processes, queues.process_numbered (w.queue.last +ℤ pos 1) p, refl, h)
 
 word_starts : (m : Manner) (c : Call) (tree : Tree) (o : Option Definition) (w : World) → MayStart w c.player c.program → BegunSo w (word_started m c tree o w)
 unfolding new_process
 word_starts m c tree None w h = refl
-word_starts m c tree (Some first) w h = joined_starts (new_process m c (beginning c tree first w)) w h
+word_starts m c tree (Some first) w h = joined_starts (new_process m c (program_beginning c tree first w)) w h
 
 form_starts : (m : Manner) (c : Call) (o : Option Tree) (w : World) → MayStart w c.player c.program → BegunSo w (form_started m c o w)
 form_starts m c None w h = refl
@@ -72,8 +72,8 @@ built_starts m c (form, library) w h = as_before (form_started m c form (with_li
     as_before (v, Ok n) k = k
     as_before (v, Err f) k = k
 
-begun_starts : (m : Manner) (c : Call) (w : World) → MayStart w c.player c.program → BegunSo w (begun m c w)
-unfolding begun
+begun_starts : (m : Manner) (c : Call) (w : World) → MayStart w c.player c.program → BegunSo w (program_begun m c w)
+unfolding program_begun
 begun_starts m c w h = built_starts m c (formed w.live.objects c.program w.library) w h
 
 told_starts : (d : ℕ) (w : World) (r : World × Result ℤ MufFault) → BegunSo w r → LineStarts w (start_told d r)
@@ -86,7 +86,7 @@ launched_starts d c w = at (verdict w.live.objects (actor_of w.live.objects c.pl
   where
     at : (o : Option Denial) → verdict w.live.objects (actor_of w.live.objects c.player) (Start c.program) ≡ o → LineStarts w (start_judged d c o w)
     at (Some denial) e = inl refl
-    at None e = told_starts d w (begun (by_command d c.program w) c w) (begun_starts (by_command d c.program w) c w e)
+    at None e = told_starts d w (program_begun (by_command d c.program w) c w) (begun_starts (by_command d c.program w) c w e)
 
 -- Nothing else of a line starts any.
 
@@ -94,26 +94,26 @@ last_unbuilt : (d : Dbref) (w : World) → (unbuilt d w).queue.last ≡ w.queue.
 unfolding ended_running
 last_unbuilt d w = refl
 
-last_followed : (m : Mark) (d : Dbref) (w : World) → (followed m d w).queue.last ≡ w.queue.last
+last_followed : (m : Mark) (d : Dbref) (w : World) → (mark_followed m d w).queue.last ≡ w.queue.last
 unfolding trigger_cleared
 last_followed Lines d w = last_unbuilt d w
 last_followed Gone d w = last_unbuilt d w
 
-last_marked : (o : Option Mark) (d : Dbref) (w : World) → (option_map_or (λ mark. followed mark d w) o w).queue.last ≡ w.queue.last
+last_marked : (o : Option Mark) (d : Dbref) (w : World) → (option_map_or (λ mark. mark_followed mark d w) o w).queue.last ≡ w.queue.last
 last_marked None d w = refl
 last_marked (Some m) d w = last_followed m d w
 
 last_swept : (n : ℕ) (es : List Entry) (w : World) → (swept n es w).queue.last ≡ w.queue.last
 unfolding swept
 last_swept n [] w = refl
-last_swept n (e ∷ es) w = last_swept (suc n) es (option_map_or (λ mark. followed mark (dbref_of n) w) e.mark w) ∙ last_marked e.mark (dbref_of n) w
+last_swept n (e ∷ es) w = last_swept (suc n) es (option_map_or (λ mark. mark_followed mark (dbref_of n) w) e.mark w) ∙ last_marked e.mark (dbref_of n) w
 
 pub last_settled : (w : World) → (settled w).queue.last ≡ w.queue.last
 unfolding settled
 last_settled w = last_swept 0 w.live.objects w
 
-last_without : (o : Option Process) (q : Queue) → (option_map_or (λ p. without p.number q) o q).last ≡ q.last
-unfolding without
+last_without : (o : Option Process) (q : Queue) → (option_map_or (λ p. without_process p.number q) o q).last ≡ q.last
+unfolding without_process
 last_without None q = refl
 last_without (Some p) q = refl
 
@@ -122,8 +122,8 @@ unfolding after_line
 last_behind a line q v NotMine = last_without (line_ends a q line v) q
 last_behind a line q v _ = refl
 
-last_left : (d : ℕ) (a : Actor) (line : List ℕ) (w : Live) (q : Queue) → (left_by d a line w q).last ≡ q.last
-unfolding left_by
+last_left : (d : ℕ) (a : Actor) (line : List ℕ) (w : Live) (q : Queue) → (processes_after_line d a line w q).last ≡ q.last
+unfolding processes_after_line
 last_left d a line w q = last_behind a line q (played d a line w).0 (played d a line w).1
 
 last_compiled : (d : ℕ) (program : Dbref) (r : Result Tree Flaw) (w : World) → (compiled_so d program r w).queue.last ≡ w.queue.last
@@ -138,23 +138,23 @@ last_edit d program _ w = refl
 last_edited : (d : ℕ) (player : Dbref) (s : EditState) (line : List ℕ) (w : World) → (edited_line d player s line w).queue.last ≡ w.queue.last
 unfolding edited_line
 last_edited d player s line w =
-    let r = edited d (actor_of w.live.objects player) s line w.live in
+    let r = edited_by_line d (actor_of w.live.objects player) s line w.live in
     let u : World = record w { live = with_editor d (next_editor r.2 r.1) r.0 } in
     last_edit d s.program r.2 (settled u) ∙ last_settled u
 
 last_editor : (d : ℕ) (player : Dbref) (s : EditState) (line : List ℕ) (w : World) → (in_editor d player s line w).queue.last ≡ w.queue.last
 unfolding in_editor
-last_editor d player s line w = either (is_open s w.live)
+last_editor d player s line w = either (is_editor_open s w.live)
   where
     either : (b : Bool) → (cond b (edited_line d player s line w) (on_live (tell d editor_exited) w)).queue.last ≡ w.queue.last
     either true = last_edited d player s line w
     either false = refl
 
 last_given : (d : ℕ) (pid : ℤ) (line : List ℕ) (w : World) → (given_line d pid line w).queue.last ≡ w.queue.last
-unfolding given_line without on_process
+unfolding given_line without_process on_process
 last_given d pid line w = either (is_abort line)
   where
-    either : (b : Bool) → (cond b (on_live (tell d program_aborted) (on_queue (without pid) w)) (on_queue (on_process pid (told_line w.moment line)) w)).queue.last ≡ w.queue.last
+    either : (b : Bool) → (cond b (on_live (tell d program_aborted) (on_queue (without_process pid) w)) (on_queue (on_process pid (told_line w.moment line)) w)).queue.last ≡ w.queue.last
     either true = refl
     either false = refl
 
@@ -171,7 +171,7 @@ unfolding in_world
 world_starts d player line w =
     let a : Actor = actor_of w.live.objects player in
     let r = typed w.queue d a line w.live in
-    let u : World = record w { live = r.0; queue = left_by d a line w.live w.queue } in
+    let u : World = record w { live = r.0; queue = processes_after_line d a line w.live w.queue } in
     starts_from (settled u) w (followed_up d player r.1 (settled u)) (last_settled u ∙ last_left d a line w.live w.queue) (up_starts d player r.1 (settled u))
 
 command_starts : (player : Option Dbref) (editor : Option EditState) (d : ℕ) (line : List ℕ) (w : World) → LineStarts w (command player editor d line w)
@@ -188,7 +188,7 @@ done_starts d player editor [] w = inl refl
 done_starts d player editor (line ∷ lines) w = for_starts (reader d w.queue) player editor d line (on_live (waits d lines) w)
 
 -- a line of any connection
-pub line_starts : (d : ℕ) (o : Option Connection) (w : World) → LineStarts w (done d o w)
-unfolding done
+pub line_starts : (d : ℕ) (o : Option Connection) (w : World) → LineStarts w (first_line_done d o w)
+unfolding first_line_done
 line_starts d None w = inl refl
 line_starts d (Some c) w = done_starts d c.player c.editor c.waiting w

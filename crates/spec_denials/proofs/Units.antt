@@ -11,15 +11,15 @@ use Rattle.muf_model.specs.declared.prims.Primitive.{Primitive}
 use Rattle.muf_model.specs.declared.prims.Primitive.TheVariants.{NextProp}
 use Rattle.muf_model.specs.Datum.{Datum, int}
 use Rattle.muf_model.specs.Tree.{Block, stop, word, when, fork, ring, Definition, Tree}
-use Rattle.muf_model.specs.Source.{Program, Source, locked_of, calls_of, handed, entered, passed_at, last_word}
+use Rattle.muf_model.specs.Source.{Program, Source, locked_of, calls_running, handed, program_entered, passed_at, last_word}
 use Rattle.muf_model.specs.Unit.{calls_most, Outcome, asks, faulted, unit}
 use Rattle.muf_model.specs.Chains.{programs_of, Keeps as Keep}
 use Rattle.muf_model.proofs.Chains.{unit_keeps}
 use Rattle.muck_library.specs.Library.{Library, formed}
 use Rattle.muck_queue.specs.declared.process.Process.{Process}
-use Rattle.muck_queue.specs.Queues.{process, is_full, added}
-use Rattle.spec_prims.specs.Asking.{numbered}
-use Rattle.spec_prims.specs.Row.{Row, gives, refuses, breaks}
+use Rattle.muck_queue.specs.Queues.{process, is_queue_full, process_added}
+use Rattle.spec_prims.specs.Asking.{object_numbered}
+use Rattle.spec_prims.specs.Row.{WorldAnswer, gives, refuses, breaks}
 use Rattle.spec_prims.specs.Formulas.{answers_for, is_formula}
 use Rattle.spec_prims.specs.Shared.{shared}
 use Rattle.spec_processes.specs.ProcessRows.{Effect, gives as effect_gives, waits, forks, enters, starts, refuses as effect_refuses, processed, is_process}
@@ -27,13 +27,13 @@ use Rattle.spec_events.specs.declared.starting.Agent.{Agent}
 use Rattle.spec_events.specs.declared.starting.Call.{Call}
 use Rattle.spec_events.specs.declared.starting.Manner.{Manner}
 use Rattle.spec_events.specs.World.{World, on_queue, with_library}
-use Rattle.spec_events.specs.Starting.{begun, beginning, new_process, joined, word_started, form_started, built_started}
-use Rattle.spec_events.specs.Slices.{acting, Deed, does, rests, fails, behind, lifted, row_done, called_word, word_entered, form_entered, form_called, program_called, child_of, with_number, child_joined, forked, with_process, queued, place_in, effected, process_done, deed, out, one_counted, turn, unit_of, run_of}
+use Rattle.spec_events.specs.Starting.{program_begun, program_beginning, new_process, process_joined, word_started, form_started, built_started}
+use Rattle.spec_events.specs.Slices.{acting, SharedEffect, does, rests, fails, state_behind, lifted, row_done, called_word, word_entered, form_entered, form_called, program_called, child_of, with_number, child_joined, forked, with_process, queued, place_of_use, effected, process_done, deed, out, one_counted, unit_taken, unit_of, units_run}
 use Rattle.spec_events.specs.Sourced.{Each}
 use Rattle.spec_events.proofs.Slicing.{run_holds}
 use Rattle.spec_events.proofs.Taken.{same_actor}
 use Rattle.spec_denials.specs.Plain.{EndsPlain}
-use Rattle.spec_denials.specs.Acts.{acts_of}
+use Rattle.spec_denials.specs.Acts.{primitive_acts}
 use Rattle.spec_denials.specs.Asked.{first_denied, FaultNames, RowNames, NameListed, RowLists}
 use Rattle.spec_denials.specs.Notes.{BrokeNames, Breaks}
 use Rattle.spec_denials.specs.Processes.{process_acts, EffectNames}
@@ -58,12 +58,12 @@ module _ (by : Actor) (rule : Option ℕ) (stack : List Datum) (live : Live) whe
 
 -- What follows where a program is called, started or forked is no denial.
 
-abbrev Fine : Deed World → Type 0
+abbrev Fine : SharedEffect World → Type 0
 Fine (does s w) = Unit {0}
 Fine (rests s w) = Unit {0}
 Fine (fails f w) = FaultNames None f
 
-deed_fine : (b : Bool) (by : Actor) (rule : Option ℕ) (stack : List Datum) (live : Live) (d : Deed World) → rule ≡ None → Fine d → DeedNames b by rule stack live d
+deed_fine : (b : Bool) (by : Actor) (rule : Option ℕ) (stack : List Datum) (live : Live) (d : SharedEffect World) → rule ≡ None → Fine d → DeedNames b by rule stack live d
 deed_fine b by rule stack live (does s w) h k = h
 deed_fine b by rule stack live (rests s w) h k = h
 deed_fine b by rule stack live (fails f w) h k = deed_fails by rule stack live b f w (fault_plain f rule k)
@@ -73,8 +73,8 @@ abbrev IsBegun : World × Result ℤ MufFault → Type 0
 IsBegun (w, Ok n) = Unit {0}
 IsBegun (w, Err f) = FaultNames None f
 
-joined_fine : (p : Process) (w : World) → IsBegun (joined p w)
-joined_fine p w = either (is_full p.player w.live.board.tune w.queue) (on_queue (added p) w, Ok (w.queue.last +ℤ pos 1)) tt
+joined_fine : (p : Process) (w : World) → IsBegun (process_joined p w)
+joined_fine p w = either (is_queue_full p.player w.live.board.tune w.queue) (on_queue (process_added p) w, Ok (w.queue.last +ℤ pos 1)) tt
   where
     either : (b : Bool) (x : World × Result ℤ MufFault) → IsBegun x → IsBegun (cond b (w, Err ProcessLimit) x)
     either true x h = tt
@@ -82,7 +82,7 @@ joined_fine p w = either (is_full p.player w.live.board.tune w.queue) (on_queue 
 
 word_fine : (m : Manner) (c : Call) (tree : Tree) (o : Option Definition) (w : World) → IsBegun (word_started m c tree o w)
 word_fine m c tree None w = tt
-word_fine m c tree (Some first) w = joined_fine (new_process m c (beginning c tree first w)) w
+word_fine m c tree (Some first) w = joined_fine (new_process m c (program_beginning c tree first w)) w
 
 form_fine : (m : Manner) (c : Call) (o : Option Tree) (w : World) → IsBegun (form_started m c o w)
 form_fine m c None w = tt
@@ -91,8 +91,8 @@ form_fine m c (Some tree) w = word_fine m c tree (last_word tree.words) w
 built_fine : (m : Manner) (c : Call) (made : Option Tree × Library) (w : World) → IsBegun (built_started m c made w)
 built_fine m c (form, library) w = form_fine m c form (with_library library w)
 
-begun_fine : (m : Manner) (c : Call) (w : World) → IsBegun (begun m c w)
-unfolding begun
+begun_fine : (m : Manner) (c : Call) (w : World) → IsBegun (program_begun m c w)
+unfolding program_begun
 begun_fine m c w = built_fine m c (formed w.live.objects c.program w.library) w
 
 with_fine : (stack : List Datum) (s : Source) (r : World × Result ℤ MufFault) → IsBegun r → Fine (with_process stack s r)
@@ -109,7 +109,7 @@ number_fine stack s (w, Err f) = tt
 
 child_fine : (o : Option Process) (stack : List Datum) (s : Source) (w : World) → Fine (child_joined o stack s w)
 child_fine None stack s w = tt
-child_fine (Some p) stack s w = number_fine stack s (joined (child_of w.moment (handed (int (pos 0)) (behind stack s)) p) w)
+child_fine (Some p) stack s w = number_fine stack s (process_joined (child_of w.moment (handed (int (pos 0)) (state_behind stack s)) p) w)
 
 forked_fine : (pid : ℤ) (stack : List Datum) (s : Source) (w : World) → Fine (forked pid stack s w)
 unfolding forked
@@ -117,9 +117,9 @@ forked_fine pid stack s w = child_fine (process pid w.queue) stack s w
 
 entered_fine : (s : Source) (program : Program) (o : Option Definition) (w : World) → Fine (word_entered s program o w)
 entered_fine s program None w = tt
-entered_fine s program (Some d) w = either (nat_lt (calls_of s.marks) calls_most)
+entered_fine s program (Some d) w = either (nat_lt (calls_running s.marks) calls_most)
   where
-    either : (b : Bool) → Fine (cond b (does (entered program d s) w) (fails CallsFull w))
+    either : (b : Bool) → Fine (cond b (does (program_entered program d s) w) (fails CallsFull w))
     either true = tt
     either false = tt
 
@@ -132,7 +132,7 @@ made_fine a after d name (form, library) w = tree_fine a after d name form (with
 
 called_fine : (a : Actor) (after : Source) (d : ℤ) (name : Option (List ℕ)) (w : World) → Fine (program_called a after d name w)
 unfolding program_called
-called_fine a after d name w = made_fine a after d name (formed w.live.objects (numbered d) w.library) w
+called_fine a after d name w = made_fine a after d name (formed w.live.objects (object_numbered d) w.library) w
 
 -- A deed by its row.
 
@@ -140,11 +140,11 @@ effect_deed : (b : Bool) (by : Actor) (rule : Option ℕ) (pid : ℤ) (x : Agent
 effect_deed b by rule pid x s w (effect_gives stack live queue) h = h
 effect_deed b by rule pid x s w (waits n stack queue) h = h
 effect_deed b by rule pid x s w (forks stack) h = deed_fine b by rule s.stack w.live (forked pid stack s w) h (forked_fine pid stack s w)
-effect_deed b by rule pid x s w (enters stack d name) h = deed_fine b by rule s.stack w.live (program_called (acting x s w.live.objects) (behind stack s) d name w) h (called_fine (acting x s w.live.objects) (behind stack s) d name w)
+effect_deed b by rule pid x s w (enters stack d name) h = deed_fine b by rule s.stack w.live (program_called (acting x s w.live.objects) (state_behind stack s) d name w) h (called_fine (acting x s w.live.objects) (state_behind stack s) d name w)
 effect_deed b by rule pid x s w (starts stack d seconds argument) h = deed_fine b by rule s.stack w.live (queued x stack d seconds argument s w) h (queued_fine x stack d seconds argument s w)
 effect_deed b by rule pid x s w (effect_refuses f) h = deed_fails by rule s.stack w.live b f w h
 
-row_deed : (b : Bool) (by : Actor) (rule : Option ℕ) (s : Source) (w : World) (row : Row) → RowNames (Breaks b by s.stack w.live) rule row → DeedNames b by rule s.stack w.live (lifted s w row)
+row_deed : (b : Bool) (by : Actor) (rule : Option ℕ) (s : Source) (w : World) (row : WorldAnswer) → RowNames (Breaks b by s.stack w.live) rule row → DeedNames b by rule s.stack w.live (lifted s w row)
 row_deed b by rule s w (gives stack live) h = h
 row_deed b by rule s w (refuses f) h = deed_fails by rule s.stack w.live b f w h
 row_deed true by rule s w (breaks f live) h = begun_broke by rule s.stack w.live f h.0 h.1
@@ -157,7 +157,7 @@ behind_stack (when line a next) s = refl
 behind_stack (fork k line a mid b next) s = refl
 behind_stack (ring k line body c last next) s = refl
 
-lists_row : (a : Actor) (es : List Entry) (s : Source) (w : World) (row : Row) → RowLists a es s.stack row → DeedLists NextProp a es s.stack (lifted s w row)
+lists_row : (a : Actor) (es : List Entry) (s : Source) (w : World) (row : WorldAnswer) → RowLists a es s.stack row → DeedLists NextProp a es s.stack (lifted s w row)
 lists_row a es s w (gives stack live) h = subst (NameListed a es s.stack) (sym (behind_stack s.now (record s { stack = stack }))) h
 lists_row a es s w (refuses f) h = tt
 lists_row a es s w (breaks f live) h = tt
@@ -173,9 +173,9 @@ module _ (pid : ℤ) (x : Agent) (s : Source) (w : World) where
       by : Actor
       by = answers_for p (acting x s w.live.objects) w.live.objects
 
-      either : (b : Bool) → DeedNames (is_formula p) by (first_denied w.live.objects (acting x s w.live.objects) (cond b (process_acts p s.stack w.queue) (acts_of p s.stack w.live.objects))) s.stack w.live (cond b (process_done pid x p s w) (row_done x p s w))
+      either : (b : Bool) → DeedNames (is_formula p) by (first_denied w.live.objects (acting x s w.live.objects) (cond b (process_acts p s.stack w.queue) (primitive_acts p s.stack w.live.objects))) s.stack w.live (cond b (process_done pid x p s w) (row_done x p s w))
       either true =
-          effect_deed (is_formula p) by _ pid x s w (processed p (place_in pid s w) who (locked_of s.marks) s.stack w.live w.queue) (processed_names p (place_in pid s w) who (locked_of s.marks) s.stack w.live w.queue)
+          effect_deed (is_formula p) by _ pid x s w (processed p (place_of_use pid s w) who (locked_of s.marks) s.stack w.live w.queue) (processed_names p (place_of_use pid s w) who (locked_of s.marks) s.stack w.live w.queue)
       either false = row_deed (is_formula p) by _ s w (shared p who x.descr (locked_of s.marks) s.stack w.live) (shared_names p who x.descr (locked_of s.marks) s.stack w.live)
 
   deed_lists : (p : Primitive) → DeedLists p (acting x s w.live.objects) w.live.objects s.stack (deed pid x p s w)
@@ -192,9 +192,9 @@ outcome_names pid x s w (asks p t) e =
 outcome_names pid x s w (faulted f) e = subst EndsPlain e (unit_plain s)
 outcome_names pid x s w o e = tt
 
-unit_names : (tune : Tune) (pid : ℤ) (x : Agent) (s : Source) (w : World) → UnitNames tune pid (unit_of x s w (turn tune pid x s w))
+unit_names : (tune : Tune) (pid : ℤ) (x : Agent) (s : Source) (w : World) → UnitNames tune pid (unit_of x s w (unit_taken tune pid x s w))
 unit_names tune pid x s w = record { agent = x; acts = refl; went = refl; names = outcome_names pid x s (out pid (one_counted pid w)) (unit s) refl }
 
 -- and each of them
-pub units_named : (tune : Tune) (pid : ℤ) (n : ℕ) (w : World) → Each (UnitNames tune pid) (run_of tune n pid w)
+pub units_named : (tune : Tune) (pid : ℤ) (n : ℕ) (w : World) → Each (UnitNames tune pid) (units_run tune n pid w)
 units_named tune pid n w = run_holds tune pid (λ v ts. Each (UnitNames tune pid) ts) (λ v. tt) (λ v x s ts e rest. (unit_names tune pid x s v, rest)) n w

@@ -13,22 +13,22 @@ use Rattle.muf_model.specs.declared.prims.Primitive.TheVariants.{Pop, Dup, DupTr
 use Rattle.muf_model.specs.declared.value.MapKey.{MapKey}
 use Rattle.muf_model.specs.declared.value.MapKey.TheVariants.{Number, Name}
 use Rattle.muck_model.specs.Bytes.{text_most}
-use Rattle.muf_model.specs.Datum.{Datum, int, text, object, variable, address, items, dict, data_of, list_of, pairs_of, entries_of}
-use Rattle.muf_model.specs.Answer.{Answer, gives, calls, refuses, Made, makes, rejects, Scope, Deed, plain, whole, stack_most, too_few, needing, fitting, put, unless, variable_at}
-use Rattle.muf_model.specs.Entries.{entry_of, with_entry, gathered}
-use Rattle.muf_model.specs.Prims.{family_of, level_of, needs_of}
-use Rattle.muf_model.specs.Kinds.{is_so, kind_of, suits}
-use Rattle.muf_model.specs.Values.{fits}
+use Rattle.muf_model.specs.Datum.{Datum, int, text, object, variable, address, items, dict, data_of, data_list, pairs_of, entries_of}
+use Rattle.muf_model.specs.Answer.{Answer, gives, calls, refuses, Made, makes, rejects, Scope, PrimitiveEffect, plain, whole, stack_most, too_few, needing, stack_fitting, items_put, answer_unless, variable_at}
+use Rattle.muf_model.specs.Entries.{value_of_key, with_entry, gathered}
+use Rattle.muf_model.specs.Prims.{family_of, primitive_level, needs_of}
+use Rattle.muf_model.specs.Kinds.{is_kind_so, kind_of_item, suits}
+use Rattle.muf_model.specs.Values.{value_fits}
 use Rattle.muf_model.specs.Needs.{Needs, Many}
-use Rattle.muf_model.specs.Ladder.{short, miscounted, too_short, unfit, absent, walk, wanted, ladder, any_level, all_there}
-use Rattle.muf_model.specs.StackRows.{doubled, doubled_true, swapped, overed, turned, rotated, by_count, picked, put_at, doubled_many, doubled_list, popped_many, reversed, nipped, tucked, closed, unmarked, above, is_mark, fetched, fetching, stored, storing, judged, executed, aborted, stack_row}
+use Rattle.muf_model.specs.Ladder.{short, miscounted, too_short, unfit, absent, first_refusal, wanted, ladder, any_level, all_there}
+use Rattle.muf_model.specs.StackRows.{doubled, doubled_true, swapped, overed, items_rotated, rotated, by_count, item_picked, item_put_at, doubled_many, doubled_list, popped_many, reversed, nipped, tucked, mark_closed, mark_counted, above_locked, is_mark, fetched, fetching, item_stored, variable_storing, item_judged, executed, aborted, stack_row}
 use Rattle.muf_model.specs.NumberRows as number
-use Rattle.muf_model.specs.NumberRows.{NumberRow, number_table, number_deed, number_row, one_int, two_ints, compared, two_truths, number_of, object_of, objects_equal}
-use Rattle.muf_model.specs.TextRows.{sized, place, around, one_text, two_texts, three_texts, text_and_int, texts_and_int, text_and_ints, one_integer, one_number, of_text, of_texts, of_sought, seeking, subst, cut_behind, first_compared, middle, in_decimal, character, text_row}
+use Rattle.muf_model.specs.NumberRows.{NumberRow, number_table, number_deed, number_row, one_int, two_ints, compared, two_truths, to_integer, to_object, objects_equal}
+use Rattle.muf_model.specs.TextRows.{text_within, place, around, one_text, two_texts, three_texts, text_and_int, texts_and_int, text_and_ints, one_integer, one_number, of_text, of_texts, of_sought, seeking, subst, text_cut_behind, first_compared, text_middle, in_decimal, character, text_row}
 use Rattle.muf_model.specs.Texts.{first_place, last_place}
 use Rattle.muf_model.specs.ArrayRows as array
-use Rattle.muf_model.specs.ArrayRows.{key_of, entries_in, one_held, at_key, held_and_key, item_held_and_key, valued, found, first_key, list_made, dict_made, item_got, set_in, inserted_in, appended_to, appended, gone_from, words_of, joins, array_row}
-use Rattle.muf_model.specs.Rows.{local_row, used, primitive}
+use Rattle.muf_model.specs.ArrayRows.{map_key_of, entries_in, one_held, at_key, held_and_key, item_held_and_key, valued, value_found, first_key, list_made, dict_made, item_got, set_in, inserted_in, appended_to, appended, gone_from, words_of, joins, array_row}
+use Rattle.muf_model.specs.Rows.{local_row, primitive_used, primitive}
 use Rattle.spec_denials.specs.Plain.{NoDenial, NotDenied}
 
 abbrev MadePlain : Made → Type 0
@@ -57,7 +57,7 @@ plain_few n stack = at (nat_lt (length stack) n)
 pub plain_needing : (n locked : ℕ) (stack : List Datum) (answer : Answer) → NotDenied answer → NotDenied (needing n locked stack answer)
 plain_needing n locked stack answer h = answer_if (nat_lt (length stack) (locked + n)) (refuses (too_few n stack)) answer (plain_few n stack) h
 
-pub plain_fitting : (stack : List Datum) → NotDenied (fitting stack)
+pub plain_fitting : (stack : List Datum) → NotDenied (stack_fitting stack)
 plain_fitting stack = answer_if (nat_lt stack_most (length stack)) (refuses StackFull) (gives stack) tt tt
 
 -- Rows of the stack.
@@ -78,7 +78,7 @@ plain_overed : (xs : List Datum) → MadePlain (overed xs)
 plain_overed (y ∷ x ∷ []) = tt
 plain_overed _ = tt
 
-plain_turned : (xs : List Datum) → MadePlain (turned xs)
+plain_turned : (xs : List Datum) → MadePlain (items_rotated xs)
 plain_turned (z ∷ y ∷ x ∷ []) = tt
 plain_turned _ = tt
 
@@ -90,7 +90,7 @@ plain_tucked : (xs : List Datum) → MadePlain (tucked xs)
 plain_tucked (y ∷ x ∷ []) = tt
 plain_tucked _ = tt
 
-plain_judged : (test : Datum → Bool) (xs : List Datum) → MadePlain (judged test xs)
+plain_judged : (test : Datum → Bool) (xs : List Datum) → MadePlain (item_judged test xs)
 plain_judged test (x ∷ []) = tt
 plain_judged test _ = tt
 
@@ -107,19 +107,19 @@ plain_count : (answer : List Datum → ℕ → Answer) → ((rest : List Datum) 
 plain_count answer h s (int (pos n) ∷ rest) = h rest n
 plain_count answer h s _ = tt
 
-plain_picked : (rest : List Datum) (n : ℕ) → NotDenied (picked rest n)
+plain_picked : (rest : List Datum) (n : ℕ) → NotDenied (item_picked rest n)
 plain_picked rest zero = tt
 plain_picked rest (suc n) = tt
 
-plain_put : (rest : List Datum) (n : ℕ) → NotDenied (put_at rest n)
+plain_put : (rest : List Datum) (n : ℕ) → NotDenied (item_put_at rest n)
 plain_put rest zero = tt
 plain_put [] (suc n) = tt
 plain_put (y ∷ rest) (suc n) = tt
 
-plain_closed : (s : Scope) (stack : List Datum) → NotDenied (closed s stack)
-plain_closed s stack = at (position is_mark (above s.locked stack))
+plain_closed : (s : Scope) (stack : List Datum) → NotDenied (mark_closed s stack)
+plain_closed s stack = at (position is_mark (above_locked s.locked stack))
   where
-    at : (o : Option ℕ) → NotDenied (unmarked o stack)
+    at : (o : Option ℕ) → NotDenied (mark_counted o stack)
     at None = tt
     at (Some n) = tt
 
@@ -131,11 +131,11 @@ plain_fetching s (variable v ∷ rest) = at (variable_at v s)
     at (Some x) = tt
 plain_fetching s _ = tt
 
-pub plain_stored : (o : Option Datum) (v : ℕ) (x : Datum) (rest : List Datum) → NotDenied (stored o v x rest)
+pub plain_stored : (o : Option Datum) (v : ℕ) (x : Datum) (rest : List Datum) → NotDenied (item_stored o v x rest)
 plain_stored None v x rest = tt
 plain_stored (Some old) v x rest = tt
 
-plain_storing : (s : Scope) (stack : List Datum) → NotDenied (storing s stack)
+plain_storing : (s : Scope) (stack : List Datum) → NotDenied (variable_storing s stack)
 plain_storing s (variable v ∷ x ∷ rest) = plain_stored (variable_at v s) v x rest
 plain_storing s _ = tt
 
@@ -143,7 +143,7 @@ plain_executed : (s : Scope) (stack : List Datum) → NotDenied (executed s stac
 plain_executed s (address program word ∷ rest) = answer_if (int_eq program s.program && nat_lt word s.words) (calls word rest) (refuses BadAddress) tt tt
 plain_executed s _ = tt
 
-abbrev DeedPlain : Option Deed → Type 0
+abbrev DeedPlain : Option PrimitiveEffect → Type 0
 DeedPlain None = Unit {0}
 DeedPlain (Some (plain f)) = (xs : List Datum) → MadePlain (f xs)
 DeedPlain (Some (whole f)) = (s : Scope) (stack : List Datum) → NotDenied (f s stack)
@@ -156,8 +156,8 @@ stack_plain Swap = plain_swapped
 stack_plain Over = plain_overed
 stack_plain Rot = plain_turned
 stack_plain Rotate = plain_rotated
-stack_plain Pick = plain_count picked plain_picked
-stack_plain Put = plain_count put_at plain_put
+stack_plain Pick = plain_count item_picked plain_picked
+stack_plain Put = plain_count item_put_at plain_put
 stack_plain Nip = plain_nipped
 stack_plain Tuck = plain_tucked
 stack_plain DupN = plain_count doubled_many (λ rest n. plain_fitting (take n rest ++ rest))
@@ -169,13 +169,13 @@ stack_plain OpenMark = λ xs. tt
 stack_plain CloseMark = plain_closed
 stack_plain Fetch = plain_fetching
 stack_plain Store = plain_storing
-stack_plain IsInt = plain_judged (is_so IsInt)
-stack_plain IsString = plain_judged (is_so IsString)
-stack_plain IsDbref = plain_judged (is_so IsDbref)
-stack_plain IsArray = plain_judged (is_so IsArray)
-stack_plain IsDictionary = plain_judged (is_so IsDictionary)
-stack_plain IsAddress = plain_judged (is_so IsAddress)
-stack_plain IsLock = plain_judged (is_so IsLock)
+stack_plain IsInt = plain_judged (is_kind_so IsInt)
+stack_plain IsString = plain_judged (is_kind_so IsString)
+stack_plain IsDbref = plain_judged (is_kind_so IsDbref)
+stack_plain IsArray = plain_judged (is_kind_so IsArray)
+stack_plain IsDictionary = plain_judged (is_kind_so IsDictionary)
+stack_plain IsAddress = plain_judged (is_kind_so IsAddress)
+stack_plain IsLock = plain_judged (is_kind_so IsLock)
 stack_plain Execute = plain_executed
 stack_plain Abort = plain_aborted
 stack_plain _ = tt
@@ -199,13 +199,13 @@ plain_truths : (f : Bool → Bool → Bool) (xs : List Datum) → MadePlain (two
 plain_truths f (y ∷ x ∷ []) = tt
 plain_truths f _ = tt
 
-plain_number : (xs : List Datum) → MadePlain (number_of xs)
+plain_number : (xs : List Datum) → MadePlain (to_integer xs)
 plain_number (int i ∷ []) = tt
 plain_number (object d ∷ []) = tt
 plain_number (variable v ∷ []) = tt
 plain_number _ = tt
 
-plain_object : (xs : List Datum) → MadePlain (object_of xs)
+plain_object : (xs : List Datum) → MadePlain (to_object xs)
 plain_object (int i ∷ []) = tt
 plain_object _ = tt
 
@@ -234,7 +234,7 @@ number_plain number.absent h = tt
 
 -- Rows of texts.
 
-plain_sized : (t : List ℕ) → MadePlain (sized t)
+plain_sized : (t : List ℕ) → MadePlain (text_within t)
 plain_sized t = made_if (nat_lt text_most (length t)) (rejects TextTooLong) (makes (text t ∷ [])) tt tt
 
 plain_place : (o : Option ℕ) → MadePlain (place o)
@@ -257,7 +257,7 @@ plain_three : (xs : List Datum) → MadePlain (three_texts subst xs)
 plain_three (text u ∷ text t ∷ text s ∷ []) = plain_sized _
 plain_three _ = tt
 
-plain_cut : (xs : List Datum) → MadePlain (text_and_int cut_behind xs)
+plain_cut : (xs : List Datum) → MadePlain (text_and_int text_cut_behind xs)
 plain_cut (int (pos n) ∷ text s ∷ []) = tt
 plain_cut (int (negsuc n) ∷ text s ∷ []) = tt
 plain_cut _ = tt
@@ -267,12 +267,12 @@ plain_first (int (pos n) ∷ text t ∷ text s ∷ []) = tt
 plain_first (int (negsuc n) ∷ text t ∷ text s ∷ []) = tt
 plain_first _ = tt
 
-plain_middle : (s : List ℕ) (p n : ℤ) → MadePlain (middle s p n)
+plain_middle : (s : List ℕ) (p n : ℤ) → MadePlain (text_middle s p n)
 plain_middle s (pos p) (pos n) = made_if (p == 0) (rejects BadArgument) _ tt (plain_sized _)
 plain_middle s (pos p) (negsuc n) = tt
 plain_middle s (negsuc p) n = tt
 
-plain_ints_of : (xs : List Datum) → MadePlain (text_and_ints middle xs)
+plain_ints_of : (xs : List Datum) → MadePlain (text_and_ints text_middle xs)
 plain_ints_of (int n ∷ int p ∷ text s ∷ []) = plain_middle s p n
 plain_ints_of _ = tt
 
@@ -344,7 +344,7 @@ text_plain _ = tt
 -- Rows of lists and dictionaries.
 
 plain_valued : (d : Datum) → MadePlain (valued d)
-plain_valued d = made_if (fits d) (makes (d ∷ [])) (rejects TooHeavy) tt tt
+plain_valued d = made_if (value_fits d) (makes (d ∷ [])) (rejects TooHeavy) tt tt
 
 plain_held : (f : Datum → Made) → ((d : Datum) → MadePlain (f d)) → (xs : List Datum) → MadePlain (one_held f xs)
 plain_held f h (a ∷ []) = h a
@@ -358,14 +358,14 @@ plain_key f h d (Some k) = h d k
 plain_key f h d None = tt
 
 plain_held_key : (f : Datum → MapKey → Made) → ((d : Datum) (k : MapKey) → MadePlain (f d k)) → (xs : List Datum) → MadePlain (held_and_key f xs)
-plain_held_key f h (k ∷ a ∷ []) = plain_key f h a (key_of k)
+plain_held_key f h (k ∷ a ∷ []) = plain_key f h a (map_key_of k)
 plain_held_key f h _ = tt
 
 plain_item_key : (f : Datum → Datum → MapKey → Made) → ((x d : Datum) (k : MapKey) → MadePlain (f x d k)) → (xs : List Datum) → MadePlain (item_held_and_key f xs)
-plain_item_key f h (k ∷ a ∷ x ∷ []) = plain_key (f x) (h x) a (key_of k)
+plain_item_key f h (k ∷ a ∷ x ∷ []) = plain_key (f x) (h x) a (map_key_of k)
 plain_item_key f h _ = tt
 
-plain_got : (o : Option Datum) → MadePlain (found o)
+plain_got : (o : Option Datum) → MadePlain (value_found o)
 plain_got None = tt
 plain_got (Some x) = tt
 
@@ -377,19 +377,19 @@ plain_between : (n m : ℕ) (x : Datum) (ds : List Datum) → MadePlain (cond (n
 plain_between n m x ds = made_if (nat_lt (length ds) n) (rejects BadArgument) (valued (items (data_of (take n ds ++ x ∷ drop m ds)))) tt (plain_valued (items (data_of (take n ds ++ x ∷ drop m ds))))
 
 plain_set : (x d : Datum) (k : MapKey) → MadePlain (set_in x d k)
-plain_set x (items ds) (Number (pos n)) = plain_between n (n + 1) x (list_of ds)
+plain_set x (items ds) (Number (pos n)) = plain_between n (n + 1) x (data_list ds)
 plain_set x (dict ps) k = plain_valued (dict (pairs_of (with_entry k x (entries_of ps))))
 plain_set x _ _ = tt
 
 plain_inserted : (x d : Datum) (k : MapKey) → MadePlain (inserted_in x d k)
-plain_inserted x (items ds) (Number (pos n)) = plain_between n n x (list_of ds)
+plain_inserted x (items ds) (Number (pos n)) = plain_between n n x (data_list ds)
 plain_inserted x (items ds) (Number (negsuc n)) = tt
 plain_inserted x (items ds) (Name t) = tt
 plain_inserted x (dict ps) k = plain_valued (dict (pairs_of (with_entry k x (entries_of ps))))
 plain_inserted x _ k = tt
 
 plain_appended_to : (a x : Datum) → MadePlain (appended_to a x)
-plain_appended_to (items ds) x = plain_valued (items (data_of (list_of ds ++ x ∷ [])))
+plain_appended_to (items ds) x = plain_valued (items (data_of (data_list ds ++ x ∷ [])))
 plain_appended_to _ x = tt
 
 plain_appended : (xs : List Datum) → MadePlain (appended xs)
@@ -420,14 +420,14 @@ plain_joins _ = tt
 array_plain : (p : Primitive) → DeedPlain (array_row p)
 array_plain ArrayMake = plain_list
 array_plain ArrayMakeDict = plain_dict
-array_plain ArrayCount = plain_held array.counted (λ d. tt)
-array_plain ArrayGetItem = plain_held_key item_got (λ d k. plain_got (entry_of k (entries_in d)))
+array_plain ArrayCount = plain_held array.items_counted (λ d. tt)
+array_plain ArrayGetItem = plain_held_key item_got (λ d k. plain_got (value_of_key k (entries_in d)))
 array_plain ArraySetItem = plain_item_key set_in plain_set
 array_plain ArrayInsertItem = plain_item_key inserted_in plain_inserted
 array_plain ArrayAppendItem = plain_appended
 array_plain ArrayDelItem = plain_held_key gone_from plain_gone
-array_plain ArrayFirst = plain_held array.first (λ d. plain_first_key (entries_in d))
-array_plain ArrayNext = plain_held_key array.next (λ d k. plain_first_key _)
+array_plain ArrayFirst = plain_held array.array_first (λ d. plain_first_key (entries_in d))
+array_plain ArrayNext = plain_held_key array.next_key (λ d k. plain_first_key _)
 array_plain ArrayKeys = plain_held array.keys (λ d. tt)
 array_plain ArrayVals = plain_held array.values (λ d. tt)
 array_plain ArrayExplode = plain_held array.exploded (λ d. tt)
@@ -465,7 +465,7 @@ plain_absent : (n : Need) (x : Datum) → Plain (absent all_there n x)
 plain_absent n (object d) = plain_if n.there None None tt tt
 plain_absent n _ = plain_if n.there None None tt tt
 
-plain_walk : (test : Need → Datum → Option MufFault) → ((n : Need) (x : Datum) → Plain (test n x)) → (ns : List Need) (xs : List Datum) → Plain (walk test ns xs)
+plain_walk : (test : Need → Datum → Option MufFault) → ((n : Need) (x : Datum) → Plain (test n x)) → (ns : List Need) (xs : List Datum) → Plain (first_refusal test ns xs)
 plain_walk test h [] xs = tt
 plain_walk test h (n ∷ ns) [] = tt
 plain_walk test h (n ∷ ns) (x ∷ xs) = plain_or _ _ (h n x) (plain_walk test h ns xs)
@@ -473,7 +473,7 @@ plain_walk test h (n ∷ ns) (x ∷ xs) = plain_or _ _ (h n x) (plain_walk test 
 plain_ladder : (level : ℕ) (needs : Needs) (locked : ℕ) (stack : List Datum) → Plain (ladder level needs any_level all_there locked stack)
 plain_ladder level needs locked stack =
     plain_or (too_short needs locked stack) _ (plain_too_short needs locked stack)
-    (plain_or (walk unfit (wanted needs stack) stack) _ (plain_walk unfit (λ n x. plain_if (suits n.kind (kind_of x)) None (Some BadType) tt tt) (wanted needs stack) stack)
+    (plain_or (first_refusal unfit (wanted needs stack) stack) _ (plain_walk unfit (λ n x. plain_if (suits n.kind (kind_of_item x)) None (Some BadType) tt tt) (wanted needs stack) stack)
     (plain_walk (absent all_there) plain_absent (wanted needs stack) stack))
 
 -- And all of them.
@@ -491,15 +491,15 @@ row_plain p = at (family_of p) refl
     at kind.Talk e = rw e tt
     at kind.Process e = rw e tt
 
-plain_made : (n : ℕ) (m : Made) (rest : List Datum) → MadePlain m → NotDenied (put n m rest)
-plain_made n (makes ds) rest h = answer_if (nat_lt n (length ds)) (fitting (ds ++ rest)) (gives (ds ++ rest)) (plain_fitting (ds ++ rest)) tt
+plain_made : (n : ℕ) (m : Made) (rest : List Datum) → MadePlain m → NotDenied (items_put n m rest)
+plain_made n (makes ds) rest h = answer_if (nat_lt n (length ds)) (stack_fitting (ds ++ rest)) (gives (ds ++ rest)) (plain_fitting (ds ++ rest)) tt
 plain_made n (rejects f) rest h = h
 
-plain_unless : (o : Option MufFault) (answer : Answer) → Plain o → NotDenied answer → NotDenied (unless o answer)
+plain_unless : (o : Option MufFault) (answer : Answer) → Plain o → NotDenied answer → NotDenied (answer_unless o answer)
 plain_unless None answer h k = k
 plain_unless (Some f) answer h k = h
 
-plain_used : (level : ℕ) (o : Option Needs) (d : Option Deed) (s : Scope) (stack : List Datum) → DeedPlain d → NotDenied (used level o d s stack)
+plain_used : (level : ℕ) (o : Option Needs) (d : Option PrimitiveEffect) (s : Scope) (stack : List Datum) → DeedPlain d → NotDenied (primitive_used level o d s stack)
 plain_used level None d s stack h = tt
 plain_used level (Some needs) None s stack h = tt
 plain_used level (Some needs) (Some (plain f)) s stack h = plain_unless _ _ (plain_ladder level needs s.locked stack) (plain_made _ (f _) _ (h _))
@@ -507,4 +507,4 @@ plain_used level (Some needs) (Some (whole f)) s stack h = plain_unless _ _ (pla
 
 -- what a word makes of the stack and the variables is never denied
 pub words_plain : (p : Primitive) (s : Scope) (stack : List Datum) → NotDenied (primitive p s stack)
-words_plain p s stack = plain_used (level_of p) (needs_of p) (local_row p) s stack (row_plain p)
+words_plain p s stack = plain_used (primitive_level p) (needs_of p) (local_row p) s stack (row_plain p)

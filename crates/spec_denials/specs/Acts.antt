@@ -16,15 +16,15 @@ use Rattle.muf_model.specs.declared.prims.Primitive.TheVariants.{MoveTo, SetLink
 use Rattle.muf_model.specs.Datum.{Datum, text, object}
 use Rattle.muf_model.specs.Needs.{Needs}
 use Rattle.muf_model.specs.Ladder.{wanted}
-use Rattle.muf_model.specs.Prims.{level_of, needs_of}
-use Rattle.spec_prims.specs.Asking.{numbered}
+use Rattle.muf_model.specs.Prims.{primitive_level, needs_of}
+use Rattle.spec_prims.specs.Asking.{object_numbered}
 use Rattle.spec_prims.specs.PropRows.{value_of}
-use Rattle.spec_prims.specs.Shared.{taken}
+use Rattle.spec_prims.specs.Shared.{items_taken}
 
 -- What has to be near.
 
 abbrev pub near_act : Need → Datum → List Act
-near_act n (object d) = if n.near then Near (numbered d) ∷ [] else []
+near_act n (object d) = if n.near then Near (object_numbered d) ∷ [] else []
 near_act n item = []
 
 -- each item that has to be near, the top first
@@ -40,7 +40,7 @@ near_of needs stack = option_map_or (λ needs. near_acts (wanted needs stack) st
 
 -- the property of an object is looked at
 abbrev pub looks : List Datum → List Act
-looks (text t ∷ object d ∷ []) = Read (numbered d) (segments_of t) ∷ []
+looks (text t ∷ object d ∷ []) = Read (object_numbered d) (segments_of t) ∷ []
 looks items = []
 
 -- of some objects those up to the first that has a value there
@@ -50,40 +50,40 @@ up_to_holder path (d ∷ ds) es = d ∷ (if is_some (value_of (object_at d es) p
 
 -- ENVPROP: of the object and its places upward, up to the holder
 abbrev pub looks_up : List Datum → List Entry → List Act
-looks_up (text t ∷ object d ∷ []) es = map (λ e. Read e (segments_of t)) (up_to_holder (segments_of t) (numbered d ∷ places_of es (numbered d)) es)
+looks_up (text t ∷ object d ∷ []) es = map (λ e. Read e (segments_of t)) (up_to_holder (segments_of t) (object_numbered d ∷ places_of es (object_numbered d)) es)
 looks_up items es = []
 
 -- SETPROP, ADDPROP, REMOVE_PROP
 abbrev pub puts : List Datum → List Act
-puts (value ∷ text t ∷ object d ∷ []) = Write (numbered d) (segments_of t) ∷ []
+puts (value ∷ text t ∷ object d ∷ []) = Write (object_numbered d) (segments_of t) ∷ []
 puts items = []
 
 abbrev pub adds : List Datum → List Act
-adds (n ∷ u ∷ text t ∷ object d ∷ []) = Write (numbered d) (segments_of t) ∷ []
+adds (n ∷ u ∷ text t ∷ object d ∷ []) = Write (object_numbered d) (segments_of t) ∷ []
 adds items = []
 
 abbrev pub removes : List Datum → List Act
-removes (text t ∷ object d ∷ []) = Write (numbered d) (segments_of t) ∷ []
+removes (text t ∷ object d ∷ []) = Write (object_numbered d) (segments_of t) ∷ []
 removes items = []
 
 -- Objects.
 
 -- MOVETO: the place has to be near, unless it is home
-abbrev pub moves : List Datum → List Act
-moves (object to ∷ object x ∷ []) = (if same (numbered to) home then [] else Near (numbered to) ∷ []) ++ Move (numbered x) (numbered to) ∷ []
-moves items = []
+abbrev pub move_acts : List Datum → List Act
+move_acts (object to ∷ object x ∷ []) = (if same (object_numbered to) home then [] else Near (object_numbered to) ∷ []) ++ Move (object_numbered x) (object_numbered to) ∷ []
+move_acts items = []
 
 abbrev pub of_two : (Dbref → Dbref → Act) → List Datum → List Act
-of_two act (object to ∷ object x ∷ []) = act (numbered x) (numbered to) ∷ []
+of_two act (object to ∷ object x ∷ []) = act (object_numbered x) (object_numbered to) ∷ []
 of_two act items = []
 
 abbrev pub of_one : (Dbref → Act) → List Datum → List Act
-of_one act (object x ∷ []) = act (numbered x) ∷ []
+of_one act (object x ∷ []) = act (object_numbered x) ∷ []
 of_one act items = []
 
 -- a text for an object
 abbrev pub of_named : (Dbref → Act) → List Datum → List Act
-of_named act (text t ∷ object x ∷ []) = act (numbered x) ∷ []
+of_named act (text t ∷ object x ∷ []) = act (object_numbered x) ∷ []
 of_named act items = []
 
 abbrev pub setting_act : Dbref → Setting → Act
@@ -92,7 +92,7 @@ setting_act x (NoFlag flag) = SetFlag x flag
 setting_act x (Level level) = SetLevel x level
 
 abbrev pub sets : List Datum → List Act
-sets (text t ∷ object x ∷ []) = option_map_or (λ setting. setting_act (numbered x) setting ∷ []) (setting_asked t) []
+sets (text t ∷ object x ∷ []) = option_map_or (λ setting. setting_act (object_numbered x) setting ∷ []) (setting_asked t) []
 sets items = []
 
 -- what a primitive asks for beside its level and what is near
@@ -106,7 +106,7 @@ own_acts EnvPropStr items es = looks_up items es
 own_acts SetProp items es = puts items
 own_acts AddProp items es = adds items
 own_acts RemoveProp items es = removes items
-own_acts MoveTo items es = moves items
+own_acts MoveTo items es = move_acts items
 own_acts SetLink items es = of_two (λ x to. Link x to) items
 own_acts SetOwn items es = of_two (λ x owner. SetOwner x owner) items
 own_acts Recycle items es = of_one (λ x. RecycleAct x) items
@@ -124,5 +124,5 @@ abbrev pub acts_with : Option Needs → ℕ → List Datum → List Act → List
 acts_with needs level stack own = Shared level ∷ (near_of needs stack ++ own)
 
 -- what a primitive of objects, of properties and of talk asks for at this stack
-abbrev pub acts_of : Primitive → List Datum → List Entry → List Act
-acts_of p stack es = acts_with (needs_of p) (level_of p) stack (own_acts p (take (taken p stack) stack) es)
+abbrev pub primitive_acts : Primitive → List Datum → List Entry → List Act
+primitive_acts p stack es = acts_with (needs_of p) (primitive_level p) stack (own_acts p (take (items_taken p stack) stack) es)

@@ -12,8 +12,8 @@ use Rattle.spec_rights.specs.Verdict.{verdict}
 use Rattle.muf_model.specs.declared.fault.MufFault.{MufFault}
 use Rattle.muf_model.specs.declared.fault.MufFault.TheVariants.{Denied}
 use Rattle.muf_model.specs.Datum.{Datum, text, object}
-use Rattle.spec_prims.specs.Asking.{numbered}
-use Rattle.spec_prims.specs.Row.{Row, gives, refuses, breaks}
+use Rattle.spec_prims.specs.Asking.{object_numbered}
+use Rattle.spec_prims.specs.Row.{WorldAnswer, gives, refuses, breaks}
 
 -- the rule by which the first of these acts is denied that is denied at all; none where each is allowed
 abbrev pub first_denied : List Entry → Actor → List Act → Option ℕ
@@ -26,7 +26,7 @@ FaultNames rule (Denied n) = rule ≡ Some n
 FaultNames rule fault = Unit {0}
 
 -- Where it is denied, it is so by this rule; and where it went on, no rule denied. Where it broke off, it had leave for what it asked for before that, and this holds of its fault.
-abbrev pub RowNames : (MufFault → Live → Type 0) → Option ℕ → Row → Type 0
+abbrev pub RowNames : (MufFault → Live → Type 0) → Option ℕ → WorldAnswer → Type 0
 RowNames Broke rule (gives items w) = rule ≡ None
 RowNames Broke rule (refuses f) = FaultNames rule f
 RowNames Broke rule (breaks f w) = (rule ≡ None) × Broke f w
@@ -36,10 +36,10 @@ abbrev pub IsListed : Actor → List Entry → Dbref → List ℕ → Type 0
 IsListed a es d name = (name ≡ []) ⊎ ((path : List (List ℕ)) × (name ≡ path_text path) × (verdict es a (Read d path) ≡ None))
 
 abbrev pub NameListed : Actor → List Entry → List Datum → List Datum → Type 0
-NameListed a es (text t ∷ object d ∷ rest) (text name ∷ others) = IsListed a es (numbered d) name
+NameListed a es (text t ∷ object d ∷ rest) (text name ∷ others) = IsListed a es (object_numbered d) name
 NameListed a es stack given = Unit {0}
 
 -- what NEXTPROP gives is listed so
-abbrev pub RowLists : Actor → List Entry → List Datum → Row → Type 0
+abbrev pub RowLists : Actor → List Entry → List Datum → WorldAnswer → Type 0
 RowLists a es stack (gives items w) = NameListed a es stack items
 RowLists a es stack row = Unit {0}

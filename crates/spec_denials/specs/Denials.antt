@@ -18,12 +18,12 @@ use Rattle.spec_prims.specs.Formulas.{answers_for, is_formula}
 use Rattle.spec_processes.specs.ProcessRows.{is_process}
 use Rattle.spec_events.specs.declared.starting.Agent.{Agent}
 use Rattle.spec_events.specs.World.{World}
-use Rattle.spec_events.specs.Slices.{acting, Deed, does, rests, fails, deed, out, one_counted, turn, Taken, units_of}
-use Rattle.spec_events.specs.Steps.{effect}
+use Rattle.spec_events.specs.Slices.{acting, SharedEffect, does, rests, fails, deed, out, one_counted, unit_taken, Taken, units_of}
+use Rattle.spec_events.specs.Steps.{effect, happened}
 use Rattle.spec_events.specs.Sourced.{Each}
 use Rattle.spec_denials.specs.Plain.{NoDenial}
 use Rattle.spec_denials.specs.Notes.{ParseDenied}
-use Rattle.spec_denials.specs.Acts.{acts_of}
+use Rattle.spec_denials.specs.Acts.{primitive_acts}
 use Rattle.spec_denials.specs.Processes.{process_acts}
 use Rattle.spec_denials.specs.Starts.{LineStarts}
 use Rattle.spec_denials.specs.Walks.{LineLocked}
@@ -32,7 +32,7 @@ use Rattle.spec_denials.specs.Asked.{first_denied, FaultNames, NameListed}
 
 -- what a shared primitive asks for in this world, at this stack
 abbrev pub acts_at : Primitive → List Datum → World → List Act
-acts_at p stack w = if is_process p then process_acts p stack w.queue else acts_of p stack w.live.objects
+acts_at p stack w = if is_process p then process_acts p stack w.queue else primitive_acts p stack w.live.objects
 
 -- A formula is denied by this rule before it begins; or it was let begin, and is denied something on its way.
 abbrev pub BegunNames : Actor → Option ℕ → List Datum → Live → MufFault → Type 0
@@ -40,19 +40,19 @@ BegunNames by rule stack w (Denied n) = (rule ≡ Some n) ⊎ ((rule ≡ None) �
 BegunNames by rule stack w fault = Unit {0}
 
 -- Where a deed is denied, it is so by this rule; and where it was done, no rule denied.
-abbrev pub DeedNames : Bool → Actor → Option ℕ → List Datum → Live → Deed World → Type 0
+abbrev pub DeedNames : Bool → Actor → Option ℕ → List Datum → Live → SharedEffect World → Type 0
 DeedNames formula by rule stack w (does s v) = rule ≡ None
 DeedNames formula by rule stack w (rests s v) = rule ≡ None
 DeedNames false by rule stack w (fails f v) = FaultNames rule f
 DeedNames true by rule stack w (fails f v) = BegunNames by rule stack w f
 
 -- what NEXTPROP gave is listed
-abbrev pub DeedLists : Primitive → Actor → List Kept → List Datum → Deed World → Type 0
+abbrev pub DeedLists : Primitive → Actor → List Kept → List Datum → SharedEffect World → Type 0
 DeedLists NextProp a es stack (does s w) = NameListed a es stack s.stack
 DeedLists p a es stack d = Unit {0}
 
 -- a shared primitive of this actor at this stack, which did this
-abbrev pub AskNames : Actor → Primitive → List Datum → World → Deed World → Type 0
+abbrev pub AskNames : Actor → Primitive → List Datum → World → SharedEffect World → Type 0
 AskNames a p stack w d = DeedNames (is_formula p) (answers_for p a w.live.objects) (first_denied w.live.objects a (acts_at p stack w)) stack w.live d × DeedLists p a w.live.objects stack d
 
 -- a unit that asks for no shared primitive isn't denied
@@ -65,7 +65,7 @@ OutcomeNames pid x a o w = Unit {0}
 pub record UnitNames (tune : Tune) (pid : ℤ) (t : Taken) : Type 0 where
   pub agent : Agent
   pub acts : t.actor ≡ acting agent t.state t.before.live.objects
-  pub went : t.turn ≡ turn tune pid agent t.state t.before
+  pub went : t.turn ≡ unit_taken tune pid agent t.state t.before
   pub names : OutcomeNames pid agent t.actor (unit t.state) (out pid (one_counted pid t.before))
 
 -- What an event asks for, from one world to the next: each unit of a slice what it asks for; and a line the program that it starts, the lock on which it hangs, and what its command asks for.
@@ -77,4 +77,4 @@ EventNamed event w v = Unit {0}
 -- and so each of these entries
 abbrev pub AllDenialsNamed : World → List Entry → Type 0
 AllDenialsNamed w [] = Unit {0}
-AllDenialsNamed w (entry ∷ entries) = EventNamed entry.event w (effect w entry) × AllDenialsNamed (effect w entry) entries
+AllDenialsNamed w (entry ∷ entries) = EventNamed entry.event w (happened w entry.party entry.event) × AllDenialsNamed (effect w entry) entries

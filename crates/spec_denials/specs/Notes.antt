@@ -17,17 +17,17 @@ use Rattle.mpi.specs.declared.host.Ask.TheVariants as ask
 use Rattle.mpi.specs.declared.host.Deed.{Deed}
 use Rattle.mpi.specs.declared.host.Deed.TheVariants as deed
 use Rattle.mpi.specs.Hosting.{Powers}
-use Rattle.mpi.specs.Thoughts.{State}
+use Rattle.mpi.specs.Thoughts.{MindState}
 use Rattle.mpi.specs.Variables.{Variables}
-use Rattle.mpi.specs.Meaning.{done, evaluated, scene_of}
+use Rattle.mpi.specs.Meaning.{text_unless, evaluated, scene_of}
 use Rattle.muf_model.specs.declared.fault.MufFault.{MufFault}
 use Rattle.muf_model.specs.declared.fault.MufFault.TheVariants.{Denied}
 use Rattle.muf_model.specs.Datum.{Datum, int, text, object}
-use Rattle.spec_mpi.specs.Stages.{Stage}
-use Rattle.spec_mpi.specs.Telling.{Answer, tells_in}
+use Rattle.spec_mpi.specs.Stages.{MpiStage}
+use Rattle.spec_mpi.specs.Telling.{MpiAnswer, tells_in}
 use Rattle.spec_mpi.specs.Doing.{does_in, powers}
 use Rattle.spec_mpi.specs.Messages.{variables_of}
-use Rattle.spec_prims.specs.Asking.{numbered}
+use Rattle.spec_prims.specs.Asking.{object_numbered}
 use Rattle.spec_denials.specs.Acts.{up_to_holder}
 use Rattle.spec_denials.specs.Asked.{first_denied}
 
@@ -49,26 +49,26 @@ request_acts request es = []
 abbrev pub denies : Actor → List Entry → Request → Option ℕ
 denies a es request = first_denied es a (request_acts request es)
 
-abbrev pub answer_of : Request → Stage → Answer
+abbrev pub answer_of : Request → MpiStage → MpiAnswer
 answer_of (question q) s = tells_in q s
-answer_of (action d) s = done [] (does_in d s).0
+answer_of (action d) s = text_unless [] (does_in d s).0
 
 -- Where it is denied, it is so by this rule; and where it was answered, no rule denied.
-abbrev pub AnswerNames : Option ℕ → Answer → Type 0
+abbrev pub AnswerNames : Option ℕ → MpiAnswer → Type 0
 AnswerNames rule (Ok value) = rule ≡ None
 AnswerNames rule (Err (MpiDenied n)) = rule ≡ Some n
 AnswerNames rule (Err fault) = Unit {0}
 
 -- Which request of a formula is denied. Denials may be numbered in any way: by what is asked, and by who acts in which world.
 abbrev pub Numbering : Type 0
-Numbering = Request → Stage → ℕ
+Numbering = Request → MpiStage → ℕ
 
 abbrev pub renumbered : ℕ → MpiFault → MpiFault
 renumbered k (MpiDenied n) = MpiDenied k
 renumbered k fault = fault
 
 -- as it is, but that denials are numbered so
-abbrev pub powers_by : Numbering → Powers Stage
+abbrev pub powers_by : Numbering → Powers MpiStage
 powers_by number = record powers {
   tells = λ q s. result_map_both (λ value. value) (renumbered (number (question q) s)) (tells_in q s);
   does = λ d s. (option_map (renumbered (number (action d) s)) (does_in d s).0, (does_in d s).1);
@@ -76,7 +76,7 @@ powers_by number = record powers {
 
 -- what a text of an object comes to for who acts
 abbrev pub Formula : Type 0
-Formula = Powers Stage → Answer × State Stage
+Formula = Powers MpiStage → MpiAnswer × MindState MpiStage
 
 abbrev pub formula : Actor → Dbref → List ℕ → Variables → Live → Formula
 formula a this body vars w by = evaluated (scene_of by this) body (record { variables = vars; left = 0 }, record { actor = a; live = w })
@@ -88,13 +88,13 @@ pub record IsDenied (n : ℕ) (a : Actor) (run : Formula) : Type 0 where
   pub ends : (number : Numbering) → run (powers_by number) ≡ (Err (MpiDenied (number request (run powers).1.1)), (run powers).1)
 
 -- the answer of a formula: where it is denied, it is so
-abbrev pub FormulaNames : Actor → Formula → Answer → Type 0
+abbrev pub FormulaNames : Actor → Formula → MpiAnswer → Type 0
 FormulaNames a run (Err (MpiDenied n)) = IsDenied n a run
 FormulaNames a run answer = Unit {0}
 
 -- PARSEMPI: the formula at this stack is denied
 abbrev pub ParseDenied : ℕ → Actor → List Datum → Live → Type 0
-ParseDenied n a (int i ∷ text how ∷ text body ∷ object this ∷ rest) w = IsDenied n a (formula a (numbered this) body (variables_of how [] []) w)
+ParseDenied n a (int i ∷ text how ∷ text body ∷ object this ∷ rest) w = IsDenied n a (formula a (object_numbered this) body (variables_of how [] []) w)
 ParseDenied n a stack w = ⊥
 
 abbrev pub BrokeNames : Actor → List Datum → Live → MufFault → Type 0

@@ -4,7 +4,7 @@ use Rattle.std.specs.Option.{option_and_then}
 use Rattle.muck_model.specs.declared.dbref.Dbref.{Dbref}
 use Rattle.muck_model.specs.declared.dbref.Denial.{Denial}
 use Rattle.muck_match.specs.Exits.{exit_for}
-use Rattle.muck_match.specs.Naming.{found, player_named}
+use Rattle.muck_match.specs.Naming.{thing_found, player_named}
 use Rattle.muck_prop.specs.Paths.{path_fault, segments_of}
 use Rattle.spec_live.specs.Lives.{Live, place_at}
 use Rattle.spec_live.specs.Objects.{Entry, dbref_of, nothing}
@@ -24,14 +24,14 @@ use Rattle.spec_commands.specs.declared.word.PlayWord.{PlayWord}
 use Rattle.spec_commands.specs.Building.{found_one, is_name, is_player_name, is_linkable, may_be_called}
 use Rattle.spec_commands.specs.Commands.{play_words, build_words, build_shape, begins_with_sign}
 use Rattle.spec_commands.specs.Finding.{actor_of}
-use Rattle.spec_commands.specs.Reading.{looked_up, is_empty, is_whole, has_full, left_in, right_in, are_fit, argued}
+use Rattle.spec_commands.specs.Reading.{looked_up, is_empty, has_all_parts, has_full, left_in, right_in, are_fit, argued}
 use Rattle.spec_commands.specs.Settings.{setting_asked, setting_act, has_colon, path_part}
 use Rattle.spec_commands.specs.Texts.{first_word, other_words, trimmed}
 use Rattle.spec_admin.specs.declared.word.AdminWord.{AdminWord}
 use Rattle.spec_admin.specs.declared.word.AdminWord.TheVariants.{Processes, Kill, Tune, NewPlayer, NewPassword}
 use Rattle.spec_admin.specs.Lines.{admin_words, admin_shape}
 use Rattle.spec_admin.specs.Players.{is_password}
-use Rattle.spec_admin.specs.Processes.{ending, process_meant}
+use Rattle.spec_admin.specs.Processes.{ending_act, process_meant}
 use Rattle.muck_queue.specs.Queues.{Queue}
 use Rattle.spec_events.specs.World.{World, on_live}
 use Rattle.spec_events.specs.Following.{settled}
@@ -45,7 +45,7 @@ meant_of a Nothing text es = Some nothing
 meant_of a Text text es = Some nothing
 meant_of a NewName text es = if is_name text then Some nothing else None
 meant_of a Player text es = player_named (scenery_of es) text
-meant_of a want text es = if is_empty text then Some nothing else found_one (found (scenery_of es) a.player text)
+meant_of a want text es = if is_empty text then Some nothing else found_one (thing_found (scenery_of es) a.player text)
 
 abbrev pub fit_of : Shape → Arguments → Live → Option Arguments
 fit_of shape args w = if are_fit shape args w then Some args else None
@@ -57,7 +57,7 @@ parts_of a shape left right w =
 
 -- the arguments of a command, out of the text behind its word
 abbrev pub arguments_of : Actor → Shape → List ℕ → Live → Option Arguments
-arguments_of a shape text w = if is_whole shape.form text then parts_of a shape (left_in shape.form text) (right_in shape.form text) w else None
+arguments_of a shape text w = if has_all_parts shape.form text then parts_of a shape (left_in shape.form text) (right_in shape.form text) w else None
 
 -- For what each command asks leave. Where the world refuses it ahead of that, it asks for nothing.
 
@@ -92,7 +92,7 @@ build_act Run a args w = Some (Call args.first.object)
 
 abbrev pub admin_act : Queue → AdminWord → Arguments → Live → Option Act
 admin_act q Processes args w = None
-admin_act q Kill args w = option_map ending (process_meant args.first.text q)
+admin_act q Kill args w = option_map ending_act (process_meant args.first.text q)
 admin_act q Tune args w = where_act (is_empty args.first.text || has_full args.first.text) Wizard
 admin_act q NewPlayer args w = where_act (is_player_name w.objects args.first.text && is_password args.second.text) Wizard
 admin_act q NewPassword args w = where_act (is_password args.second.text) (Password args.first.object)

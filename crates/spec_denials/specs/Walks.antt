@@ -6,7 +6,7 @@ use Rattle.muck_model.specs.declared.dbref.Denial.{Denial}
 use Rattle.muck_match.specs.declared.naming.Found.{Found}
 use Rattle.muck_match.specs.declared.naming.Found.TheVariants.{One}
 use Rattle.muck_match.specs.Exits.{exit_for}
-use Rattle.muck_match.specs.Naming.{found}
+use Rattle.muck_match.specs.Naming.{thing_found}
 use Rattle.spec_live.specs.Objects.{Entry}
 use Rattle.spec_live.specs.Seen.{scenery_of}
 use Rattle.spec_rights.specs.declared.act.Actor.{Actor}
@@ -33,7 +33,7 @@ take_of found = None
 -- `go` walks, and `get` takes what the player means
 abbrev pub word_act : Option PlayWord → Actor → List ℕ → List Entry → Option Act
 word_act (Some Go) a text es = walk_by a text es
-word_act (Some Get) a text es = take_of (found (scenery_of es) a.player text)
+word_act (Some Get) a text es = take_of (thing_found (scenery_of es) a.player text)
 word_act word a text es = None
 
 -- A line walks where an exit takes it, or by its word. One that begins with a sign is spoken.
@@ -51,12 +51,12 @@ abbrev pub places : List Entry → List Dbref
 places es = map (λ e. e.object.place) es
 
 -- Where it is denied, each object stays where it is, and nothing is started.
-abbrev pub Stays : Option Denial → World → World → Type 0
-Stays (Some denial) w v = (places v.live.objects ≡ places w.live.objects) × (v.queue.last ≡ w.queue.last)
-Stays None w v = Unit {0}
+abbrev pub StaysInPlace : Option Denial → World → World → Type 0
+StaysInPlace (Some denial) w v = (places v.live.objects ≡ places w.live.objects) × (v.queue.last ≡ w.queue.last)
+StaysInPlace None w v = Unit {0}
 
 abbrev pub CommandStays : Dbref → List ℕ → World → World → Type 0
-CommandStays player line w v = Stays (lock_verdict (actor_of w.live.objects player) line w.live.objects) w v
+CommandStays player line w v = StaysInPlace (lock_verdict (actor_of w.live.objects player) line w.live.objects) w v
 
 abbrev pub LineLocked : ℕ → World → World → Type 0
 LineLocked d w v = OfLine CommandStays d w v

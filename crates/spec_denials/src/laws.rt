@@ -14,16 +14,16 @@ ghost use Rattle.muf_model.specs.Rows.{primitive};
 ghost use Rattle.muf_model.specs.Source.{Source};
 ghost use Rattle.muf_model.specs.Unit.{unit};
 ghost use Rattle.muck_queue.specs.Queues.{Queue};
-ghost use Rattle.spec_mpi.specs.Stages.{Stage};
-ghost use Rattle.spec_mpi.specs.Messages.{heard};
+ghost use Rattle.spec_mpi.specs.Stages.{MpiStage};
+ghost use Rattle.spec_mpi.specs.Messages.{formula_heard};
 ghost use Rattle.spec_prims.specs.Formulas.{answers_for, is_formula};
 ghost use Rattle.spec_prims.specs.Shared.{shared};
 ghost use Rattle.spec_processes.specs.declared.place.Place.{Place};
 ghost use Rattle.spec_processes.specs.ProcessRows.{processed};
 ghost use Rattle.spec_events.specs.World.{World, connection};
-ghost use Rattle.spec_events.specs.Lines.{done};
+ghost use Rattle.spec_events.specs.Lines.{first_line_done};
 ghost use Rattle.spec_denials.specs.Plain.{NotDenied, EndsPlain};
-ghost use Rattle.spec_denials.specs.Acts.{acts_of};
+ghost use Rattle.spec_denials.specs.Acts.{primitive_acts};
 ghost use Rattle.spec_denials.specs.Asked.{first_denied, RowNames, RowLists};
 ghost use Rattle.spec_denials.specs.Notes.{Request, answer_of, denies, AnswerNames, formula, FormulaNames, Breaks};
 ghost use Rattle.spec_denials.specs.Processes.{process_acts, EffectNames};
@@ -44,7 +44,7 @@ ghost use Rattle.spec_denials.specs.Denials.{AllDenialsNamed};
 #[tactic(auto, using(crate::proofs::Shared::shared_names, crate::proofs::Shared::next_lists))]
 pub fn primitives_ask()
     ensures asked { (p : Primitive) (a : Actor) (descr : Option ℕ) (locked : ℕ) (stack : List Datum) (w : Live) →
-        RowNames (Breaks (is_formula p) (answers_for p a w.objects) stack w) (first_denied w.objects a (acts_of p stack w.objects)) (shared p a descr locked stack w) }
+        RowNames (Breaks (is_formula p) (answers_for p a w.objects) stack w) (first_denied w.objects a (primitive_acts p stack w.objects)) (shared p a descr locked stack w) }
     ensures listed { (a : Actor) (descr : Option ℕ) (locked : ℕ) (stack : List Datum) (w : Live) → RowLists a w.objects stack (shared NextProp a descr locked stack w) }
 {}
 
@@ -60,8 +60,8 @@ pub fn processes_ask()
 /// leaves. It does nothing.
 #[tactic(auto, using(crate::proofs::Requests::request_names, crate::proofs::Formulas::heard_names))]
 pub fn messages_name()
-    ensures asked { (request : Request) (s : Stage) → AnswerNames (denies s.actor s.live.objects request) (answer_of request s) }
-    ensures named { (a : Actor) (this : Dbref) (text : List ℕ) (vars : Variables) (w : Live) → FormulaNames a (formula a this text vars w) (heard a this text vars w).0 }
+    ensures asked { (request : Request) (s : MpiStage) → AnswerNames (denies s.actor s.live.objects request) (answer_of request s) }
+    ensures named { (a : Actor) (this : Dbref) (text : List ℕ) (vars : Variables) (w : Live) → FormulaNames a (formula a this text vars w) (formula_heard a this text vars w).0 }
 {}
 
 /// Says that no word which needs no world is denied, and that no unit without a shared primitive ends by a denial. It does nothing.
@@ -76,9 +76,9 @@ pub fn words_deny_nothing()
 /// only told so where what it asks for is denied. It does nothing.
 #[tactic(auto, using(crate::proofs::Starts::line_starts, crate::proofs::Walks::line_locks, crate::proofs::Refusals::line_refused))]
 pub fn lines_ask()
-    ensures starts { (d : ℕ) (o : Option Connection) (w : World) → LineStarts w (done d o w) }
-    ensures locks { (d : ℕ) (w : World) → LineLocked d w (done d (connection d w) w) }
-    ensures refuses { (d : ℕ) (w : World) → LineRefused d w (done d (connection d w) w) }
+    ensures starts { (d : ℕ) (o : Option Connection) (w : World) → LineStarts w (first_line_done d o w) }
+    ensures locks { (d : ℕ) (w : World) → LineLocked d w (first_line_done d (connection d w) w) }
+    ensures refuses { (d : ℕ) (w : World) → LineRefused d w (first_line_done d (connection d w) w) }
 {}
 
 /// The worked rows of what other crates define hold. It does nothing: its clauses are the rows.

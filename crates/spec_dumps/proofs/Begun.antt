@@ -4,12 +4,12 @@ use Rattle.std.specs.Prelude.{slice_get}
 use Rattle.spec_live.specs.Consistent.{IsConsistent}
 use Rattle.muck_model.specs.declared.event.Event.TheVariants.{Cut}
 use Rattle.muck_model.specs.declared.note.Note.{Note}
-use Rattle.muck_log.specs.Store.{LogState, IsMounted, stored}
+use Rattle.muck_log.specs.Store.{LogState, IsMounted, store_of}
 use Rattle.spec_events.specs.World.{World}
 use Rattle.spec_events.specs.Histories.{History}
 use Rattle.spec_events.specs.Logged.{is_dump, is_stored, is_failed}
-use Rattle.spec_dumps.specs.Fronts.{persisted, last_cut, place_of_note, stands_at, event_at, IsFront, Loads, file_most}
-use Rattle.spec_dumps.specs.Survival.{until}
+use Rattle.spec_dumps.specs.Fronts.{persisted, last_cut, place_of_note, entry_stands_at, event_at, IsFront, Loads, file_most}
+use Rattle.spec_dumps.specs.Survival.{stretch_until}
 use Rattle.spec_dumps.specs.inner.Holding.{IsAt, IsCounted, Rests}
 
 module _ {D : Type 0} (seen : D → List ℕ) (moment : D → ℕ) (images : D → ℕ → List ℕ → Type 0) (faults : D → ℕ) (log : LogState) (f s : D) (w : World) (note : Note)
@@ -35,24 +35,24 @@ module _ {D : Type 0} (seen : D → List ℕ) (moment : D → ℕ) (images : D �
     acknowledged = λ i place low there stores. absurd (no place stores);
   }
     where
-      no : (place : ℕ) → stands_at is_stored [] place ≡ true → ⊥
+      no : (place : ℕ) → entry_stands_at is_stored [] place ≡ true → ⊥
       no place e = cc
 
   same : (x : Note) → Some note ≡ Some x → x ≡ note
   same x e = cc
 
   -- there is one stretch, from that note on
-  stretch : (n : ℕ) (x : Note) (t u : ℕ) (c d : List ℕ) → slice_get (note ∷ []) n ≡ Some x → x.first_moment ≤ t → t ≤ until (λ (y : Note). y.first_moment) (note ∷ []) n (moment f) →
-      x.second_moment ≤ u → u ≤ until (λ (y : Note). y.second_moment) (note ∷ []) n (moment s) → images f t c → images s u d → Loads w log.chosen.held.number [] (note ∷ []) n (stored c d)
+  stretch : (n : ℕ) (x : Note) (t u : ℕ) (c d : List ℕ) → slice_get (note ∷ []) n ≡ Some x → x.first_moment ≤ t → t ≤ stretch_until (λ (y : Note). y.first_moment) (note ∷ []) n (moment f) →
+      x.second_moment ≤ u → u ≤ stretch_until (λ (y : Note). y.second_moment) (note ∷ []) n (moment s) → images f t c → images s u d → Loads w log.chosen.held.number [] (note ∷ []) n (store_of c d)
   stretch zero x t u c d there t_low t_high u_low u_high left_c left_d =
       let t_is : t ≡ moment f = omega (arith, t_low, t_high, here.0, ap (λ (y : Note). y.first_moment) (same x there)) in
       let u_is : u ≡ moment s = omega (arith, u_low, u_high, here.1, ap (λ (y : Note). y.second_moment) (same x there)) in
       let c_is = is.first_durable c (subst (λ i. images f i c) t_is left_c) in
       let d_is = is.second_durable d (subst (λ i. images s i d) u_is left_d) in
-      (log.chosen, ap (λ x. stored x d) c_is ∙ ap (stored (seen f)) d_is ∙ is.load, front)
+      (log.chosen, ap (λ x. store_of x d) c_is ∙ ap (store_of (seen f)) d_is ∙ is.load, front)
   stretch (suc n) x t u c d there t_low t_high u_low u_high left_c left_d = cc
 
-  rises : (n : ℕ) (x : Note) → slice_get (note ∷ []) n ≡ Some x → (x.first_moment ≤ until (λ (y : Note). y.first_moment) (note ∷ []) n (moment f)) × (x.second_moment ≤ until (λ (y : Note). y.second_moment) (note ∷ []) n (moment s))
+  rises : (n : ℕ) (x : Note) → slice_get (note ∷ []) n ≡ Some x → (x.first_moment ≤ stretch_until (λ (y : Note). y.first_moment) (note ∷ []) n (moment f)) × (x.second_moment ≤ stretch_until (λ (y : Note). y.second_moment) (note ∷ []) n (moment s))
   rises zero x there = (omega (arith, here.0, ap (λ (y : Note). y.first_moment) (same x there)), omega (arith, here.1, ap (λ (y : Note). y.second_moment) (same x there)))
   rises (suc n) x there = cc
 
@@ -85,10 +85,10 @@ module _ {D : Type 0} (seen : D → List ℕ) (moment : D → ℕ) (images : D �
     rests = here;
   }
     where
-      none : (place : ℕ) → stands_at is_dump [] place ≡ true → ⊥
+      none : (place : ℕ) → entry_stands_at is_dump [] place ≡ true → ⊥
       none place e = cc
 
-      unfailed : (place : ℕ) → stands_at is_failed [] place ≡ true → ⊥
+      unfailed : (place : ℕ) → entry_stands_at is_failed [] place ≡ true → ⊥
       unfailed place e = cc
 
       uncut : (place k : ℕ) → event_at [] place ≡ Some (Cut k) → ⊥
@@ -98,5 +98,5 @@ module _ {D : Type 0} (seen : D → List ℕ) (moment : D → ℕ) (images : D �
       counts zero x there = (omega (arith, count.0, ap (λ (y : Note). y.first_faults) (same x there)), omega (arith, count.1, ap (λ (y : Note). y.second_faults) (same x there)))
       counts (suc n) x there = cc
 
-      unstored : (place : ℕ) → stands_at is_stored [] place ≡ true → ⊥
+      unstored : (place : ℕ) → entry_stands_at is_stored [] place ≡ true → ⊥
       unstored place e = cc

@@ -4,7 +4,7 @@ use Rattle.muck_model.specs.declared.event.Entry.{Entry}
 use Rattle.muck_model.specs.declared.note.Note.{Note}
 use Rattle.muck_store.proofs.StoredForms.{length_persist}
 use Rattle.muck_log.specs.Store.{Chosen}
-use Rattle.muck_log.specs.World.{World as Kept}
+use Rattle.muck_log.specs.World.{StoredWorld as Kept}
 use Rattle.spec_events.specs.World.{World}
 use Rattle.spec_events.specs.Histories.{after}
 use Rattle.spec_events.proofs.Walked.{no_fewer_front}

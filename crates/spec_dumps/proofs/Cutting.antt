@@ -3,19 +3,20 @@ use Rattle.std.proofs.Common.{◌≡◌, ℕ, ◌<◌, true, false, suc, List, [
 use Rattle.std.specs.Prelude.{slice_get, if◌then◌else◌}
 use Rattle.std.specs.Option.{option_map, option_map_or}
 use Rattle.std.proofs.lemmas.List.{take_all}
+use Rattle.muck_laws.proofs.Lists.{length_last}
+use Rattle.muck_laws.proofs.Places.{got_last}
 use Rattle.muck_model.specs.declared.event.Entry.{Entry}
 use Rattle.muck_model.specs.declared.event.Event.TheVariants.{Cut, DumpFailed}
 use Rattle.muck_model.specs.declared.note.Note.{Note}
 use Rattle.muck_io.specs.Faults.{Rose}
 use Rattle.muck_log.specs.File.{after_number}
-use Rattle.muck_log.specs.Store.{Chosen, LogState, IsMounted, stored}
+use Rattle.muck_log.specs.Store.{Chosen, LogState, IsMounted, store_of}
 use Rattle.spec_events.specs.World.{World}
 use Rattle.spec_events.specs.Histories.{History, after, entered, noted}
 use Rattle.spec_events.specs.Logged.{is_cut, is_stored, is_failed}
-use Rattle.spec_dumps.specs.Fronts.{event_at, cut_behind, last_cut, at_cut, number_of_cut, number_at, IsFront}
+use Rattle.spec_dumps.specs.Fronts.{event_at, front_behind_cut, last_cut, at_cut, number_of_cut, batch_number_at, IsFront}
 use Rattle.spec_dumps.specs.Survival.{HasCause, HasNumber, IsSafe}
 use Rattle.spec_dumps.specs.inner.Holding.{IsAt, IsCounted, IsUsable, Keeps, Rests, FailedLast}
-use Rattle.spec_dumps.proofs.Lists.{got_last, length_last}
 use Rattle.spec_dumps.proofs.Fronts.{loads_by}
 use Rattle.spec_dumps.proofs.Moving.{held_now, held_noted, loads_now}
 use Rattle.spec_dumps.proofs.Noting.{front_next, survives_noted, caused_noted, deltas_noted, numbered_noted, rise_noted}
@@ -37,7 +38,7 @@ module _ {D : Type 0} (seen : D → List ℕ) (moment : D → ℕ) (images : D �
       IsSafe moment images faults f s h.start mounted (h.entries ++ e ∷ []) (h.notes ++ note ∷ [])
   safe_next v here count behind other why numbers = record {
     survives = survives_noted moment images f s h.start mounted h.entries h.notes e note here behind some v.safe.survives
-        (λ c d left_c left_d. loads_by h.start h.start mounted h.entries (h.entries ++ e ∷ []) h.notes (h.notes ++ note ∷ []) v.last (length h.notes) (stored c d) (next v here behind other)
+        (λ c d left_c left_d. loads_by h.start h.start mounted h.entries (h.entries ++ e ∷ []) h.notes (h.notes ++ note ∷ []) v.last (length h.notes) (store_of c d) (next v here behind other)
         (loads_now moment images f s h.start mounted h.entries h.notes v.last v.note v.is v.end v.safe.survives c d left_c left_d));
     caused = caused_noted moment images f s h.start mounted h.entries h.notes e note here behind some v.safe.survives.placed v.safe.caused why;
     deltas = deltas_noted moment images f s h.start mounted h.entries h.notes e note here behind some v.safe.survives.placed v.safe.deltas
@@ -125,7 +126,7 @@ last_cut_one e is = ap (λ b. if b then 1 else 0) is
 
 last_cut_more : (e : Entry) (h : List Entry) (n : ℕ) → last_cut h ≡ suc n → last_cut (e ∷ h) ≡ suc (suc n)
 unfolding last_cut
-last_cut_more e h n is = ap (λ k. cut_behind k (is_cut e.event)) is
+last_cut_more e h n is = ap (λ k. front_behind_cut k (is_cut e.event)) is
 
 last_cut_end : (h : List Entry) (e : Entry) → is_cut e.event ≡ true → last_cut (h ++ e ∷ []) ≡ suc (length h)
 last_cut_end [] e is = last_cut_one e is
@@ -138,7 +139,7 @@ at_cut_end w h party n =
     ap (after w) (take_all (last_cut (h ++ cut ∷ [])) (h ++ cut ∷ []) (omega (arith, last_cut_end h cut refl, length_last h cut)))
 
 -- and it has its number
-pub number_end : (mounted : ℕ) (h : List Entry) (party n : ℕ) → number_at mounted (h ++ record { party = party; event = Cut n } ∷ []) (last_cut (h ++ record { party = party; event = Cut n } ∷ [])) ≡ n
+pub number_end : (mounted : ℕ) (h : List Entry) (party n : ℕ) → batch_number_at mounted (h ++ record { party = party; event = Cut n } ∷ []) (last_cut (h ++ record { party = party; event = Cut n } ∷ [])) ≡ n
 number_end mounted h party n =
     let cut : Entry = record { party = party; event = Cut n } in
-    ap (number_at mounted (h ++ cut ∷ [])) (last_cut_end h cut refl) ∙ ap (λ o. option_map_or (λ (e : Entry). number_of_cut e.event) o mounted) (got_last h cut)
+    ap (batch_number_at mounted (h ++ cut ∷ [])) (last_cut_end h cut refl) ∙ ap (λ o. option_map_or (λ (e : Entry). number_of_cut e.event) o mounted) (got_last h cut)

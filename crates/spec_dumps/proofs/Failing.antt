@@ -2,6 +2,8 @@
 use Rattle.std.proofs.Common.{◌≡◌, inl, inr, ℕ, ◌<◌, suc, List, [], ◌∷◌, ◌++◌, length, take, refl, sym, ap, ◌∙◌, subst, arith, Option, Some}
 use Rattle.std.specs.Prelude.{slice_get}
 use Rattle.std.proofs.lemmas.List.{take_all, take-append-le}
+use Rattle.muck_laws.proofs.Lists.{length_last}
+use Rattle.muck_laws.proofs.Places.{got_last, got_on}
 use Rattle.muck_model.specs.declared.event.Entry.{Entry}
 use Rattle.muck_model.specs.declared.event.Event.TheVariants.{DumpFailed}
 use Rattle.muck_model.specs.declared.note.Note.{Note}
@@ -10,7 +12,6 @@ use Rattle.spec_events.specs.Histories.{History, entered, noted}
 use Rattle.spec_dumps.specs.Fronts.{at_cut, IsFront, Overflows}
 use Rattle.spec_dumps.specs.Survival.{RoseInLast}
 use Rattle.spec_dumps.specs.inner.Holding.{IsAt, IsCounted, Keeps, Rests, RisesInDump, Fails}
-use Rattle.spec_dumps.proofs.Lists.{got_on, got_last, length_last}
 use Rattle.spec_dumps.proofs.Moving.{held_noted}
 use Rattle.spec_dumps.proofs.Noting.{front_noted}
 use Rattle.spec_dumps.proofs.Cutting.{FailsBy, rests_next}

@@ -6,6 +6,8 @@ use Rattle.std.specs.Option.{option_map, option_map_or}
 use Rattle.std.proofs.lemmas.List.{length-append, take-append-le}
 use Rattle.std.proofs.lemmas.Option.{slice_get_within}
 use Rattle.std.proofs.lemmas.Bool.{cases_lt}
+use Rattle.muck_laws.proofs.Numbers.{one_short}
+use Rattle.muck_laws.proofs.Places.{got_on}
 use Rattle.muck_model.specs.declared.event.Entry.{Entry}
 use Rattle.muck_model.specs.declared.event.Event.{Event}
 use Rattle.muck_model.specs.declared.note.Note.{Note}
@@ -15,14 +17,13 @@ use Rattle.std.specs.Prelude.{Result}
 use Rattle.spec_events.specs.World.{World}
 use Rattle.spec_events.specs.Histories.{after}
 use Rattle.spec_events.specs.Logged.{is_cut, is_dump, is_stored, is_failed}
-use Rattle.spec_dumps.specs.Fronts.{persisted, stands_at, event_at, at_cut, cut_behind, last_cut, number_of_cut, number_at, place_of_note, IsNotedBy, IsFront, Loads}
-use Rattle.spec_dumps.proofs.Lists.{got_on}
+use Rattle.spec_dumps.specs.Fronts.{persisted, entry_stands_at, event_at, at_cut, front_behind_cut, last_cut, number_of_cut, batch_number_at, place_of_note, IsNotedBy, IsFront, Loads}
 
 -- each note stands before an entry, or at the start
 abbrev pub ArePlaced : List Entry → List Note → Type 0
 ArePlaced h notes = (i place : ℕ) → place_of_note notes i ≡ Some place → ((i ≡ 0) × (place ≡ 0)) ⊎ (place < length h)
 
-pub stands_on : (test : Event → Bool) (h more : List Entry) (place : ℕ) → place < length h → stands_at test (h ++ more) place ≡ stands_at test h place
+pub stands_on : (test : Event → Bool) (h more : List Entry) (place : ℕ) → place < length h → entry_stands_at test (h ++ more) place ≡ entry_stands_at test h place
 stands_on test h more place less = ap (λ o. option_map_or (λ (e : Entry). test e.event) o false) (got_on h more place less)
 
 last_cut_none : last_cut [] ≡ 0
@@ -46,15 +47,11 @@ last_cut_first h place z = ap (λ p. last_cut (take p h)) z ∙ last_cut_none
 
 -- The last Cut is one of the entries.
 
-one_short : (b : Bool) → (if b then 1 else 0) ≤ 1
-one_short true = omega arith
-one_short false = omega arith
-
 pub last_cut_short : (h : List Entry) → last_cut h ≤ length h
 unfolding last_cut
 last_cut_short [] = omega arith
 last_cut_short (e ∷ h) = at (last_cut h) (last_cut_short h) where
-  at : (n : ℕ) → n ≤ length h → cut_behind n (is_cut e.event) ≤ suc (length h)
+  at : (n : ℕ) → n ≤ length h → front_behind_cut n (is_cut e.event) ≤ suc (length h)
   at zero le = omega (arith, one_short (is_cut e.event))
   at (suc n) le = omega (arith, le)
 
@@ -67,9 +64,9 @@ last_cut_taken (e ∷ h) = at (last_cut h) refl (last_cut_taken h) where
   one true is = ap (λ b. if b then 1 else 0) is
   one false is = refl
 
-  at : (n : ℕ) → last_cut h ≡ n → last_cut (take (last_cut h) h) ≡ last_cut h → last_cut (take (cut_behind n (is_cut e.event)) (e ∷ h)) ≡ cut_behind n (is_cut e.event)
+  at : (n : ℕ) → last_cut h ≡ n → last_cut (take (last_cut h) h) ≡ last_cut h → last_cut (take (front_behind_cut n (is_cut e.event)) (e ∷ h)) ≡ front_behind_cut n (is_cut e.event)
   at zero is taken = one (is_cut e.event) refl
-  at (suc n) is taken = ap (λ k. cut_behind k (is_cut e.event)) (ap (λ k. last_cut (take k h)) (sym is) ∙ taken ∙ is)
+  at (suc n) is taken = ap (λ k. front_behind_cut k (is_cut e.event)) (ap (λ k. last_cut (take k h)) (sym is) ∙ taken ∙ is)
 
 -- and no front has a later one
 pub last_cut_front : (h : List Entry) (n : ℕ) → last_cut (take n h) ≤ last_cut h
@@ -77,23 +74,23 @@ unfolding last_cut
 last_cut_front h zero = omega arith
 last_cut_front [] (suc n) = omega arith
 last_cut_front (e ∷ h) (suc n) = at (last_cut (take n h)) (last_cut h) (is_cut e.event) (last_cut_front h n) where
-  at : (a b : ℕ) (cut : Bool) → a ≤ b → cut_behind a cut ≤ cut_behind b cut
+  at : (a b : ℕ) (cut : Bool) → a ≤ b → front_behind_cut a cut ≤ front_behind_cut b cut
   at zero zero cut le = omega arith
   at zero (suc b) cut le = omega (arith, one_short cut)
   at (suc a) zero cut le = absurd (omega (arith, le))
   at (suc a) (suc b) cut le = omega (arith, le)
 
 -- a Cut stands there
-pub last_cut_stands : (h : List Entry) (n : ℕ) → last_cut h ≡ suc n → stands_at is_cut h n ≡ true
+pub last_cut_stands : (h : List Entry) (n : ℕ) → last_cut h ≡ suc n → entry_stands_at is_cut h n ≡ true
 unfolding last_cut
 last_cut_stands [] n is = absurd (omega (arith, is))
 last_cut_stands (e ∷ h) n is = at (last_cut h) refl n is (last_cut_stands h) where
-  one : (b : Bool) (i : ℕ) → is_cut e.event ≡ b → (if b then 1 else 0) ≡ suc i → stands_at is_cut (e ∷ h) i ≡ true
+  one : (b : Bool) (i : ℕ) → is_cut e.event ≡ b → (if b then 1 else 0) ≡ suc i → entry_stands_at is_cut (e ∷ h) i ≡ true
   one true zero is same = is
   one true (suc i) is same = absurd (omega (arith, same))
   one false i is same = absurd (omega (arith, same))
 
-  at : (k : ℕ) → last_cut h ≡ k → (i : ℕ) → cut_behind k (is_cut e.event) ≡ suc i → ((j : ℕ) → last_cut h ≡ suc j → stands_at is_cut h j ≡ true) → stands_at is_cut (e ∷ h) i ≡ true
+  at : (k : ℕ) → last_cut h ≡ k → (i : ℕ) → front_behind_cut k (is_cut e.event) ≡ suc i → ((j : ℕ) → last_cut h ≡ suc j → entry_stands_at is_cut h j ≡ true) → entry_stands_at is_cut (e ∷ h) i ≡ true
   at zero is i same stands = one (is_cut e.event) i refl same
   at (suc k) is zero same stands = absurd (omega (arith, same))
   at (suc k) is (suc i) same stands = stands i (is ∙ (let it : suc k ≡ suc i = omega (arith, same) in it))
@@ -111,14 +108,14 @@ last_cut_quiet [] [] none = refl
 last_cut_quiet [] (e ∷ es) none = at (is_dump e.event) refl none (last_cut_quiet [] es) where
   at : (b : Bool) → is_dump e.event ≡ b → (b || list_any (λ (x : Entry). is_dump x.event) es) ≡ false → (list_any (λ (x : Entry). is_dump x.event) es ≡ false → last_cut es ≡ 0) → last_cut (e ∷ es) ≡ 0
   at true is p rest = cc
-  at false is p rest = ap (λ k. cut_behind k (is_cut e.event)) (rest p) ∙ ap (λ b. if b then 1 else 0) (none_cut e.event is)
-last_cut_quiet (e ∷ h) es none = ap (λ k. cut_behind k (is_cut e.event)) (last_cut_quiet h es none)
+  at false is p rest = ap (λ k. front_behind_cut k (is_cut e.event)) (rest p) ∙ ap (λ b. if b then 1 else 0) (none_cut e.event is)
+last_cut_quiet (e ∷ h) es none = ap (λ k. front_behind_cut k (is_cut e.event)) (last_cut_quiet h es none)
 
 -- nor the world behind it
 pub at_cut_quiet : (w : World) (h es : List Entry) → list_any (λ (e : Entry). is_dump e.event) es ≡ false → at_cut w (h ++ es) ≡ at_cut w h
 at_cut_quiet w h es none = ap (λ n. after w (take n (h ++ es))) (last_cut_quiet h es none) ∙ ap (after w) (take-append-le (last_cut h) h es (last_cut_short h))
 
-pub number_on : (mounted : ℕ) (h more : List Entry) (count : ℕ) → count ≤ length h → number_at mounted (h ++ more) count ≡ number_at mounted h count
+pub number_on : (mounted : ℕ) (h more : List Entry) (count : ℕ) → count ≤ length h → batch_number_at mounted (h ++ more) count ≡ batch_number_at mounted h count
 number_on mounted h more zero less = refl
 number_on mounted h more (suc count) less = ap (λ o. option_map_or (λ (e : Entry). number_of_cut e.event) o mounted) (got_on h more count (omega (arith, less)))
 
@@ -161,7 +158,7 @@ front_on w mounted h more notes n s placed f = record {
 
 -- more notes, of which those that count now are of no dump that is stored, or of one that the front holds
 pub front_later : (w : World) (mounted : ℕ) (h : List Entry) (notes more : List Note) (n m : ℕ) (s : Chosen) (f : IsFront w mounted h notes n s) → n ≤ m → n < length notes →
-    ((i place : ℕ) → n < i → i ≤ m → place_of_note (notes ++ more) i ≡ Some place → stands_at is_stored h place ≡ true → last_cut (take place h) ≤ f.count) → IsFront w mounted h (notes ++ more) m s
+    ((i place : ℕ) → n < i → i ≤ m → place_of_note (notes ++ more) i ≡ Some place → entry_stands_at is_stored h place ≡ true → last_cut (take place h) ≤ f.count) → IsFront w mounted h (notes ++ more) m s
 front_later w mounted h notes more n m s f le some comes = record {
   count = f.count;
   short = f.short;

@@ -1,8 +1,9 @@
 -- Which dump runs, if one does, isn't changed by entries that are none of a dump.
-use Rattle.std.proofs.Common.{◌≡◌, ℕ, Bool, true, false, ◌||◌, List, [], ◌∷◌, refl, ap, sym, ◌∙◌, Option, Some, None}
+use Rattle.std.proofs.Common.{◌≡◌, ℕ, true, false, List, [], ◌∷◌, refl, ap, sym, ◌∙◌, Option, Some, None}
 use Rattle.std.specs.Prelude.{◌==◌}
 use Rattle.std.specs.List.{list_any}
 use Rattle.std.specs.Option.{option_map, option_map_or}
+use Rattle.muck_laws.proofs.Truths.{none_first, none_later}
 use Rattle.muck_model.specs.declared.event.Entry.{Entry}
 use Rattle.muck_model.specs.declared.event.Event.{Event}
 use Rattle.muck_model.specs.declared.event.Event.TheVariants.{Opened, Input, Closed, Moment, Exec, Planned, Claim, Slice, Commit, Lost, Idle, Take, Cut, Stored, DumpFailed, Halt, StopSeen, Died}
@@ -43,14 +44,6 @@ number_happened (DumpFailed k) w party e = cc
 number_happened Halt w party e = refl
 number_happened StopSeen w party e = refl
 number_happened Died w party e = refl
-
-none_first : (a b : Bool) → (a || b) ≡ false → a ≡ false
-none_first true b e = cc
-none_first false b e = refl
-
-none_later : (a b : Bool) → (a || b) ≡ false → b ≡ false
-none_later true b e = cc
-none_later false b e = e
 
 number_after : (es : List Entry) (w : World) → list_any (λ (e : Entry). is_dump e.event) es ≡ false → number_of (after w es).dumps.running ≡ number_of w.dumps.running
 number_after [] w none = refl

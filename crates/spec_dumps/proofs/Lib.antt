@@ -1,4 +1,3 @@
-pub mod Lists
 pub mod Fronts
 pub mod Quiet
 pub mod Noting

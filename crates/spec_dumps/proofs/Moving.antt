@@ -6,10 +6,10 @@ use Rattle.std.proofs.lemmas.Option.{slice_get_within, slice_get_past, slice_get
 use Rattle.std.proofs.lemmas.Bool.{cases_lt}
 use Rattle.muck_model.specs.declared.event.Entry.{Entry}
 use Rattle.muck_model.specs.declared.note.Note.{Note}
-use Rattle.muck_log.specs.Store.{Chosen, LogState, IsMounted, LeavesOnly, LeavesBoth, stored}
+use Rattle.muck_log.specs.Store.{Chosen, LogState, IsMounted, LeavesOnly, LeavesBoth, store_of}
 use Rattle.spec_events.specs.World.{World}
 use Rattle.spec_dumps.specs.Fronts.{Loads}
-use Rattle.spec_dumps.specs.Survival.{until, Survives, HoldsAt, HoldsBy, AllCaused, AllDeltas, AllNumbered, AllRise, IsSafe}
+use Rattle.spec_dumps.specs.Survival.{stretch_until, Survives, HoldsAt, HoldsBy, AllCaused, AllDeltas, AllNumbered, AllRise, IsSafe}
 use Rattle.spec_dumps.specs.inner.Holding.{IsAt}
 
 -- The past stays, and with it what both disks held then.
@@ -65,7 +65,7 @@ module _ {D : Type 0} (moment : D → ℕ) (images : D → ℕ → List ℕ → 
 pub held_now : {D : Type 0} (seen : D → List ℕ) (moment : D → ℕ) (images : D → ℕ → List ℕ → Type 0) (log : LogState) (f s : D) → IsMounted seen moment images log f s → images f (moment f) (seen f) → images s (moment s) (seen s) →
     HoldsAt images f s (moment f) (moment s) log.chosen
 held_now seen moment images log f s m left_f left_s = record {
-  each = λ c d left_c left_d. ap (λ x. stored x d) (m.first_durable c left_c) ∙ ap (stored (seen f)) (m.second_durable d left_d) ∙ m.load;
+  each = λ c d left_c left_d. ap (λ x. store_of x d) (m.first_durable c left_c) ∙ ap (store_of (seen f)) (m.second_durable d left_d) ∙ m.load;
   first_left = (seen f, left_f);
   second_left = (seen s, left_s);
 }
@@ -76,7 +76,7 @@ held_noted moment images f s note x here v =
     subst (λ t. HoldsAt images f s t note.second_moment x) (sym here.0) (subst (λ u. HoldsAt images f s (moment f) u x) (sym here.1) v)
 
 -- the stretch of a note that isn't the last one doesn't last until now
-until_then : (clock : Note → ℕ) (notes : List Note) (n now now' : ℕ) → suc n < length notes → until clock notes n now ≡ until clock notes n now'
+until_then : (clock : Note → ℕ) (notes : List Note) (n now now' : ℕ) → suc n < length notes → stretch_until clock notes n now ≡ stretch_until clock notes n now'
 until_then clock notes n now now' less = at (slice_get notes (suc n)) refl where
   at : (o : Option Note) → slice_get notes (suc n) ≡ o → option_map_or clock (slice_get notes (suc n)) now ≡ option_map_or clock (slice_get notes (suc n)) now'
   at (Some x) is = ap (λ o. option_map_or clock o now) is ∙ sym (ap (λ o. option_map_or clock o now') is)
@@ -85,21 +85,21 @@ until_then clock notes n now now' less = at (slice_get notes (suc n)) refl where
       none : {x : Note} → Some x ≡ None → ⊥
       none e = cc
 
-pub until_over : (clock : Note → ℕ) (notes : List Note) (n now : ℕ) → length notes ≤ suc n → until clock notes n now ≡ now
+pub until_over : (clock : Note → ℕ) (notes : List Note) (n now : ℕ) → length notes ≤ suc n → stretch_until clock notes n now ≡ now
 until_over clock notes n now over = ap (λ o. option_map_or clock o now) (slice_get_past notes (suc n) over)
 
 module _ {D : Type 0} (moment : D → ℕ) (images : D → ℕ → List ℕ → Type 0) (f s f' s' : D) (w : World) (mounted : ℕ) (h : List Entry) (notes : List Note) (last : ℕ) (note : Note) (is : slice_get notes last ≡ Some note) (end : length notes ≡ suc last)
-    (here : IsAt moment f s note) (P : List ℕ → List ℕ → Type 0) (leaves : LeavesBoth moment images f s f' s' P) (loads : (c d : List ℕ) → P c d → Loads w mounted h notes last (stored c d)) where
+    (here : IsAt moment f s note) (P : List ℕ → List ℕ → Type 0) (leaves : LeavesBoth moment images f s f' s' P) (loads : (c d : List ℕ) → P c d → Loads w mounted h notes last (store_of c d)) where
   -- the end of a stretch that isn't the last one is past
-  first_then : (v : Survives moment images f s w mounted h notes) (n : ℕ) → suc n < length notes → until (λ (x : Note). x.first_moment) notes n (moment f) ≤ moment f
+  first_then : (v : Survives moment images f s w mounted h notes) (n : ℕ) → suc n < length notes → stretch_until (λ (x : Note). x.first_moment) notes n (moment f) ≤ moment f
   first_then v n less = at (slice_get notes (suc n)) refl where
-    at : (o : Option Note) → slice_get notes (suc n) ≡ o → until (λ (x : Note). x.first_moment) notes n (moment f) ≤ moment f
+    at : (o : Option Note) → slice_get notes (suc n) ≡ o → stretch_until (λ (x : Note). x.first_moment) notes n (moment f) ≤ moment f
     at (Some x) there = omega (arith, (v.past (suc n) x there).0, ap (λ o. option_map_or (λ (x : Note). x.first_moment) o (moment f)) there)
     at None there = omega (arith, ap (λ o. option_map_or (λ (x : Note). x.first_moment) o (moment f)) there)
 
-  second_then : (v : Survives moment images f s w mounted h notes) (n : ℕ) → suc n < length notes → until (λ (x : Note). x.second_moment) notes n (moment s) ≤ moment s
+  second_then : (v : Survives moment images f s w mounted h notes) (n : ℕ) → suc n < length notes → stretch_until (λ (x : Note). x.second_moment) notes n (moment s) ≤ moment s
   second_then v n less = at (slice_get notes (suc n)) refl where
-    at : (o : Option Note) → slice_get notes (suc n) ≡ o → until (λ (x : Note). x.second_moment) notes n (moment s) ≤ moment s
+    at : (o : Option Note) → slice_get notes (suc n) ≡ o → stretch_until (λ (x : Note). x.second_moment) notes n (moment s) ≤ moment s
     at (Some x) there = omega (arith, (v.past (suc n) x there).1, ap (λ o. option_map_or (λ (x : Note). x.second_moment) o (moment s)) there)
     at None there = omega (arith, ap (λ o. option_map_or (λ (x : Note). x.second_moment) o (moment s)) there)
 
@@ -116,8 +116,8 @@ module _ {D : Type 0} (moment : D → ℕ) (images : D → ℕ → List ℕ → 
   survives_moved v = record {
     each = λ n x t u c d there t_low t_high u_low u_high left_c left_d. elim (cases_lt (suc n) (length notes)) [
       | inl less ↦ (
-          let t_then : t ≤ until (λ (y : Note). y.first_moment) notes n (moment f) = omega (arith, t_high, until_then (λ (y : Note). y.first_moment) notes n (moment f) (moment f') less) in
-          let u_then : u ≤ until (λ (y : Note). y.second_moment) notes n (moment s) = omega (arith, u_high, until_then (λ (y : Note). y.second_moment) notes n (moment s) (moment s') less) in
+          let t_then : t ≤ stretch_until (λ (y : Note). y.first_moment) notes n (moment f) = omega (arith, t_high, until_then (λ (y : Note). y.first_moment) notes n (moment f) (moment f') less) in
+          let u_then : u ≤ stretch_until (λ (y : Note). y.second_moment) notes n (moment s) = omega (arith, u_high, until_then (λ (y : Note). y.second_moment) notes n (moment s) (moment s') less) in
           v.each n x t u c d there t_low t_then u_low u_then
           (leaves.first_kept t c (omega (arith, t_then, first_then v n less)) left_c) (leaves.second_kept u d (omega (arith, u_then, second_then v n less)) left_d)
           )
@@ -127,7 +127,7 @@ module _ {D : Type 0} (moment : D → ℕ) (images : D → ℕ → List ℕ → 
           let u_from : moment s ≤ u = omega (arith, u_low, ap (λ (y : Note). y.second_moment) it.1, here.1) in
           let t_to : t ≤ moment f' = omega (arith, t_high, until_over (λ (y : Note). y.first_moment) notes n (moment f') over) in
           let u_to : u ≤ moment s' = omega (arith, u_high, until_over (λ (y : Note). y.second_moment) notes n (moment s') over) in
-          subst (λ i. Loads w mounted h notes i (stored c d)) (sym it.0) (loads c d (leaves.each t u c d t_from t_to u_from u_to left_c left_d))
+          subst (λ i. Loads w mounted h notes i (store_of c d)) (sym it.0) (loads c d (leaves.each t u c d t_from t_to u_from u_to left_c left_d))
           )
     ];
     rises = λ n x there. elim (cases_lt (suc n) (length notes)) [
@@ -156,7 +156,7 @@ module _ {D : Type 0} (moment : D → ℕ) (images : D → ℕ → List ℕ → 
 
 -- what a crash leaves now loads so
 pub loads_now : {D : Type 0} (moment : D → ℕ) (images : D → ℕ → List ℕ → Type 0) (f s : D) (w : World) (mounted : ℕ) (h : List Entry) (notes : List Note) (last : ℕ) (note : Note) → slice_get notes last ≡ Some note → length notes ≡ suc last →
-    Survives moment images f s w mounted h notes → (c d : List ℕ) → images f (moment f) c → images s (moment s) d → Loads w mounted h notes last (stored c d)
+    Survives moment images f s w mounted h notes → (c d : List ℕ) → images f (moment f) c → images s (moment s) d → Loads w mounted h notes last (store_of c d)
 loads_now moment images f s w mounted h notes last note is end v c d left_c left_d =
     let over : length notes ≤ suc last = omega (arith, end) in
     v.each last note (moment f) (moment s) c d is (v.past last note is).0 (omega (arith, until_over (λ (y : Note). y.first_moment) notes last (moment f) over))
@@ -164,19 +164,19 @@ loads_now moment images f s w mounted h notes last note is end v c d left_c left
 
 -- Calls that leave only what could be left before, whenever the last note was.
 
-until_by : (clock : Note → ℕ) (notes : List Note) (n now : ℕ) → ((x : Note) → slice_get notes (suc n) ≡ Some x → clock x ≤ now) → until clock notes n now ≤ now
+until_by : (clock : Note → ℕ) (notes : List Note) (n now : ℕ) → ((x : Note) → slice_get notes (suc n) ≡ Some x → clock x ≤ now) → stretch_until clock notes n now ≤ now
 until_by clock notes n now past = at (slice_get notes (suc n)) refl where
-  at : (o : Option Note) → slice_get notes (suc n) ≡ o → until clock notes n now ≤ now
+  at : (o : Option Note) → slice_get notes (suc n) ≡ o → stretch_until clock notes n now ≤ now
   at (Some x) there = omega (arith, past x there, ap (λ o. option_map_or clock o now) there)
   at None there = omega (arith, ap (λ o. option_map_or clock o now) there)
 
 module _ {D : Type 0} (moment : D → ℕ) (images : D → ℕ → List ℕ → Type 0) (f f' : D) (clock : Note → ℕ) (notes : List Note) (a : LeavesOnly moment images f f' (images f (moment f))) (past : (n : ℕ) (x : Note) → slice_get notes n ≡ Some x → clock x ≤ moment f) where
   -- what a crash leaves at a moment of a stretch was left at one of it before
-  left_before : (n low t : ℕ) (c : List ℕ) → low ≤ t → low ≤ moment f → t ≤ until clock notes n (moment f') → images f' t c → (t' : ℕ) × (low ≤ t') × (t' ≤ until clock notes n (moment f)) × images f t' c
+  left_before : (n low t : ℕ) (c : List ℕ) → low ≤ t → low ≤ moment f → t ≤ stretch_until clock notes n (moment f') → images f' t c → (t' : ℕ) × (low ≤ t') × (t' ≤ stretch_until clock notes n (moment f)) × images f t' c
   left_before n low t c ge over_low le left = elim (cases_lt (suc n) (length notes)) [
     | inl less ↦ (
         let same = until_then clock notes n (moment f) (moment f') less in
-        let then : until clock notes n (moment f) ≤ moment f = until_by clock notes n (moment f) (past (suc n)) in
+        let then : stretch_until clock notes n (moment f) ≤ moment f = until_by clock notes n (moment f) (past (suc n)) in
         (t, ge, omega (arith, le, same), a.kept t c (omega (arith, le, same, then)) left)
         )
     | inr over ↦ elim (cases_lt (moment f) t) [
@@ -185,7 +185,7 @@ module _ {D : Type 0} (moment : D → ℕ) (images : D → ℕ → List ℕ → 
     ]
   ]
 
-  rises_still : (n : ℕ) (x : Note) → slice_get notes n ≡ Some x → clock x ≤ until clock notes n (moment f) → clock x ≤ until clock notes n (moment f')
+  rises_still : (n : ℕ) (x : Note) → slice_get notes n ≡ Some x → clock x ≤ stretch_until clock notes n (moment f) → clock x ≤ stretch_until clock notes n (moment f')
   rises_still n x there le = elim (cases_lt (suc n) (length notes)) [
     | inl less ↦ omega (arith, le, until_then clock notes n (moment f) (moment f') less)
     | inr over ↦ omega (arith, past n x there, a.later, until_over clock notes n (moment f') over)

@@ -5,21 +5,22 @@ use Rattle.std.specs.Option.{option_map, option_map_or}
 use Rattle.std.proofs.lemmas.List.{take_all, take-append-le}
 use Rattle.std.proofs.lemmas.Option.{slice_get_within, slice_get_past}
 use Rattle.std.proofs.lemmas.Bool.{cases_lt}
+use Rattle.muck_laws.proofs.Lists.{length_last}
+use Rattle.muck_laws.proofs.Places.{got_last, got_on, got_past}
 use Rattle.muck_model.specs.declared.event.Entry.{Entry}
 use Rattle.muck_model.specs.declared.event.Event.{Event}
 use Rattle.muck_model.specs.declared.event.Event.TheVariants.{Cut, DumpFailed}
 use Rattle.muck_model.specs.declared.note.Note.{Note}
-use Rattle.muck_log.specs.Store.{Chosen, stored}
+use Rattle.muck_log.specs.Store.{Chosen, store_of}
 use Rattle.spec_events.specs.World.{World}
 use Rattle.spec_events.specs.Logged.{is_dump, is_stored, is_failed}
-use Rattle.spec_dumps.specs.Fronts.{stands_at, event_at, at_cut, place_of_note, IsFront, Loads, Overflows}
-use Rattle.spec_dumps.specs.Survival.{until, AllNoted, Survives, HasCause, AllCaused, IsDelta, AllDeltas, HasNumber, AllNumbered, AllRise}
+use Rattle.spec_dumps.specs.Fronts.{entry_stands_at, event_at, at_cut, place_of_note, IsFront, Loads, Overflows}
+use Rattle.spec_dumps.specs.Survival.{stretch_until, AllNoted, Survives, HasCause, AllCaused, IsDelta, AllDeltas, HasNumber, AllNumbered, AllRise}
 use Rattle.spec_dumps.specs.inner.Holding.{IsAt, IsCounted}
-use Rattle.spec_dumps.proofs.Lists.{got_on, got_last, got_past, length_last}
 use Rattle.spec_dumps.proofs.Fronts.{ArePlaced, stands_on, event_on, event_off, place_on, note_within, front_on, front_later, front_beside, loads_by}
 
 -- the stretch of a note that was there ends where it did
-pub until_on : (clock : Note → ℕ) (notes : List Note) (note : Note) (n now : ℕ) → clock note ≡ now → n < length notes → until clock (notes ++ note ∷ []) n now ≡ until clock notes n now
+pub until_on : (clock : Note → ℕ) (notes : List Note) (note : Note) (n now : ℕ) → clock note ≡ now → n < length notes → stretch_until clock (notes ++ note ∷ []) n now ≡ stretch_until clock notes n now
 until_on clock notes note n now is less = elim (cases_lt (suc n) (length notes)) [
   | inl before ↦ ap (λ o. option_map_or clock o now) (got_on notes (note ∷ []) (suc n) before)
   | inr over ↦ (
@@ -32,7 +33,7 @@ until_on clock notes note n now is less = elim (cases_lt (suc n) (length notes))
 ]
 
 -- and that of the last one lasts until now
-pub until_last : (clock : Note → ℕ) (notes : List Note) (note : Note) (now : ℕ) → until clock (notes ++ note ∷ []) (length notes) now ≡ now
+pub until_last : (clock : Note → ℕ) (notes : List Note) (note : Note) (now : ℕ) → stretch_until clock (notes ++ note ∷ []) (length notes) now ≡ now
 until_last clock notes note now = ap (λ o. option_map_or clock o now) (got_past notes note)
 
 -- it is one that was there, or the last one
@@ -60,14 +61,14 @@ place_which notes note i place e = at (slice_get (notes ++ note ∷ []) i) refl 
     | inr p ↦ inr (p.0, same x place p.1 e)
   ]
 
-pub stands_within : (test : Event → Bool) (h : List Entry) (n : ℕ) → stands_at test h n ≡ true → n < length h
+pub stands_within : (test : Event → Bool) (h : List Entry) (n : ℕ) → entry_stands_at test h n ≡ true → n < length h
 stands_within test h n e = at (slice_get h n) refl e where
   at : (o : Option Entry) → slice_get h n ≡ o → option_map_or (λ (x : Entry). test x.event) o false ≡ true → n < length h
   at None is e = cc
   at (Some x) is e = slice_get_within h n x is
 
 -- the last entry is one of that kind
-pub stands_last : (test : Event → Bool) (h : List Entry) (e : Entry) (n : ℕ) → n ≡ length h → stands_at test (h ++ e ∷ []) n ≡ test e.event
+pub stands_last : (test : Event → Bool) (h : List Entry) (e : Entry) (n : ℕ) → n ≡ length h → entry_stands_at test (h ++ e ∷ []) n ≡ test e.event
 stands_last test h e n is = ap (λ i. option_map_or (λ (x : Entry). test x.event) (slice_get (h ++ e ∷ []) i) false) is ∙ ap (λ o. option_map_or (λ (x : Entry). test x.event) o false) (got_last h e)
 
 module _ {D : Type 0} (moment : D → ℕ) (images : D → ℕ → List ℕ → Type 0) (f s : D) (w : World) (mounted : ℕ) (h : List Entry) (notes : List Note) (e : Entry) (note : Note) (here : IsAt moment f s note) (behind : note.entries ≡ length h) (some : 0 < length notes) where
@@ -90,7 +91,7 @@ module _ {D : Type 0} (moment : D → ℕ) (images : D → ℕ → List ℕ → 
       front_later w mounted (h ++ e ∷ []) notes (note ∷ []) n (length notes) x (front_on w mounted h (e ∷ []) notes n x placed p) (omega (arith, end)) (omega (arith, end))
       (λ i place low high at is. absurd (no i place low at is))
     where
-      no : (i place : ℕ) → n < i → place_of_note (notes ++ note ∷ []) i ≡ Some place → stands_at is_stored (h ++ e ∷ []) place ≡ true → ⊥
+      no : (i place : ℕ) → n < i → place_of_note (notes ++ note ∷ []) i ≡ Some place → entry_stands_at is_stored (h ++ e ∷ []) place ≡ true → ⊥
       no i place low at is = elim (place_which notes note i place at) [
         | inl q ↦ omega (arith, q.0, low, end)
         | inr q ↦ (let so = sym (stands_last is_stored h e place (q.1 ∙ behind)) ∙ is in let not_so = other in cc)
@@ -112,18 +113,18 @@ module _ {D : Type 0} (moment : D → ℕ) (images : D → ℕ → List ℕ → 
       within i place e = note_within notes i place e
 
   pub survives_noted : Survives moment images f s w mounted h notes →
-      ((c d : List ℕ) → images f (moment f) c → images s (moment s) d → Loads w mounted (h ++ e ∷ []) (notes ++ note ∷ []) (length notes) (stored c d)) →
+      ((c d : List ℕ) → images f (moment f) c → images s (moment s) d → Loads w mounted (h ++ e ∷ []) (notes ++ note ∷ []) (length notes) (store_of c d)) →
       Survives moment images f s w mounted (h ++ e ∷ []) (notes ++ note ∷ [])
   survives_noted v now = record {
     each = λ n x t u c d is t_low t_high u_low u_high left_c left_d. elim (which notes note x n is) [
-      | inl p ↦ loads_by w w mounted h (h ++ e ∷ []) notes (notes ++ note ∷ []) n n (stored c d) (λ y. front_noted n y v.placed p.0)
+      | inl p ↦ loads_by w w mounted h (h ++ e ∷ []) notes (notes ++ note ∷ []) n n (store_of c d) (λ y. front_noted n y v.placed p.0)
           (v.each n x t u c d p.1 t_low (omega (arith, t_high, until_on (λ (y : Note). y.first_moment) notes note n (moment f) here.0 p.0)) u_low (omega (arith, u_high, until_on (λ (y : Note). y.second_moment) notes note n (moment s) here.1 p.0)) left_c left_d)
       | inr p ↦ (
-          let first_high : t ≤ moment f = omega (arith, t_high, ap (λ i. until (λ (y : Note). y.first_moment) (notes ++ note ∷ []) i (moment f)) p.0, until_last (λ (y : Note). y.first_moment) notes note (moment f)) in
-          let second_high : u ≤ moment s = omega (arith, u_high, ap (λ i. until (λ (y : Note). y.second_moment) (notes ++ note ∷ []) i (moment s)) p.0, until_last (λ (y : Note). y.second_moment) notes note (moment s)) in
+          let first_high : t ≤ moment f = omega (arith, t_high, ap (λ i. stretch_until (λ (y : Note). y.first_moment) (notes ++ note ∷ []) i (moment f)) p.0, until_last (λ (y : Note). y.first_moment) notes note (moment f)) in
+          let second_high : u ≤ moment s = omega (arith, u_high, ap (λ i. stretch_until (λ (y : Note). y.second_moment) (notes ++ note ∷ []) i (moment s)) p.0, until_last (λ (y : Note). y.second_moment) notes note (moment s)) in
           let t_is : t ≡ moment f = omega (arith, t_low, first_high, ap (λ (y : Note). y.first_moment) p.1, here.0) in
           let u_is : u ≡ moment s = omega (arith, u_low, second_high, ap (λ (y : Note). y.second_moment) p.1, here.1) in
-          subst (λ i. Loads w mounted (h ++ e ∷ []) (notes ++ note ∷ []) i (stored c d)) (sym p.0) (now c d (subst (λ i. images f i c) t_is left_c) (subst (λ i. images s i d) u_is left_d))
+          subst (λ i. Loads w mounted (h ++ e ∷ []) (notes ++ note ∷ []) i (store_of c d)) (sym p.0) (now c d (subst (λ i. images f i c) t_is left_c) (subst (λ i. images s i d) u_is left_d))
           )
     ];
     rises = λ n x is. elim (which notes note x n is) [
@@ -134,8 +135,8 @@ module _ {D : Type 0} (moment : D → ℕ) (images : D → ℕ → List ℕ → 
           )
           )
       | inr p ↦ (
-        omega (arith, here.0, ap (λ (y : Note). y.first_moment) p.1, ap (λ i. until (λ (y : Note). y.first_moment) (notes ++ note ∷ []) i (moment f)) p.0, until_last (λ (y : Note). y.first_moment) notes note (moment f)),
-        omega (arith, here.1, ap (λ (y : Note). y.second_moment) p.1, ap (λ i. until (λ (y : Note). y.second_moment) (notes ++ note ∷ []) i (moment s)) p.0, until_last (λ (y : Note). y.second_moment) notes note (moment s)),
+        omega (arith, here.0, ap (λ (y : Note). y.first_moment) p.1, ap (λ i. stretch_until (λ (y : Note). y.first_moment) (notes ++ note ∷ []) i (moment f)) p.0, until_last (λ (y : Note). y.first_moment) notes note (moment f)),
+        omega (arith, here.1, ap (λ (y : Note). y.second_moment) p.1, ap (λ i. stretch_until (λ (y : Note). y.second_moment) (notes ++ note ∷ []) i (moment s)) p.0, until_last (λ (y : Note). y.second_moment) notes note (moment s)),
       )
     ];
     past = λ n x is. elim (which notes note x n is) [

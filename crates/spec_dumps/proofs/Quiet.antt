@@ -10,12 +10,12 @@ use Rattle.muck_model.specs.declared.event.Event.{Event}
 use Rattle.muck_model.specs.declared.event.Event.TheVariants.{Stored, DumpFailed}
 use Rattle.muck_model.specs.declared.note.Note.{Note}
 use Rattle.spec_live.specs.Consistent.{IsConsistent}
-use Rattle.muck_log.specs.Store.{Chosen, LogState, stored}
+use Rattle.muck_log.specs.Store.{Chosen, LogState, store_of}
 use Rattle.spec_events.specs.World.{World}
 use Rattle.spec_events.specs.Histories.{History, entered, Grew}
 use Rattle.spec_events.proofs.Runs.{grew_nothing, grew_one, grew_on}
 use Rattle.spec_events.specs.Logged.{is_dump, is_stored, is_failed}
-use Rattle.spec_dumps.specs.Fronts.{stands_at, event_at, at_cut, last_cut, number_at, IsFront, Fits, Overflows, dumped_on}
+use Rattle.spec_dumps.specs.Fronts.{entry_stands_at, event_at, at_cut, last_cut, batch_number_at, IsFront, Fits, Overflows, dumped_on}
 use Rattle.spec_dumps.specs.Survival.{Survives, AllCaused, IsDelta, AllDeltas, AllNumbered, IsSafe}
 use Rattle.spec_dumps.specs.inner.Holding.{Quietly, IsUsable, Keeps, Rests, FailedLast, IsDumped, RisesInDump, OverflowsAtCut}
 use Rattle.spec_dumps.proofs.Fronts.{ArePlaced, stands_on, event_on, event_off, front_on, loads_by, last_cut_quiet, last_cut_short, at_cut_quiet, number_on}
@@ -46,15 +46,15 @@ quiet_on h k m p q = record {
 
 -- Where no entry is one of a dump, none stands behind the others.
 
-none_at : (es : List Entry) (n : ℕ) → list_any (λ (e : Entry). is_dump e.event) es ≡ false → stands_at is_dump es n ≡ false
+none_at : (es : List Entry) (n : ℕ) → list_any (λ (e : Entry). is_dump e.event) es ≡ false → entry_stands_at is_dump es n ≡ false
 none_at [] n p = refl
 none_at (e ∷ es) n p = at (is_dump e.event) refl p n (λ q i. none_at es i q) where
-  at : (x : Bool) → is_dump e.event ≡ x → (x || list_any (λ (e : Entry). is_dump e.event) es) ≡ false → (n : ℕ) → (list_any (λ (e : Entry). is_dump e.event) es ≡ false → (i : ℕ) → stands_at is_dump es i ≡ false) → stands_at is_dump (e ∷ es) n ≡ false
+  at : (x : Bool) → is_dump e.event ≡ x → (x || list_any (λ (e : Entry). is_dump e.event) es) ≡ false → (n : ℕ) → (list_any (λ (e : Entry). is_dump e.event) es ≡ false → (i : ℕ) → entry_stands_at is_dump es i ≡ false) → entry_stands_at is_dump (e ∷ es) n ≡ false
   at true is q n f = cc
   at false is q zero f = is
   at false is q (suc n) f = f q n
 
-none_behind : (h es : List Entry) (n : ℕ) → list_any (λ (e : Entry). is_dump e.event) es ≡ false → length h ≤ n → stands_at is_dump (h ++ es) n ≡ false
+none_behind : (h es : List Entry) (n : ℕ) → list_any (λ (e : Entry). is_dump e.event) es ≡ false → length h ≤ n → entry_stands_at is_dump (h ++ es) n ≡ false
 none_behind [] es n p le = none_at es n p
 none_behind (e ∷ h) es zero p le = absurd (omega (arith, le))
 none_behind (e ∷ h) es (suc n) p le = none_behind h es n p (omega (arith, le))
@@ -67,14 +67,14 @@ failed_dump : (event : Event) → is_failed event ≡ true → is_dump event ≡
 failed_dump (DumpFailed k) e = refl
 failed_dump event e = cc
 
-pub stands_dump : (test : Event → Bool) (h : List Entry) (n : ℕ) → ((event : Event) → test event ≡ true → is_dump event ≡ true) → stands_at test h n ≡ true → stands_at is_dump h n ≡ true
+pub stands_dump : (test : Event → Bool) (h : List Entry) (n : ℕ) → ((event : Event) → test event ≡ true → is_dump event ≡ true) → entry_stands_at test h n ≡ true → entry_stands_at is_dump h n ≡ true
 stands_dump test h n f e = at (slice_get h n) e where
   at : (o : Option Entry) → option_map_or (λ (e : Entry). test e.event) o false ≡ true → option_map_or (λ (e : Entry). is_dump e.event) o false ≡ true
   at None e = cc
   at (Some x) e = f x.event e
 
 -- an entry of a dump stands among the first ones
-within : (test : Event → Bool) (h es : List Entry) (n : ℕ) → ((event : Event) → test event ≡ true → is_dump event ≡ true) → list_any (λ (e : Entry). is_dump e.event) es ≡ false → stands_at test (h ++ es) n ≡ true → n < length h
+within : (test : Event → Bool) (h es : List Entry) (n : ℕ) → ((event : Event) → test event ≡ true → is_dump event ≡ true) → list_any (λ (e : Entry). is_dump e.event) es ≡ false → entry_stands_at test (h ++ es) n ≡ true → n < length h
 within test h es n f none e = elim (cases_lt n (length h)) [
   | inl less ↦ less
   | inr le ↦ (let so = stands_dump test (h ++ es) n f e in let no = none_behind h es n none le in cc)
@@ -87,7 +87,7 @@ module _ {D : Type 0} (moment : D → ℕ) (images : D → ℕ → List ℕ → 
   survives_on : (h es : List Entry) → list_any (λ (e : Entry). is_dump e.event) es ≡ false → Survives moment images f s w mounted h notes → Survives moment images f s w mounted (h ++ es) notes
   survives_on h es none v = record {
     each = λ n note t u c d is t_low t_high u_low u_high left_c left_d.
-        loads_by w w mounted h (h ++ es) notes notes n n (stored c d) (λ x. front_on w mounted h es notes n x v.placed) (v.each n note t u c d is t_low t_high u_low u_high left_c left_d);
+        loads_by w w mounted h (h ++ es) notes notes n n (store_of c d) (λ x. front_on w mounted h es notes n x v.placed) (v.each n note t u c d is t_low t_high u_low u_high left_c left_d);
     rises = v.rises;
     past = v.past;
     noted = λ place at. let less = within is_dump h es place same_dump none at in v.noted place (sym (stands_on is_dump h es place less) ∙ at);
@@ -174,10 +174,10 @@ module _ (mounted : ℕ) (h k : History) (q : Quietly h k) (placed : ArePlaced h
   pub same_cut : at_cut k.start k.entries ≡ at_cut h.start h.entries
   same_cut = ap (λ (w : World). at_cut w k.entries) q.grew.start ∙ ap (at_cut h.start) q.grew.entries ∙ at_cut_quiet h.start h.entries q.entries q.none
 
-  pub same_number : number_at mounted k.entries (last_cut k.entries) ≡ number_at mounted h.entries (last_cut h.entries)
+  pub same_number : batch_number_at mounted k.entries (last_cut k.entries) ≡ batch_number_at mounted h.entries (last_cut h.entries)
   same_number =
-      ap (λ (es : List Entry). number_at mounted es (last_cut es)) q.grew.entries
-      ∙ ap (number_at mounted (h.entries ++ q.entries)) (last_cut_quiet h.entries q.entries q.none)
+      ap (λ (es : List Entry). batch_number_at mounted es (last_cut es)) q.grew.entries
+      ∙ ap (batch_number_at mounted (h.entries ++ q.entries)) (last_cut_quiet h.entries q.entries q.none)
       ∙ number_on mounted h.entries q.entries (last_cut h.entries) (last_cut_short h.entries)
 
   pub front_quiet : (n : ℕ) (x : Chosen) → IsFront h.start mounted h.entries h.notes n x → IsFront k.start mounted k.entries k.notes n x

@@ -1,6 +1,6 @@
 -- The log is mounted again, behind a dump that failed.
 use Rattle.std.proofs.Common.{◌≡◌, ℕ, ◌≤◌, List, subst, Option, Some, None, Result, Ok, Err}
-use Rattle.muck_log.specs.Store.{Chosen, Damage, LogState, LeavesOnly, stored}
+use Rattle.muck_log.specs.Store.{Chosen, Damage, LogState, LeavesOnly, store_of}
 use Rattle.muck_log.specs.inner.Mount.{IsMountedAs}
 use Rattle.spec_events.specs.Histories.{History}
 use Rattle.spec_dumps.specs.Fronts.{IsFront, Loads, file_most}
@@ -9,7 +9,7 @@ use Rattle.spec_dumps.proofs.Moving.{safe_kept, loads_now}
 
 module _ {D : Type 0} (seen : D → List ℕ) (moment : D → ℕ) (images : D → ℕ → List ℕ → Type 0) (faults : D → ℕ) (log : Option LogState) (f s : D) (mounted : ℕ) (h : History) (v : Keeps seen moment images faults log f s mounted h) where
   -- what the disks show loads as a front of the history: it isn't damaged
-  pub shown_loads : images f (moment f) (seen f) → images s (moment s) (seen s) → Loads h.start mounted h.entries h.notes v.last (stored (seen f) (seen s))
+  pub shown_loads : images f (moment f) (seen f) → images s (moment s) (seen s) → Loads h.start mounted h.entries h.notes v.last (store_of (seen f) (seen s))
   shown_loads left_f left_s = loads_now moment images f s h.start mounted h.entries h.notes v.last v.note v.is v.end v.safe.survives (seen f) (seen s) left_f left_s
 
 module _ {D : Type 0} (seen : D → List ℕ) (moment : D → ℕ) (images : D → ℕ → List ℕ → Type 0) (faults : D → ℕ) (f s : D) (mounted : ℕ) (h : History) (r : Keeps seen moment images faults None f s mounted h) (f' s' : D)
@@ -37,7 +37,7 @@ module _ {D : Type 0} (seen : D → List ℕ) (moment : D → ℕ) (images : D �
     usable = (is.mounted, is.limit, front);
   }
     where
-      shown : Loads h.start mounted h.entries h.notes r.last (stored (seen f') (seen s'))
+      shown : Loads h.start mounted h.entries h.notes r.last (store_of (seen f') (seen s'))
       shown = shown_loads seen moment images faults None f' s' mounted h mounting_moves left_f left_s
 
       same : (x : Chosen) (r : Result Chosen Damage) → r ≡ Ok x → r ≡ Ok log.chosen → x ≡ log.chosen
@@ -45,4 +45,4 @@ module _ {D : Type 0} (seen : D → List ℕ) (moment : D → ℕ) (images : D �
       same x (Err y) e g = cc
 
       front : IsFront h.start mounted h.entries h.notes r.last log.chosen
-      front = subst (IsFront h.start mounted h.entries h.notes r.last) (same shown.0 (stored (seen f') (seen s')) shown.1 is.mounted.load) shown.2
+      front = subst (IsFront h.start mounted h.entries h.notes r.last) (same shown.0 (store_of (seen f') (seen s')) shown.1 is.mounted.load) shown.2

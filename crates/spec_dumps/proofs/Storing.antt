@@ -2,21 +2,22 @@
 use Rattle.std.proofs.Common.{◌≡◌, inl, inr, ℕ, ◌<◌, ◌≤◌, true, ◌||◌, zero, suc, List, [], ◌∷◌, length, take, refl, ap, sym, ◌∙◌, subst, arith, Some, None}
 use Rattle.std.specs.Prelude.{slice_get}
 use Rattle.std.proofs.lemmas.List.{take-append-le}
+use Rattle.muck_laws.proofs.Lists.{length_last}
+use Rattle.muck_laws.proofs.Places.{got_last}
 use Rattle.muck_model.specs.declared.event.Entry.{Entry}
 use Rattle.muck_model.specs.declared.event.Event.{Event}
 use Rattle.muck_model.specs.declared.event.Event.TheVariants.{Stored}
 use Rattle.muck_model.specs.declared.note.Note.{Note}
 use Rattle.spec_live.specs.Consistent.{IsConsistent}
 use Rattle.muck_log.specs.File.{after_number}
-use Rattle.muck_log.specs.Store.{Chosen, LogState, LeavesBoth, IsMounted, after_batch, stored}
+use Rattle.muck_log.specs.Store.{Chosen, LogState, LeavesBoth, IsMounted, after_batch, store_of}
 use Rattle.muck_log.specs.Append.{LoadsEither}
 use Rattle.spec_events.specs.World.{World}
 use Rattle.spec_events.specs.Histories.{History, after, entered, noted}
 use Rattle.spec_events.specs.Logged.{is_cut, is_stored, is_failed}
-use Rattle.spec_dumps.specs.Fronts.{persisted, last_cut, at_cut, number_at, IsNotedBy, IsFront, Loads, Fits, dumped_on, file_most}
+use Rattle.spec_dumps.specs.Fronts.{persisted, last_cut, at_cut, batch_number_at, IsNotedBy, IsFront, Loads, Fits, dumped_on, file_most}
 use Rattle.spec_dumps.specs.Survival.{AllNoted, HoldsAt, HoldsBy, IsDelta, StandsWhole}
 use Rattle.spec_dumps.specs.inner.Holding.{IsAt, IsCounted, Keeps, Rests, IsDumped}
-use Rattle.spec_dumps.proofs.Lists.{got_last, length_last}
 use Rattle.spec_dumps.proofs.Fronts.{note_within, noted_on, number_on, last_cut_short, last_cut_taken, last_cut_front, last_cut_stands}
 use Rattle.spec_dumps.proofs.Moving.{safe_moved, held_still, held_now, held_noted}
 use Rattle.spec_dumps.proofs.Noting.{front_noted, survives_noted, caused_noted, deltas_noted, numbered_noted, rise_noted, stands_within}
@@ -44,7 +45,7 @@ noted_cut h notes last end noted (suc n) is =
 
 -- a store that holds the world at the last Cut, and has its number, is one after a front
 front_at_cut : (w : World) (mounted : ℕ) (h : List Entry) (notes : List Note) (last : ℕ) (x : Chosen) → length notes ≡ suc last → AllNoted h notes → IsConsistent (at_cut w h).live.objects →
-    x.held.world ≡ persisted (at_cut w h) → number_at mounted h (last_cut h) ≡ x.held.number → IsFront w mounted h notes last x
+    x.held.world ≡ persisted (at_cut w h) → batch_number_at mounted h (last_cut h) ≡ x.held.number → IsFront w mounted h notes last x
 front_at_cut w mounted h notes last x end noted consistent holds number = record {
   count = last_cut h;
   short = last_cut_short h;
@@ -58,7 +59,7 @@ front_at_cut w mounted h notes last x end noted consistent holds number = record
 
 -- The disks are as they stood at the note of the last Cut, and the log is on the store before.
 module _ {D : Type 0} (seen : D → List ℕ) (moment : D → ℕ) (images : D → ℕ → List ℕ → Type 0) (faults : D → ℕ) (f s : D) (mounted : ℕ) (h : History) (log : LogState) (r : Rests seen moment images faults (Some log) f s mounted h)
-    (consistent : IsConsistent (at_cut h.start h.entries).live.objects) (number : number_at mounted h.entries (last_cut h.entries) ≡ after_number log.chosen.held.number) where
+    (consistent : IsConsistent (at_cut h.start h.entries).live.objects) (number : batch_number_at mounted h.entries (last_cut h.entries) ≡ after_number log.chosen.held.number) where
   abbrev dumped : Chosen
   dumped = dumped_on log.chosen (at_cut h.start h.entries)
 
@@ -95,7 +96,7 @@ module _ {D : Type 0} (seen : D → List ℕ) (moment : D → ℕ) (images : D �
     usable = tt;
   }
     where
-      loads : (c d : List ℕ) → LoadsEither log.chosen dumped c d → Loads h.start mounted h.entries h.notes r.keeps.last (stored c d)
+      loads : (c d : List ℕ) → LoadsEither log.chosen dumped c d → Loads h.start mounted h.entries h.notes r.keeps.last (store_of c d)
       loads c d (inl e) = (log.chosen, e, r.keeps.usable.2)
       loads c d (inr e) = (dumped, e, dumped_front)
 

@@ -13,11 +13,11 @@ use Rattle.spec_events.specs.Steps.{effect}
 use Rattle.spec_events.specs.Histories.{after}
 use Rattle.spec_events.specs.Logged.{is_cut}
 use Rattle.spec_events.proofs.Walked.{marked_after}
-use Rattle.spec_dumps.specs.Fronts.{cut_behind, last_cut, at_cut}
+use Rattle.spec_dumps.specs.Fronts.{front_behind_cut, last_cut, at_cut}
 
 -- Where no Cut stands last, none stands.
 
-cut_later : (n : ℕ) (cut : Bool) → cut_behind n cut ≡ 0 → (cut ≡ false) × (n ≡ 0)
+cut_later : (n : ℕ) (cut : Bool) → front_behind_cut n cut ≡ 0 → (cut ≡ false) × (n ≡ 0)
 cut_later zero true is = cc
 cut_later zero false is = (refl, refl)
 cut_later (suc n) cut is = cc
@@ -37,7 +37,7 @@ marked_front zero w h is = marked_after w h (no_cut h is)
 marked_front (suc n) w [] is = cc
 marked_front (suc n) w (e ∷ h) is = marked_front n (effect w e) h (behind (last_cut h) (is_cut e.event) is)
   where
-    behind : (i : ℕ) (cut : Bool) → cut_behind i cut ≡ suc n → i ≡ n
+    behind : (i : ℕ) (cut : Bool) → front_behind_cut i cut ≡ suc n → i ≡ n
     behind zero true same = cc
     behind zero false same = cc
     behind (suc i) cut same = cc

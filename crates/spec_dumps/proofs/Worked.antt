@@ -4,18 +4,19 @@ use Rattle.std.specs.Prelude.{not, nat_le, nat_lt, ◌&&◌, if◌then◌else◌
 use Rattle.muck_model.specs.declared.event.Entry.{Entry}
 use Rattle.muck_model.specs.declared.event.Event.TheVariants.{Cut, Stored, DumpFailed}
 use Rattle.muck_model.specs.declared.note.Note.{Note}
+use Rattle.muck_model.specs.Parameters.{parameters}
 use Rattle.spec_live.specs.Saving.{all_saving}
-use Rattle.muck_codec.specs.Batches.{batch_bytes, tune_bytes, four_bytes}
+use Rattle.muck_codec.specs.Batches.{batch_bytes, tune_bytes}
 use Rattle.muck_store.specs.Forms.{persist, stored_from}
 use Rattle.muck_log.specs.Append.{more_of, payload_of}
 use Rattle.muck_log.specs.Body.{body_bytes, magic}
-use Rattle.muck_log.specs.File.{after_number, begin, file_of, is_open}
-use Rattle.muck_log.specs.Store.{Chosen, Damage, opens_new, target, next_body, after_batch, stored, picked}
-use Rattle.muck_log.specs.World.{start, written}
-use Rattle.spec_events.specs.World.{World, booted}
+use Rattle.muck_log.specs.File.{after_number, begin, file_of, is_gate_open}
+use Rattle.muck_log.specs.Store.{Chosen, Damage, opens_new, target, next_body, after_batch, store_of, file_picked}
+use Rattle.muck_log.specs.World.{start, records_written}
+use Rattle.spec_events.specs.World.{World, world_booted}
 use Rattle.spec_events.specs.Steps.{effect}
 use Rattle.spec_events.specs.Histories.{by_porter}
-use Rattle.spec_dumps.specs.Fronts.{IsFront, Overflows, at_cut, last_cut, number_at, dumped_on, file_most, end_with}
+use Rattle.spec_dumps.specs.Fronts.{IsFront, Overflows, at_cut, last_cut, batch_number_at, dumped_on, file_most, end_with}
 use Rattle.spec_dumps.specs.Survival.{HoldsAt, HoldsBy, HasCause, IsDelta}
 use Rattle.spec_dumps.specs.inner.Rows.{bare, nothing_left, quiet_note, one_dump, Rows}
 
@@ -25,26 +26,26 @@ same_store x y r e g = cc
 -- Both disks hold one store at a moment.
 pub held_one : {D : Type 0} (images : D → ℕ → List ℕ → Type 0) (f s : D) (t u : ℕ) (x y : Chosen) → HoldsAt images f s t u x → HoldsAt images f s t u y → x ≡ y
 held_one images f s t u x y v o =
-    same_store x y (stored v.first_left.0 v.second_left.0) (v.each v.first_left.0 v.second_left.0 v.first_left.1 v.second_left.1) (o.each v.first_left.0 v.second_left.0 v.first_left.1 v.second_left.1)
+    same_store x y (store_of v.first_left.0 v.second_left.0) (v.each v.first_left.0 v.second_left.0 v.first_left.1 v.second_left.1) (o.each v.first_left.0 v.second_left.0 v.first_left.1 v.second_left.1)
 
 -- No cause.
 
 abbrev empty : Chosen
 empty = record { second = false; place = 0; held = begin 1 }
 
-none_stored : stored [] [] ≡ Ok empty
-unfolding stored picked file_of is_open
+none_stored : store_of [] [] ≡ Ok empty
+unfolding store_of file_picked file_of is_gate_open
 none_stored = refl
 
 small : end_with empty (at_cut bare (by_porter (Cut 1) ∷ [])) < file_most
-unfolding last_cut booted effect all_saving target opens_new begin more_of next_body body_bytes magic after_number payload_of written start batch_bytes tune_bytes four_bytes persist stored_from file_most
+unfolding last_cut world_booted effect all_saving target opens_new begin more_of next_body body_bytes magic after_number payload_of records_written start batch_bytes tune_bytes parameters persist stored_from file_most
 small = lit< tt
 
 no_cause : HasCause nothing_left true true bare 0 (by_porter (Cut 1) ∷ by_porter (DumpFailed 1) ∷ []) one_dump 0 (quiet_note 1 1) (quiet_note 0 0) → ⊥
 no_cause c = elim c.cause [
   | inl rose ↦ elim rose [ inl r ↦ omega (arith, r) | inr r ↦ omega (arith, r) ]
   | inr full ↦ (
-      let is : full.0 ≡ empty = same_store full.0 empty (stored [] []) (full.1.each [] [] refl refl) none_stored in
+      let is : full.0 ≡ empty = same_store full.0 empty (store_of [] []) (full.1.each [] [] refl refl) none_stored in
       let over : Overflows empty (at_cut bare (by_porter (Cut 1) ∷ [])) = subst (λ x. Overflows x (at_cut bare (by_porter (Cut 1) ∷ []))) is full.3 in
       omega (arith, over, small)
       )
@@ -58,7 +59,7 @@ story = by_porter (Cut 1) ∷ by_porter (Stored 1) ∷ []
 no_front : (s : Chosen) → s.held.number ≡ 0 → IsFront bare 0 story one_dump 2 s → ⊥
 unfolding last_cut
 no_front s none f = at f.count f.short f.cut f.number (f.acknowledged 2 1 (omega arith) refl refl) where
-  at : (n : ℕ) → n ≤ 2 → last_cut (take n story) ≡ n → s.held.number ≡ number_at 0 story n → 1 ≤ n → ⊥
+  at : (n : ℕ) → n ≤ 2 → last_cut (take n story) ≡ n → s.held.number ≡ batch_number_at 0 story n → 1 ≤ n → ⊥
   at zero short cut is low = omega (arith, low)
   at (suc zero) short cut is low = omega (arith, none, is)
   at (suc (suc zero)) short cut is low = omega (arith, cut)

@@ -7,7 +7,7 @@ use Rattle.muck_model.specs.declared.event.Event.TheVariants.{Cut}
 use Rattle.muck_model.specs.declared.note.Note.{Note}
 use Rattle.spec_live.specs.Consistent.{IsConsistent}
 use Rattle.muck_store.specs.Forms.{persist, world_batch}
-use Rattle.muck_log.specs.World.{World as Kept}
+use Rattle.muck_log.specs.World.{StoredWorld as Kept}
 use Rattle.muck_log.specs.Store.{Chosen, Damage, LogState, target, after_batch}
 use Rattle.muck_log.specs.Append.{more_of, payload_of}
 use Rattle.spec_events.specs.World.{World}
@@ -19,12 +19,12 @@ abbrev pub persisted : World → Kept
 persisted w = record { objects = persist w.live.objects; tune = w.live.board.tune }
 
 -- an entry of that kind stands behind n others
-abbrev pub stands_at : (Event → Bool) → List Entry → ℕ → Bool
-stands_at test h n = option_map_or (λ (e : Entry). test e.event) (slice_get h n) false
+abbrev pub entry_stands_at : (Event → Bool) → List Entry → ℕ → Bool
+entry_stands_at test h n = option_map_or (λ (e : Entry). test e.event) (slice_get h n) false
 
-abbrev pub cut_behind : ℕ → Bool → ℕ
-cut_behind zero cut = if cut then 1 else 0
-cut_behind (suc n) cut = suc (suc n)
+abbrev pub front_behind_cut : ℕ → Bool → ℕ
+front_behind_cut zero cut = if cut then 1 else 0
+front_behind_cut (suc n) cut = suc (suc n)
 
 -- the event of the entry behind n others
 abbrev pub event_at : List Entry → ℕ → Option Event
@@ -33,7 +33,7 @@ event_at h n = option_map (λ (e : Entry). e.event) (slice_get h n)
 -- how many entries there are up to the last Cut, and with it; 0 where there is none
 unfoldable pub last_cut : List Entry → ℕ
 last_cut [] = 0
-last_cut (e ∷ h) = cut_behind (last_cut h) (is_cut e.event)
+last_cut (e ∷ h) = front_behind_cut (last_cut h) (is_cut e.event)
 
 -- the world as it was behind the last Cut, or at the start where there is none
 abbrev pub at_cut : World → List Entry → World
@@ -44,9 +44,9 @@ number_of_cut (Cut k) = k
 number_of_cut event = 0
 
 -- the number of the batch that a front of so many entries ends with: that of its Cut, or the one that was mounted
-abbrev pub number_at : ℕ → List Entry → ℕ → ℕ
-number_at mounted h zero = mounted
-number_at mounted h (suc n) = option_map_or (λ (e : Entry). number_of_cut e.event) (slice_get h n) mounted
+abbrev pub batch_number_at : ℕ → List Entry → ℕ → ℕ
+batch_number_at mounted h zero = mounted
+batch_number_at mounted h (suc n) = option_map_or (λ (e : Entry). number_of_cut e.event) (slice_get h n) mounted
 
 -- Notes, of which the first is that of the mounting, and each other one that of the entry behind it.
 
@@ -67,9 +67,9 @@ pub record IsFront (w : World) (mounted : ℕ) (h : List Entry) (notes : List No
   pub world : s.held.world ≡ persisted (after w (take count h))
   pub consistent : IsConsistent (after w (take count h)).live.objects
   pub cut : last_cut (take count h) ≡ count
-  pub number : s.held.number ≡ number_at mounted h count
+  pub number : s.held.number ≡ batch_number_at mounted h count
   pub noted : IsNotedBy notes n count
-  pub acknowledged : (i place : ℕ) → i ≤ n → place_of_note notes i ≡ Some place → stands_at is_stored h place ≡ true → last_cut (take place h) ≤ count
+  pub acknowledged : (i place : ℕ) → i ≤ n → place_of_note notes i ≡ Some place → entry_stands_at is_stored h place ≡ true → last_cut (take place h) ≤ count
 
 -- what two files load as is such a store, and never damaged
 abbrev pub Loads : World → ℕ → List Entry → List Note → ℕ → Result Chosen Damage → Type 0

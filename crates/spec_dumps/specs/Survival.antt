@@ -6,36 +6,36 @@ use Rattle.muck_model.specs.declared.event.Entry.{Entry}
 use Rattle.muck_model.specs.declared.event.Event.TheVariants.{Cut, DumpFailed}
 use Rattle.muck_model.specs.declared.note.Note.{Note}
 use Rattle.muck_log.specs.File.{after_number}
-use Rattle.muck_log.specs.Store.{Chosen, stored}
+use Rattle.muck_log.specs.Store.{Chosen, store_of}
 use Rattle.spec_events.specs.World.{World}
 use Rattle.spec_events.specs.Histories.{after}
 use Rattle.spec_events.specs.Logged.{is_dump, is_stored, is_failed}
-use Rattle.spec_dumps.specs.Fronts.{stands_at, event_at, at_cut, place_of_note, IsFront, Loads, Fits, Overflows, dumped_on, persisted}
+use Rattle.spec_dumps.specs.Fronts.{entry_stands_at, event_at, at_cut, place_of_note, IsFront, Loads, Fits, Overflows, dumped_on, persisted}
 
 -- Until when the stretch lasts that the n-th note begins: to the next note, or to now.
-abbrev pub until : (Note → ℕ) → List Note → ℕ → ℕ → ℕ
-until clock notes n now = option_map_or clock (slice_get notes (suc n)) now
+abbrev pub stretch_until : (Note → ℕ) → List Note → ℕ → ℕ → ℕ
+stretch_until clock notes n now = option_map_or clock (slice_get notes (suc n)) now
 
 -- each entry of a dump has its note
 abbrev pub AllNoted : List Entry → List Note → Type 0
-AllNoted h notes = (place : ℕ) → stands_at is_dump h place ≡ true → (i : ℕ) × (0 < i) × (place_of_note notes i ≡ Some place)
+AllNoted h notes = (place : ℕ) → entry_stands_at is_dump h place ≡ true → (i : ℕ) × (0 < i) × (place_of_note notes i ≡ Some place)
 
 -- At each moment of a stretch, whatever a crash leaves of both disks loads as the world after a front of the history that is noted by
 -- then and holds the Cut of each dump that was stored by then.
 pub record Survives {D : Type 0} (moment : D → ℕ) (images : D → ℕ → List ℕ → Type 0) (first second : D) (w : World) (mounted : ℕ) (h : List Entry) (notes : List Note) : Type 0 where
   pub each : (n : ℕ) (note : Note) (t u : ℕ) (c d : List ℕ) → slice_get notes n ≡ Some note →
-      note.first_moment ≤ t → t ≤ until (λ (x : Note). x.first_moment) notes n (moment first) →
-      note.second_moment ≤ u → u ≤ until (λ (x : Note). x.second_moment) notes n (moment second) →
-      images first t c → images second u d → Loads w mounted h notes n (stored c d)
+      note.first_moment ≤ t → t ≤ stretch_until (λ (x : Note). x.first_moment) notes n (moment first) →
+      note.second_moment ≤ u → u ≤ stretch_until (λ (x : Note). x.second_moment) notes n (moment second) →
+      images first t c → images second u d → Loads w mounted h notes n (store_of c d)
   pub rises : (n : ℕ) (note : Note) → slice_get notes n ≡ Some note →
-      (note.first_moment ≤ until (λ (x : Note). x.first_moment) notes n (moment first)) × (note.second_moment ≤ until (λ (x : Note). x.second_moment) notes n (moment second))
+      (note.first_moment ≤ stretch_until (λ (x : Note). x.first_moment) notes n (moment first)) × (note.second_moment ≤ stretch_until (λ (x : Note). x.second_moment) notes n (moment second))
   pub past : (n : ℕ) (note : Note) → slice_get notes n ≡ Some note → (note.first_moment ≤ moment first) × (note.second_moment ≤ moment second)
   pub noted : AllNoted h notes
   pub placed : (i place : ℕ) → place_of_note notes i ≡ Some place → ((i ≡ 0) × (place ≡ 0)) ⊎ (place < length h)
 
 -- What both disks hold at a moment of each is this store: whatever a crash leaves there loads as it, and something is left.
 pub record HoldsAt {D : Type 0} (images : D → ℕ → List ℕ → Type 0) (first second : D) (t u : ℕ) (s : Chosen) : Type 0 where
-  pub each : (c d : List ℕ) → images first t c → images second u d → stored c d ≡ Ok s
+  pub each : (c d : List ℕ) → images first t c → images second u d → store_of c d ≡ Ok s
   pub first_left : (c : List ℕ) × images first t c
   pub second_left : (d : List ℕ) × images second u d
 
@@ -52,7 +52,7 @@ pub record HasCause {D : Type 0} (images : D → ℕ → List ℕ → Type 0) (f
 -- each dump that failed has its cause
 abbrev pub AllCaused : {D : Type 0} → (D → ℕ → List ℕ → Type 0) → D → D → World → ℕ → List Entry → List Note → Type 0
 AllCaused images first second w mounted h notes = (n : ℕ) (note before : Note) → slice_get notes (suc (suc n)) ≡ Some note → slice_get notes n ≡ Some before →
-    stands_at is_failed h note.entries ≡ true → HasCause images first second w mounted h notes n note before
+    entry_stands_at is_failed h note.entries ≡ true → HasCause images first second w mounted h notes n note before
 
 -- A dump of the world `cut` wrote just what differed of it. Before it, at the n-th note, which is that of its Cut, both disks held a store in which
 -- its batch fits; and at the note of its end they hold that store with the batch.
@@ -66,7 +66,7 @@ pub record IsDelta {D : Type 0} (images : D → ℕ → List ℕ → Type 0) (fi
 -- each dump that was stored wrote so
 abbrev pub AllDeltas : {D : Type 0} → (D → ℕ → List ℕ → Type 0) → D → D → World → ℕ → List Entry → List Note → Type 0
 AllDeltas images first second w mounted h notes = (n : ℕ) (before note : Note) → slice_get notes n ≡ Some before → slice_get notes (suc n) ≡ Some note →
-    stands_at is_stored h note.entries ≡ true → IsDelta images first second w mounted h notes n before note (at_cut w (take note.entries h))
+    entry_stands_at is_stored h note.entries ≡ true → IsDelta images first second w mounted h notes n before note (at_cut w (take note.entries h))
 
 -- The number of a dump whose Cut has this note, the one behind the n-th: one more than that of the store that both disks hold there; or, where a disk failed
 -- since the n-th note, so that the log couldn't be mounted again, that of the dump which failed with that note.
@@ -100,4 +100,4 @@ pub record IsSafe {D : Type 0} (moment : D → ℕ) (images : D → ℕ → List
 -- now, whatever a crash leaves loads as the world as it is after the whole history
 abbrev pub StandsWhole : {D : Type 0} → (D → ℕ) → (D → ℕ → List ℕ → Type 0) → D → D → World → List Entry → Type 0
 StandsWhole moment images first second w h = (c d : List ℕ) → images first (moment first) c → images second (moment second) d →
-    (s : Chosen) × (stored c d ≡ Ok s) × (s.held.world ≡ persisted (after w h))
+    (s : Chosen) × (store_of c d ≡ Ok s) × (s.held.world ≡ persisted (after w h))

@@ -6,12 +6,13 @@ use Rattle.std.specs.Option.{option_map}
 use Rattle.std.specs.Ordering.{int_eq}
 use Rattle.std.proofs.lemmas.Bool.{cond-false, or_right, eq-eqb}
 use Rattle.std.proofs.lemmas.Cmp.{int_eq_equiv}
+use Rattle.muck_laws.proofs.Truths.{due_of, lost_gone, slice_there}
 use Rattle.muck_model.specs.declared.event.Event.TheVariants.{Claim, Slice, Lost}
 use Rattle.muck_queue.specs.declared.claim.Claim.{Claim as Claimed}
 use Rattle.muck_queue.specs.declared.process.Process.{Process}
-use Rattle.muck_queue.specs.Queues.{Queue, has_pid, is_due, is_on, is_before, earlier, earliest, next_due, claimed}
+use Rattle.muck_queue.specs.Queues.{Queue, has_pid, is_process_due, is_on, is_before, earlier, earliest, next_due, claimed}
 use Rattle.spec_events.specs.World.{World, on_queue}
-use Rattle.spec_events.specs.Steps.{has_claim, is_there, is_lawful, effect, next_process}
+use Rattle.spec_events.specs.Steps.{has_claim, is_process_there, is_lawful, effect, next_process}
 use Rattle.spec_events.specs.inner.Sound.{IsSound}
 
 -- p is one of them
@@ -57,11 +58,11 @@ earliest_any : (test : Process → Bool) (ps : List Process) (pid : ℤ) → opt
 earliest_any test ps pid f = among_any test ps (filter test ps) pid refl f
 
 claim_may : (dead stop : Bool) (moment : ℕ) (q : Queue) (pid : ℤ) → dead ≡ false → cond (dead || stop) None (next_due moment q) ≡ Some pid →
-    cond dead false (list_any (λ p. has_pid pid p && is_due moment q.claims p) q.processes && not stop) ≡ true
+    cond dead false (list_any (λ p. has_pid pid p && is_process_due moment q.claims p) q.processes && not stop) ≡ true
 unfolding next_due
 claim_may true stop moment q pid a e = cc
 claim_may false true moment q pid a e = cc
-claim_may false false moment q pid a e = ap (λ b. b && true) (earliest_any (is_due moment q.claims) q.processes pid e)
+claim_may false false moment q pid a e = ap (λ b. b && true) (earliest_any (is_process_due moment q.claims) q.processes pid e)
 
 -- the choice of a turn may be claimed, by any party
 pub claim_lawful : (w : World) (party : ℕ) (pid : ℤ) → IsSound w → next_process w ≡ Some pid → is_lawful w (record { party = party; event = Claim pid }) ≡ true
@@ -82,17 +83,12 @@ there_any test pid (p ∷ ps) =
       | false ↦ λ e. there_any test pid ps e
     ]
 
-slice_may : (w : World) (party : ℕ) (pid : ℤ) → w.dead ≡ false → list_any (λ p. has_pid pid p && is_due w.moment w.queue.claims p) w.queue.processes ≡ true → cond w.dead false (has_claim party pid (on_queue (claimed pid party) w) && is_there pid (on_queue (claimed pid party) w)) ≡ true
+slice_may : (w : World) (party : ℕ) (pid : ℤ) → w.dead ≡ false → list_any (λ p. has_pid pid p && is_process_due w.moment w.queue.claims p) w.queue.processes ≡ true → cond w.dead false (has_claim party pid (on_queue (claimed pid party) w) && is_process_there pid (on_queue (claimed pid party) w)) ≡ true
 unfolding claimed
 slice_may w party pid a e =
     let on : (int_eq pid pid && (party == party)) ≡ true = ap (λ b. b && (party == party)) (int_eq_equiv.refl pid) ∙ eq-eqb party party refl in
     let mine = last_any (λ c. is_on pid c && (c.party == party)) (record { number = pid; party = party }) w.queue.claims on in
-    cond-false _ _ _ a ∙ ap (λ b. b && is_some (find (has_pid pid) w.queue.processes)) mine ∙ there_any (is_due w.moment w.queue.claims) pid w.queue.processes e
-
-due_of : (dead stop b : Bool) → dead ≡ false → cond dead false (b && not stop) ≡ true → b ≡ true
-due_of true stop b a e = cc
-due_of false stop true a e = refl
-due_of false stop false a e = e
+    cond-false _ _ _ a ∙ ap (λ b. b && is_some (find (has_pid pid) w.queue.processes)) mine ∙ there_any (is_process_due w.moment w.queue.claims) pid w.queue.processes e
 
 alive_of : (dead stop : Bool) (moment : ℕ) (q : Queue) (pid : ℤ) → cond (dead || stop) None (next_due moment q) ≡ Some pid → dead ≡ false
 alive_of true stop moment q pid e = cc
@@ -107,18 +103,10 @@ chosen_lawful w party pid e =
 
 -- A process that a party has claimed is sliced, or it ended meanwhile, and then the claim is lost.
 
-slice_there : (dead there claim : Bool) → dead ≡ false → claim ≡ true → there ≡ true → cond dead false (claim && there) ≡ true
-slice_there true there claim a c t = cc
-slice_there false there claim a c t = ap (λ b. b && there) c ∙ t
-
-lost_gone : (dead there claim : Bool) → dead ≡ false → claim ≡ true → there ≡ false → cond dead false (claim && not there) ≡ true
-lost_gone true there claim a c t = cc
-lost_gone false there claim a c t = ap (λ b. b && not there) c ∙ ap not t
-
-pub slice_lawful : (w : World) (party : ℕ) (pid : ℤ) → w.dead ≡ false → has_claim party pid w ≡ true → is_there pid w ≡ true → is_lawful w (record { party = party; event = Slice pid }) ≡ true
+pub slice_lawful : (w : World) (party : ℕ) (pid : ℤ) → w.dead ≡ false → has_claim party pid w ≡ true → is_process_there pid w ≡ true → is_lawful w (record { party = party; event = Slice pid }) ≡ true
 unfolding is_lawful
-slice_lawful w party pid a c t = slice_there w.dead (is_there pid w) (has_claim party pid w) a c t
+slice_lawful w party pid a c t = slice_there w.dead (is_process_there pid w) (has_claim party pid w) a c t
 
-pub lost_lawful : (w : World) (party : ℕ) (pid : ℤ) → w.dead ≡ false → has_claim party pid w ≡ true → is_there pid w ≡ false → is_lawful w (record { party = party; event = Lost pid }) ≡ true
+pub lost_lawful : (w : World) (party : ℕ) (pid : ℤ) → w.dead ≡ false → has_claim party pid w ≡ true → is_process_there pid w ≡ false → is_lawful w (record { party = party; event = Lost pid }) ≡ true
 unfolding is_lawful
-lost_lawful w party pid a c t = lost_gone w.dead (is_there pid w) (has_claim party pid w) a c t
+lost_lawful w party pid a c t = lost_gone w.dead (is_process_there pid w) (has_claim party pid w) a c t

@@ -9,32 +9,32 @@ use Rattle.muf_model.specs.declared.fault.MufFault.TheVariants.{CallsFull}
 use Rattle.muf_model.specs.declared.prims.Primitive.{Primitive as Name}
 use Rattle.muf_model.specs.Datum.{Datum, int}
 use Rattle.muf_model.specs.Tree.{Definition, Tree}
-use Rattle.muf_model.specs.Source.{Program, Source, locked_of, calls_of, handed, entered}
+use Rattle.muf_model.specs.Source.{Program, Source, locked_of, calls_running, handed, program_entered}
 use Rattle.muf_model.specs.Unit.{calls_most}
-use Rattle.spec_prims.specs.Asking.{numbered}
+use Rattle.spec_prims.specs.Asking.{object_numbered}
 use Rattle.muck_library.specs.Library.{Library, formed}
 use Rattle.muck_queue.specs.declared.mode.Mode.TheVariants.{Background}
 use Rattle.muck_queue.specs.declared.process.Process.{Process}
 use Rattle.muck_queue.specs.Queues.{process}
-use Rattle.spec_processes.specs.ProcessRows.{Effect, gives, waits, forks, enters, starts, refuses, processed, later}
+use Rattle.spec_processes.specs.ProcessRows.{Effect, gives, waits, forks, enters, starts, refuses, processed, seconds_later}
 use Rattle.spec_processes.proofs.Leaves.{EndedBy, Leaves, leaves, ended_by}
 use Rattle.spec_events.specs.declared.starting.Agent.{Agent}
 use Rattle.spec_events.specs.declared.starting.Call.{Call as Started}
 use Rattle.spec_events.specs.declared.starting.Manner.{Manner}
 use Rattle.spec_events.specs.World.{World, with_library}
-use Rattle.spec_events.specs.Starting.{joined, begun}
-use Rattle.spec_events.specs.Slices.{acting, Deed, does, rests, fails, behind, called_word, word_entered, form_entered, form_called, program_called, child_of, with_number, child_joined, forked, queued_command, with_process, queued, place_in, effected, process_done}
+use Rattle.spec_events.specs.Starting.{process_joined, program_begun}
+use Rattle.spec_events.specs.Slices.{acting, SharedEffect, does, rests, fails, state_behind, called_word, word_entered, form_entered, form_called, program_called, child_of, with_number, child_joined, forked, queued_command, with_process, queued, place_of_use, effected, process_done}
 use Rattle.spec_events.specs.Endings.{end_open}
 use Rattle.spec_events.proofs.Quietly.{Quietly, quietly_same, quietly_library, quietly_joined, quietly_begun}
 use Rattle.spec_events.proofs.Endings.{IsSteady, Lasting, lasting_same, lasting_stays, lasting_joined, lasting_begun}
 
 -- A deed leads to a world of which that is so.
-abbrev pub Leads : (World → Type 0) → Deed World → Type 0
+abbrev pub Leads : (World → Type 0) → SharedEffect World → Type 0
 Leads P (does t v) = P v
 Leads P (rests t v) = P v
 Leads P (fails f v) = P v
 
-pub leads_more : (P Q : World → Type 0) → ((v : World) → P v → Q v) → (d : Deed World) → Leads P d → Leads Q d
+pub leads_more : (P Q : World → Type 0) → ((v : World) → P v → Q v) → (d : SharedEffect World) → Leads P d → Leads Q d
 leads_more P Q h (does t v) p = h v p
 leads_more P Q h (rests t v) p = h v p
 leads_more P Q h (fails f v) p = h v p
@@ -56,12 +56,12 @@ module _ (may : Process → Type 0) (w : World) where
   leads_number stack s (v, Ok n) h = h
   leads_number stack s (v, Err f) h = h
 
-  leads_joined : (p : Process) (stack : List Datum) (s : Source) → Leads (Left may w) (with_number stack s (joined p w))
-  leads_joined p stack s = leads_number stack s (joined p w) (record { quietly = quietly_joined p w; lasting = lasting_joined may p w })
+  leads_joined : (p : Process) (stack : List Datum) (s : Source) → Leads (Left may w) (with_number stack s (process_joined p w))
+  leads_joined p stack s = leads_number stack s (process_joined p w) (record { quietly = quietly_joined p w; lasting = lasting_joined may p w })
 
   leads_child : (o : Option Process) (stack : List Datum) (s : Source) → Leads (Left may w) (child_joined o stack s w)
   leads_child None stack s = left_same
-  leads_child (Some p) stack s = leads_joined (child_of w.moment (handed (int (pos 0)) (behind stack s)) p) stack s
+  leads_child (Some p) stack s = leads_joined (child_of w.moment (handed (int (pos 0)) (state_behind stack s)) p) stack s
 
   leads_forked : (pid : ℤ) (stack : List Datum) (s : Source) → Leads (Left may w) (forked pid stack s w)
   unfolding forked
@@ -72,22 +72,22 @@ module _ (may : Process → Type 0) (w : World) where
   leads_process stack s (v, Ok n) h = h
   leads_process stack s (v, Err f) h = h
 
-  leads_begun : (m : Manner) (c : Started) (stack : List Datum) (s : Source) → Leads (Left may w) (with_process stack s (begun m c w))
-  leads_begun m c stack s = leads_process stack s (begun m c w) (record { quietly = quietly_begun m c w; lasting = lasting_begun may m c w })
+  leads_begun : (m : Manner) (c : Started) (stack : List Datum) (s : Source) → Leads (Left may w) (with_process stack s (program_begun m c w))
+  leads_begun m c stack s = leads_process stack s (program_begun m c w) (record { quietly = quietly_begun m c w; lasting = lasting_begun may m c w })
 
   leads_queued : (x : Agent) (stack : List Datum) (d : ℤ) (seconds : ℕ) (argument : List ℕ) (s : Source) → Leads (Left may w) (queued x stack d seconds argument s w)
   unfolding queued
   leads_queued x stack d seconds argument s =
-      leads_begun (record { descr = None; mode = Background; due = later w.moment seconds })
-      (record { player = x.player; program = numbered d; trigger = nothing; command = queued_command; argument = argument })
+      leads_begun (record { descr = None; mode = Background; due = seconds_later w.moment seconds })
+      (record { player = x.player; program = object_numbered d; trigger = nothing; command = queued_command; argument = argument })
       stack s
 
   -- CALL
   leads_word : (s : Source) (program : Program) (o : Option Definition) (v : World) → Left may w v → Leads (Left may w) (word_entered s program o v)
   leads_word s program None v h = h
-  leads_word s program (Some d) v h = either (nat_lt (calls_of s.marks) calls_most)
+  leads_word s program (Some d) v h = either (nat_lt (calls_running s.marks) calls_most)
     where
-      either : (b : Bool) → Leads (Left may w) (cond b (does (entered program d s) v) (fails CallsFull v))
+      either : (b : Bool) → Leads (Left may w) (cond b (does (program_entered program d s) v) (fails CallsFull v))
       either true = h
       either false = h
 
@@ -100,7 +100,7 @@ module _ (may : Process → Type 0) (w : World) where
 
   leads_called : (a : Actor) (after : Source) (d : ℤ) (name : Option (List ℕ)) → Leads (Left may w) (program_called a after d name w)
   unfolding program_called
-  leads_called a after d name = leads_made a after d name (formed w.live.objects (numbered d) w.library)
+  leads_called a after d name = leads_made a after d name (formed w.live.objects (object_numbered d) w.library)
 
   -- any of them
   leads_effect : IsSteady may → (pid : ℤ) (x : Agent) (s : Source) → ((q : Process) → EndedBy (acting x s w.live.objects) w.live.objects q → may q) →
@@ -114,7 +114,7 @@ module _ (may : Process → Type 0) (w : World) where
     lasting = lasting_stays may (EndedBy (acting x s w.live.objects) w.live.objects) steady ends w.queue queue h.stays;
   }
   leads_effect steady pid x s ends (forks stack) h = leads_forked pid stack s
-  leads_effect steady pid x s ends (enters stack d name) h = leads_called (acting x s w.live.objects) (behind stack s) d name
+  leads_effect steady pid x s ends (enters stack d name) h = leads_called (acting x s w.live.objects) (state_behind stack s) d name
   leads_effect steady pid x s ends (starts stack d seconds argument) h = leads_queued x stack d seconds argument s
   leads_effect steady pid x s ends (refuses f) h = left_same
 
@@ -122,7 +122,7 @@ module _ (may : Process → Type 0) (w : World) where
   unfolding process_done
   leads_done steady pid x p s ends =
       let a : Actor = acting x s w.live.objects in
-      leads_effect steady pid x s ends (processed p (place_in pid s w) a (locked_of s.marks) s.stack w.live w.queue) (leaves p (place_in pid s w) a (locked_of s.marks) s.stack w.live w.queue)
+      leads_effect steady pid x s ends (processed p (place_of_use pid s w) a (locked_of s.marks) s.stack w.live w.queue) (leaves p (place_of_use pid s w) a (locked_of s.marks) s.stack w.live w.queue)
 
 -- what holds where any may end
 pub leads_quietly : (pid : ℤ) (x : Agent) (p : Name) (s : Source) (w : World) → Leads (Quietly w) (process_done pid x p s w)

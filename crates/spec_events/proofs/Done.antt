@@ -16,10 +16,10 @@ use Rattle.spec_live.specs.declared.saving.Saving.{Saving}
 use Rattle.spec_live.specs.Objects.{Entry, mark_in}
 use Rattle.spec_live.specs.Saving.{all_saving}
 use Rattle.spec_live.specs.Seen.{scenery_of}
-use Rattle.spec_live.specs.Connections.{Connection, has_number, edited as edited_connection}
+use Rattle.spec_live.specs.Connections.{Connection, is_connection, editor_set as edited_connection}
 use Rattle.spec_live.specs.Boards as boards
 use Rattle.spec_live.specs.Boards.{connection_in, player_in, leaving_one, edited_one}
-use Rattle.spec_live.specs.Lives.{Live, Change, followed, ◌▸◌, unchanged, tell, leave}
+use Rattle.spec_live.specs.Lives.{Live, Change, change_followed, ◌▸◌, unchanged, tell, leave}
 use Rattle.spec_rights.specs.declared.act.Actor.{Actor}
 use Rattle.spec_rights.specs.Verdict.{is_master}
 use Rattle.spec_rights.specs.Changing.{tuned}
@@ -28,26 +28,26 @@ use Rattle.spec_rights.proofs.Licences.{Proper, judge, SameMarks, Always, ties_b
 use Rattle.spec_rights.proofs.Leaving.{whole_leave}
 use Rattle.spec_rights.proofs.Shown.{loose_one, quiet_tell}
 use Rattle.spec_commands.specs.declared.outcome.Outcome.{Outcome}
-use Rattle.spec_commands.specs.declared.outcome.Outcome.TheVariants.{Done, NotMine, Start, Edit, Leave, Dump, Stop, Retune}
+use Rattle.spec_commands.specs.declared.outcome.Outcome.TheVariants.{Done, Said, NotMine, Start, Edit, Leave, Dump, Stop, Retune}
 use Rattle.spec_commands.specs.declared.edit.EditStep.{EditStep}
 use Rattle.spec_commands.specs.declared.edit.EditStep.TheVariants.{Stay, Compile, Left}
 use Rattle.spec_commands.specs.Finding.{actor_of}
 use Rattle.spec_commands.specs.Free.{free_play, free_through, free_line}
 use Rattle.spec_commands.specs.Commands.{begins_with_sign}
-use Rattle.spec_commands.specs.Editing.{editor_exited, is_open, edited}
+use Rattle.spec_commands.specs.Editing.{editor_exited, is_editor_open, edited_by_line}
 use Rattle.spec_commands.specs.Talk.{at_login, waits}
 use Rattle.spec_commands.proofs.Showing.{loose_waits}
 use Rattle.spec_commands.proofs.Edited.{edited_proper}
 use Rattle.spec_commands.proofs.Sources.{edited_rewrites}
 use Rattle.muck_queue.specs.declared.process.Process.{Process}
-use Rattle.muck_queue.specs.Queues.{reader, on_process, told_line, without}
+use Rattle.muck_queue.specs.Queues.{reader, on_process, told_line, without_process}
 use Rattle.spec_commands.proofs.Numbered.{numbers, numbers-ties, numbers-same_ties, leavers_ties, leavers_both, Seating}
 use Rattle.spec_commands.proofs.Lines.{seating_at_login}
-use Rattle.spec_admin.specs.Parameters.{IsInRange}
+use Rattle.muck_model.specs.Parameters.{IsInRange}
 use Rattle.spec_events.specs.World.{World, on_live, on_queue}
 use Rattle.spec_events.specs.Dumping.{resaved}
 use Rattle.spec_events.specs.Following.{swept, settled}
-use Rattle.spec_events.specs.Lines.{with_editor, next_editor, after_edit, edited_line, in_editor, editor_on, typed, left_by, followed_up, in_world, program_aborted, is_abort, given_line, line_for, line_done, done}
+use Rattle.spec_events.specs.Lines.{with_editor, next_editor, after_edit, edited_line, in_editor, editor_on, typed, processes_after_line, followed_up, in_world, program_aborted, is_abort, given_line, line_for, line_done, first_line_done}
 use Rattle.spec_events.specs.Endings.{ProcessesLicensed, NoProcess, MayEnd, by_actor, EndsReading}
 use Rattle.spec_events.specs.Licences.{Undisturbed, LineLicensed, TurnLicensed}
 use Rattle.spec_events.proofs.Quietly.{Still, still_of, lively, lively_acts, Quietly, quietly_readies, quietly_both, quietly_loose, quietly_live, quietly_queue, quietly_swept, quietly_launched, quietly_compiled}
@@ -94,20 +94,20 @@ open_settled a free start state u p =
 -- Leaving.
 
 -- a connection keeps its player
-pub player-same_ties : (a : Actor) (d : ℕ) (cs ds : List Connection) → SameTies a cs ds → option_and_then (λ (c : Connection). c.player) (find (has_number d) ds) ≡ option_and_then (λ (c : Connection). c.player) (find (has_number d) cs)
+pub player-same_ties : (a : Actor) (d : ℕ) (cs ds : List Connection) → SameTies a cs ds → option_and_then (λ (c : Connection). c.player) (find (is_connection d) ds) ≡ option_and_then (λ (c : Connection). c.player) (find (is_connection d) cs)
 player-same_ties a d [] [] t = refl
 player-same_ties a d [] (y ∷ ys) t = absurd t
 player-same_ties a d (x ∷ xs) [] t = absurd t
 player-same_ties a d (x ∷ xs) (y ∷ ys) t =
     let next = player-same_ties a d xs ys t.3 in
-    let P : ℕ → Type 0 = λ n. option_and_then (λ (c : Connection). c.player) (cond (n == d) (Some y) (find (has_number d) ys)) ≡ option_and_then (λ (c : Connection). c.player) (cond (x.number == d) (Some x) (find (has_number d) xs)) in
-    subst P (sym t.0) (elim (x.number == d) as (λ b. option_and_then (λ (c : Connection). c.player) (cond b (Some y) (find (has_number d) ys)) ≡ option_and_then (λ (c : Connection). c.player) (cond b (Some x) (find (has_number d) xs))) [ true ↦ t.1 | false ↦ next ])
+    let P : ℕ → Type 0 = λ n. option_and_then (λ (c : Connection). c.player) (cond (n == d) (Some y) (find (is_connection d) ys)) ≡ option_and_then (λ (c : Connection). c.player) (cond (x.number == d) (Some x) (find (is_connection d) xs)) in
+    subst P (sym t.0) (elim (x.number == d) as (λ b. option_and_then (λ (c : Connection). c.player) (cond b (Some y) (find (is_connection d) ys)) ≡ option_and_then (λ (c : Connection). c.player) (cond b (Some x) (find (is_connection d) xs))) [ true ↦ t.1 | false ↦ next ])
 
 left_licensed : (a : Actor) (d : ℕ) (free : Freedom) (w v : Live) → player_in d w.board ≡ Some a.player → Licensed a free w v → Licensed a free w (leave d v)
 unfolding leave leaving_one
 left_licensed a d free w v own l =
     let left : Licensed a free v (leave d v) = (((whole_leave a d (λ es. free) Always).law v).law (player-same_ties a d w.board.connections v.board.connections l.connections ∙ own) tt).licensed in
-    record { gone = l.gone; recycled = l.recycled; vanished = l.vanished; objects = l.objects; no_fewer = l.no_fewer; marked = l.marked; lists = l.lists; connections = ties_both a _ _ _ l.connections left.connections; tune = l.tune }
+    record { gone = l.gone; recycled = l.recycled; vanished = l.vanished; objects = l.objects; no_fewer = l.no_fewer; traced = l.traced; lists = l.lists; connections = ties_both a _ _ _ l.connections left.connections; tune = l.tune }
 
 left_goes : (d : ℕ) (w : Live) → Goes lively w (leave d w)
 unfolding leave
@@ -137,11 +137,11 @@ open_after a free start state d program Left u p = p
 
 open_edited : (d : ℕ) (player : Dbref) (s : EditState) (line : List ℕ) (lines : List (List ℕ)) (w : World) →
     Open (actor_of w.live.objects player) (editing s.program) w.live (state_of w) (edited_line d player s line (on_live (taken_out d lines) w))
-unfolding edited_line waits followed edited_one
+unfolding edited_line waits change_followed edited_one
 open_edited d player s line lines w =
     let a : Actor = actor_of w.live.objects player in
     let u : World = on_live (taken_out d lines) w in
-    let r = edited d a s line u.live in
+    let r = edited_by_line d a s line u.live in
     let proper : Proper a (editing s.program) u.live r.0 = edited_proper d a s line u.live in
     let taken = (loose_taken_out d lines).law w.live in
     let l : Licensed a (editing s.program) w.live r.0 = licensed_from a (editing s.program) w.live u.live r.0 taken proper.licensed in
@@ -162,7 +162,7 @@ left_open d player s lines w =
 open_in_editor : (d : ℕ) (player : Dbref) (s : EditState) (line : List ℕ) (lines : List (List ℕ)) (w : World) →
     Open (actor_of w.live.objects player) (editing s.program) w.live (state_of w) (in_editor d player s line (on_live (taken_out d lines) w))
 unfolding in_editor
-open_in_editor d player s line lines w = at (is_open s (taken_out d lines w.live))
+open_in_editor d player s line lines w = at (is_editor_open s (taken_out d lines w.live))
   where
     at : (b : Bool) → Open (actor_of w.live.objects player) (editing s.program) w.live (state_of w) (cond b (edited_line d player s line (on_live (taken_out d lines) w)) (on_live (tell d editor_exited) (on_live (taken_out d lines) w)))
     at true = open_edited d player s line lines w
@@ -174,7 +174,7 @@ open_in_editor d player s line lines w = at (is_open s (taken_out d lines w.live
 tuned_licensed : (a : Actor) (free : Freedom) (w v : Live) (tune : Tune) → Licensed a free w v → is_master a ≡ true → Licensed a free w (tuned tune v)
 unfolding tuned
 tuned_licensed a free w v tune l h =
-    record { gone = l.gone; recycled = l.recycled; vanished = l.vanished; objects = l.objects; no_fewer = l.no_fewer; marked = l.marked; lists = l.lists; connections = l.connections; tune = inr h }
+    record { gone = l.gone; recycled = l.recycled; vanished = l.vanished; objects = l.objects; no_fewer = l.no_fewer; traced = l.traced; lists = l.lists; connections = l.connections; tune = inr h }
 
 tuned_goes : (tune : Tune) (w : Live) → Goes lively w (tuned tune w)
 unfolding tuned boards.tuned
@@ -192,6 +192,7 @@ open_followed d player a free start state (Edit program) u own may p =
 open_followed d player a free start state (Start program trigger line arg) u own may p =
     open_quietly a free start state u _ p (quietly_launched d (actor_of u.live.objects player) (record { player = player; program = program; trigger = trigger; command = line; argument = arg }) u)
 open_followed d player a free start state Done u own may p = p
+open_followed d player a free start state (Said pose text) u own may p = p
 open_followed d player a free start state NotMine u own may p = p
 open_followed d player a free start state Dump u own may p = record { licensed = p.licensed; goes = p.goes; tuned = p.tuned; alive = p.alive; still = p.still }
 open_followed d player a free start state Stop u own may p = record { licensed = p.licensed; goes = p.goes; tuned = p.tuned; alive = p.alive; still = p.still }
@@ -206,7 +207,7 @@ waited_proper d a line lines w own =
 
 open_in_world : (d : ℕ) (player : Dbref) (line : List ℕ) (lines : List (List ℕ)) (w : World) → player_in d w.live.board ≡ Some player →
     Open (actor_of w.live.objects player) (free_line (actor_of w.live.objects player) line w.live.objects) w.live (state_of w) (in_world d player line (on_live (waits d lines) w))
-unfolding in_world waits followed actor_of
+unfolding in_world waits change_followed actor_of
 open_in_world d player line lines w own =
     let a : Actor = actor_of w.live.objects player in
     let free : Freedom = free_line a line w.live.objects in
@@ -215,7 +216,7 @@ open_in_world d player line lines w own =
     let taken = (loose_waits d lines).law w.live in
     let proper : Proper a free u.live r.0 = waited_proper d a line lines w own in
     open_followed d player a free w.live (state_of w) r.1 _ own (typed_retunes u.queue d a line u.live)
-    (open_settled a free w.live (state_of w) (record u { live = r.0; queue = left_by d a line u.live u.queue }) (record { licensed = licensed_from a free w.live u.live r.0 taken proper.licensed; goes = join (one (hears w.live u.live refl taken)) (lively_acts u.live r.0 proper.goes); tuned = in_range_as w.live r.0 proper.tune; alive = refl; still = refl }))
+    (open_settled a free w.live (state_of w) (record u { live = r.0; queue = processes_after_line d a line u.live u.queue }) (record { licensed = licensed_from a free w.live u.live r.0 taken proper.licensed; goes = join (one (hears w.live u.live refl taken)) (lively_acts u.live r.0 proper.goes); tuned = in_range_as w.live r.0 proper.tune; alive = refl; still = refl }))
 
 -- Processes.
 
@@ -225,6 +226,7 @@ objects_up d player Leave w = refl
 objects_up d player (Edit program) w = refl
 objects_up d player (Start program trigger line arg) w = (quietly_launched d (actor_of w.live.objects player) (record { player = player; program = program; trigger = trigger; command = line; argument = arg }) w).objects
 objects_up d player Done w = refl
+objects_up d player (Said pose text) w = refl
 objects_up d player NotMine w = refl
 objects_up d player Dump w = refl
 objects_up d player Stop w = refl
@@ -254,13 +256,13 @@ nothing_edited a line es x = at (begins_with_sign line) (exit_for (scenery_of es
 
 ends_in_world : (d : ℕ) (player : Dbref) (line : List ℕ) (lines : List (List ℕ)) (w : World) → player_in d w.live.board ≡ Some player → IsTold w.live →
     let v = in_world d player line (on_live (waits d lines) w) in ProcessesLicensed (MayEnd (actor_of w.live.objects player) w.live v.live) w v
-unfolding in_world waits followed actor_of
+unfolding in_world waits change_followed actor_of
 ends_in_world d player line lines w own told =
     let a : Actor = actor_of w.live.objects player in
     let free : Freedom = free_line a line w.live.objects in
     let u : World = on_live (waits d lines) w in
     let r = typed u.queue d a line u.live in
-    let x : World = record u { live = r.0; queue = left_by d a line u.live u.queue } in
+    let x : World = record u { live = r.0; queue = processes_after_line d a line u.live u.queue } in
     let v : World = followed_up d player r.1 (settled x) in
     let may : Process → Type 0 = MayEnd a w.live v.live in
     let marks : SameMarks (judge a free w.live.objects) w.live.objects r.0.objects = (waited_proper d a line lines w own).marks in
@@ -271,11 +273,11 @@ ends_in_world d player line lines w own told =
 
 ends_edited : (d : ℕ) (player : Dbref) (s : EditState) (line : List ℕ) (lines : List (List ℕ)) (w : World) → IsTold w.live →
     let v = edited_line d player s line (on_live (taken_out d lines) w) in ProcessesLicensed (MayEnd (actor_of w.live.objects player) w.live v.live) w v
-unfolding edited_line waits followed edited_one
+unfolding edited_line waits change_followed edited_one
 ends_edited d player s line lines w told =
     let a : Actor = actor_of w.live.objects player in
     let u : World = on_live (taken_out d lines) w in
-    let r = edited d a s line u.live in
+    let r = edited_by_line d a s line u.live in
     let x : World = record u { live = with_editor d (next_editor r.2 r.1) r.0 } in
     let v : World = after_edit d s.program r.2 (settled x) in
     let cut : IsLapsing w.live x.live = λ k m e. elim (((edited_rewrites d a s line).law u.live).marks k) [
@@ -288,7 +290,7 @@ ends_edited d player s line lines w told =
 ends_in_editor : (d : ℕ) (player : Dbref) (s : EditState) (line : List ℕ) (lines : List (List ℕ)) (w : World) → IsTold w.live →
     let v = in_editor d player s line (on_live (taken_out d lines) w) in ProcessesLicensed (MayEnd (actor_of w.live.objects player) w.live v.live) w v
 unfolding in_editor
-ends_in_editor d player s line lines w told = at (is_open s (taken_out d lines w.live))
+ends_in_editor d player s line lines w told = at (is_editor_open s (taken_out d lines w.live))
   where
     at : (b : Bool) → let v = cond b (edited_line d player s line (on_live (taken_out d lines) w)) (on_live (tell d editor_exited) (on_live (taken_out d lines) w)) in
         ProcessesLicensed (MayEnd (actor_of w.live.objects player) w.live v.live) w v
@@ -312,11 +314,11 @@ undisturbed_quietly may f w q = let s = q.law w.live in (record { objects = s.ob
 
 login_licensed : (d : ℕ) (editor : Option EditState) (line : List ℕ) (lines : List (List ℕ)) (w : World) →
     LineLicensed d None None editor (line ∷ lines) w (on_live (at_login d line) (on_live (waits d lines) w))
-unfolding waits followed
+unfolding waits change_followed
 login_licensed d editor line lines w =
     let u : World = on_live (waits d lines) w in
     let v : World = on_live (at_login d line) u in
-    let may : Connection → Bool = has_number d in
+    let may : Connection → Bool = is_connection d in
     let before = leavers_ties may w.live.board.connections u.live.board.connections ((loose_waits d lines).law w.live).ties in
     elim (screen_at_login d line (waits d lines w.live)) [
       | inl same ↦ inl (record { objects = same.objects; tune = same.tune }, none_ends w v refl, leavers_both d _ _ _ before ((seating_at_login d line).law u.live).leavers)
@@ -335,16 +337,16 @@ given_quietly d pid line lines w = either (is_abort line)
     waiting : Quietly w u
     waiting = quietly_loose (waits d lines) (loose_waits d lines) w
 
-    either : (b : Bool) → Quietly w (cond b (on_live (tell d program_aborted) (on_queue (without pid) u)) (on_queue (on_process pid (told_line u.moment line)) u))
+    either : (b : Bool) → Quietly w (cond b (on_live (tell d program_aborted) (on_queue (without_process pid) u)) (on_queue (on_process pid (told_line u.moment line)) u))
     either true =
-        quietly_both w (on_queue (without pid) u) _ (quietly_both w u _ waiting (quietly_queue (without pid) u)) (quietly_live (tell d program_aborted) (quiet_tell d program_aborted) (on_queue (without pid) u))
+        quietly_both w (on_queue (without_process pid) u) _ (quietly_both w u _ waiting (quietly_queue (without_process pid) u)) (quietly_live (tell d program_aborted) (quiet_tell d program_aborted) (on_queue (without_process pid) u))
     either false = quietly_both w u _ waiting (quietly_queue (on_process pid (told_line u.moment line)) u)
 
 given_lasts : (d : ℕ) (pid : ℤ) (line : List ℕ) (w : World) → Lasting (EndsReading pid) w.queue (given_line d pid line w).queue
 unfolding given_line
 given_lasts d pid line w = either (is_abort line)
   where
-    either : (b : Bool) → Lasting (EndsReading pid) w.queue (cond b (on_live (tell d program_aborted) (on_queue (without pid) w)) (on_queue (on_process pid (told_line w.moment line)) w)).queue
+    either : (b : Bool) → Lasting (EndsReading pid) w.queue (cond b (on_live (tell d program_aborted) (on_queue (without_process pid) w)) (on_queue (on_process pid (told_line w.moment line)) w)).queue
     either true = lasting_without (EndsReading pid) pid w.queue (process_number pid w.queue)
     either false = lasting_changed (EndsReading pid) pid (told_line w.moment line) w.queue (λ p. refl) (λ p e m. m)
 
@@ -361,13 +363,13 @@ given_licensed d pid player editor line lines w =
 -- Any line.
 
 none_waits : (d : ℕ) (w : World) (taker : Option ℤ) (player : Option Dbref) (editor : Option EditState) → LineLicensed d taker player editor [] w w
-none_waits d w (Some pid) player editor = undisturbed (has_number d) w
-none_waits d w None (Some player) editor = undisturbed (has_number d) w
-none_waits d w None None editor = undisturbed (has_number d) w
+none_waits d w (Some pid) player editor = undisturbed (is_connection d) w
+none_waits d w None (Some player) editor = undisturbed (is_connection d) w
+none_waits d w None None editor = undisturbed (is_connection d) w
 
 line_licensed : (d : ℕ) (w : World) (taker : Option ℤ) (player : Option Dbref) (editor : Option EditState) (line : List ℕ) (lines : List (List ℕ)) → player_in d w.live.board ≡ player → IsTold w.live →
     LineLicensed d taker player editor (line ∷ lines) w (line_for taker player editor d line (on_live (waits d lines) w))
-unfolding followed
+unfolding change_followed
 line_licensed d w (Some pid) player editor line lines e told = given_licensed d pid player editor line lines w
 line_licensed d w None None editor line lines e told = login_licensed d editor line lines w
 line_licensed d w None (Some player) None line lines e told = ((open_in_world d player line lines w e).licensed, ends_in_world d player line lines w e told)
@@ -378,9 +380,9 @@ lines_licensed : (d : ℕ) (w : World) (player : Option Dbref) (editor : Option 
 lines_licensed d w player editor [] e told = none_waits d w (reader d w.queue) player editor
 lines_licensed d w player editor (line ∷ lines) e told = line_licensed d w (reader d w.queue) player editor line lines e told
 
-pub turn_licensed : (d : ℕ) (w : World) (o : Option Connection) → connection_in d w.live.board ≡ o → IsTold w.live → TurnLicensed d o w (done d o w)
-unfolding done
-turn_licensed d w None e told = undisturbed (has_number d) w
+pub turn_licensed : (d : ℕ) (w : World) (o : Option Connection) → connection_in d w.live.board ≡ o → IsTold w.live → TurnLicensed d o w (first_line_done d o w)
+unfolding first_line_done
+turn_licensed d w None e told = undisturbed (is_connection d) w
 turn_licensed d w (Some c) e told = lines_licensed d w c.player c.editor c.waiting (ap (λ (o : Option Connection). option_and_then (λ (k : Connection). k.player) o) e) told
 
 -- Behind it nothing is to be told.
@@ -393,23 +395,23 @@ unfolding in_world
 told_in_world d player line w =
     let a : Actor = actor_of w.live.objects player in
     let r = typed w.queue d a line w.live in
-    let x : World = record w { live = r.0; queue = left_by d a line w.live w.queue } in
+    let x : World = record w { live = r.0; queue = processes_after_line d a line w.live w.queue } in
     told_by (settled x).live (followed_up d player r.1 (settled x)).live (objects_up d player r.1 (settled x)) (told_settled x)
 
 told_in_editor : (d : ℕ) (player : Dbref) (s : EditState) (line : List ℕ) (w : World) → IsTold w.live → IsTold (in_editor d player s line w).live
 unfolding in_editor edited_line
-told_in_editor d player s line w h = at (is_open s w.live)
+told_in_editor d player s line w h = at (is_editor_open s w.live)
   where
     at : (b : Bool) → IsTold (cond b (edited_line d player s line w) (on_live (tell d editor_exited) w)).live
     at true =
-        let r = edited d (actor_of w.live.objects player) s line w.live in
+        let r = edited_by_line d (actor_of w.live.objects player) s line w.live in
         let x : World = record w { live = with_editor d (next_editor r.2 r.1) r.0 } in
         told_by (settled x).live (after_edit d s.program r.2 (settled x)).live (objects_after d s.program r.2 (settled x)) (told_settled x)
     at false = told_by w.live (tell d editor_exited w.live) ((quiet_tell d editor_exited).law w.live).objects h
 
 line_told : (d : ℕ) (w : World) (taker : Option ℤ) (player : Option Dbref) (editor : Option EditState) (line : List ℕ) (lines : List (List ℕ)) → IsTold w.live →
     IsTold (line_for taker player editor d line (on_live (waits d lines) w)).live
-unfolding followed
+unfolding change_followed
 line_told d w (Some pid) player editor line lines h = told_by w.live (given_line d pid line (on_live (waits d lines) w)).live (given_quietly d pid line lines w).objects h
 line_told d w None None editor line lines h = let u : Live = waits d lines w.live in told_notes u (at_login d line u) ((seating_at_login d line).law u).objects (told_by w.live u ((loose_waits d lines).law w.live).objects h)
 line_told d w None (Some player) None line lines h = told_in_world d player line (on_live (waits d lines) w)
@@ -420,8 +422,8 @@ lines_told : (d : ℕ) (w : World) (player : Option Dbref) (editor : Option Edit
 lines_told d w player editor [] h = h
 lines_told d w player editor (line ∷ lines) h = line_told d w (reader d w.queue) player editor line lines h
 
-pub told_done : (d : ℕ) (w : World) (o : Option Connection) → IsTold w.live → IsTold (done d o w).live
-unfolding done
+pub told_done : (d : ℕ) (w : World) (o : Option Connection) → IsTold w.live → IsTold (first_line_done d o w).live
+unfolding first_line_done
 told_done d w None h = h
 told_done d w (Some c) h = lines_told d w c.player c.editor c.waiting h
 
@@ -484,7 +486,7 @@ going_resaved f w walk = record {
 
 line_going : (d : ℕ) (w : World) (taker : Option ℤ) (player : Option Dbref) (editor : Option EditState) (line : List ℕ) (lines : List (List ℕ)) → player_in d w.live.board ≡ player →
     Going w (line_for taker player editor d line (on_live (waits d lines) w))
-unfolding followed
+unfolding change_followed
 line_going d w (Some pid) player editor line lines e = going_quietly w _ (given_quietly d pid line lines w)
 line_going d w None None editor line lines e = let u : World = on_live (waits d lines) w in going_both w u _ (going_quietly w u (quietly_loose (waits d lines) (loose_waits d lines) w)) (going_live d (at_login d line) (seating_at_login d line) u)
 line_going d w None (Some player) None line lines e = going_open _ _ w _ (open_in_world d player line lines w e)
@@ -494,7 +496,7 @@ lines_going : (d : ℕ) (w : World) (player : Option Dbref) (editor : Option Edi
 lines_going d w player editor [] e = going_same w
 lines_going d w player editor (line ∷ lines) e = line_going d w (reader d w.queue) player editor line lines e
 
-pub done_going : (d : ℕ) (w : World) (o : Option Connection) → connection_in d w.live.board ≡ o → Going w (done d o w)
-unfolding done
+pub done_going : (d : ℕ) (w : World) (o : Option Connection) → connection_in d w.live.board ≡ o → Going w (first_line_done d o w)
+unfolding first_line_done
 done_going d w None e = going_same w
 done_going d w (Some c) e = lines_going d w c.player c.editor c.waiting (ap (λ (o : Option Connection). option_and_then (λ (k : Connection). k.player) o) e)

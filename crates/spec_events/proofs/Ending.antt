@@ -9,9 +9,9 @@ use Rattle.spec_live.specs.declared.mark.Mark.{Mark}
 use Rattle.spec_live.specs.declared.mark.Mark.TheVariants.{Lines, Gone}
 use Rattle.spec_live.specs.Objects.{Entry, dbref_of}
 use Rattle.muck_queue.specs.declared.process.Process.{Process}
-use Rattle.muck_queue.specs.Queues.{runs, has_trigger, without_trigger, ended_running, trigger_cleared}
+use Rattle.muck_queue.specs.Queues.{runs_in, has_trigger, without_trigger, ended_running, trigger_cleared}
 use Rattle.spec_events.specs.World.{World}
-use Rattle.spec_events.specs.Following.{followed, swept, settled, NoneIn, is_marked}
+use Rattle.spec_events.specs.Following.{mark_followed, swept, settled, NoneIn, is_marked}
 
 -- where some processes are left out
 kept_out : (d : Dbref) (test : Process → Bool) (ps : List Process) → NoneIn d ps → NoneIn d (filter test ps)
@@ -26,25 +26,25 @@ cleared_out d trigger (p ∷ ps) h =
     (λ e. (h.0, cleared_out d trigger ps h.1))
 
 -- and where those in it are
-left_out : (d : Dbref) (ps : List Process) → NoneIn d (filter (λ p. not (runs d p)) ps)
+left_out : (d : Dbref) (ps : List Process) → NoneIn d (filter (λ p. not (runs_in d p)) ps)
 left_out d [] = tt
 left_out d (p ∷ ps) =
-    (elim (runs d p) as (λ b. runs d p ≡ b → NoneIn d (cond (not b) (p ∷ filter (λ p. not (runs d p)) ps) (filter (λ p. not (runs d p)) ps))) [
+    (elim (runs_in d p) as (λ b. runs_in d p ≡ b → NoneIn d (cond (not b) (p ∷ filter (λ p. not (runs_in d p)) ps) (filter (λ p. not (runs_in d p)) ps))) [
       | true ↦ λ e. left_out d ps
       | false ↦ λ e. (e, left_out d ps)
     ]) refl
 
-followed_out : (d : Dbref) (m : Mark) (e : Dbref) (w : World) → NoneIn d w.queue.processes → NoneIn d (followed m e w).queue.processes
+followed_out : (d : Dbref) (m : Mark) (e : Dbref) (w : World) → NoneIn d w.queue.processes → NoneIn d (mark_followed m e w).queue.processes
 unfolding ended_running trigger_cleared
-followed_out d Lines e w h = kept_out d (λ p. not (runs e p)) w.queue.processes h
-followed_out d Gone e w h = cleared_out d e _ (kept_out d (λ p. not (runs e p)) w.queue.processes h)
+followed_out d Lines e w h = kept_out d (λ p. not (runs_in e p)) w.queue.processes h
+followed_out d Gone e w h = cleared_out d e _ (kept_out d (λ p. not (runs_in e p)) w.queue.processes h)
 
-followed_ends : (m : Mark) (d : Dbref) (w : World) → NoneIn d (followed m d w).queue.processes
+followed_ends : (m : Mark) (d : Dbref) (w : World) → NoneIn d (mark_followed m d w).queue.processes
 unfolding ended_running trigger_cleared
 followed_ends Lines d w = left_out d w.queue.processes
 followed_ends Gone d w = cleared_out d d _ (left_out d w.queue.processes)
 
-marked_out : (d : Dbref) (o : Option Mark) (e : Dbref) (w : World) → NoneIn d w.queue.processes → NoneIn d (option_map_or (λ m. followed m e w) o w).queue.processes
+marked_out : (d : Dbref) (o : Option Mark) (e : Dbref) (w : World) → NoneIn d w.queue.processes → NoneIn d (option_map_or (λ m. mark_followed m e w) o w).queue.processes
 marked_out d None e w h = h
 marked_out d (Some m) e w h = followed_out d m e w h
 
@@ -53,7 +53,7 @@ unfolding swept
 swept_out d n [] w h = h
 swept_out d n (e ∷ es) w h = swept_out d (suc n) es _ (marked_out d e.mark (dbref_of n) w h)
 
-marked_ends : (o : Option Mark) (d : Dbref) (w : World) → is_some o ≡ true → NoneIn d (option_map_or (λ m. followed m d w) o w).queue.processes
+marked_ends : (o : Option Mark) (d : Dbref) (w : World) → is_some o ≡ true → NoneIn d (option_map_or (λ m. mark_followed m d w) o w).queue.processes
 marked_ends None d w e = absurd cc
 marked_ends (Some m) d w e = followed_ends m d w
 
@@ -62,11 +62,11 @@ unfolding swept
 swept_ends n k [] w h = absurd cc
 swept_ends n zero (e ∷ es) w h =
     let here : n + 0 ≡ n = omega arith in
-    subst (λ m. NoneIn (dbref_of m) (swept (suc n) es (option_map_or (λ m. followed m (dbref_of n) w) e.mark w)).queue.processes) (sym here)
+    subst (λ m. NoneIn (dbref_of m) (swept (suc n) es (option_map_or (λ m. mark_followed m (dbref_of n) w) e.mark w)).queue.processes) (sym here)
     (swept_out (dbref_of n) (suc n) es _ (marked_ends e.mark (dbref_of n) w h))
 swept_ends n (suc k) (e ∷ es) w h =
     let there : n + suc k ≡ suc n + k = omega arith in
-    subst (λ m. NoneIn (dbref_of m) (swept (suc n) es (option_map_or (λ m. followed m (dbref_of n) w) e.mark w)).queue.processes) (sym there)
+    subst (λ m. NoneIn (dbref_of m) (swept (suc n) es (option_map_or (λ m. mark_followed m (dbref_of n) w) e.mark w)).queue.processes) (sym there)
     (swept_ends (suc n) k es _ h)
 
 pub settled_ends : (n : ℕ) (w : World) → is_marked n w.live.objects ≡ true → NoneIn (dbref_of n) (settled w).queue.processes

@@ -9,7 +9,7 @@ use Rattle.muck_model.specs.declared.dbref.Denial.{Denial}
 use Rattle.spec_live.specs.declared.mark.Mark.{Mark}
 use Rattle.spec_live.specs.declared.mark.Mark.TheVariants.{Lines, Gone}
 use Rattle.spec_live.specs.Objects.{Entry, dbref_of, mark_in}
-use Rattle.spec_live.specs.Marks.{unmarked}
+use Rattle.spec_live.specs.Marks.{entry_unmarked}
 use Rattle.spec_live.specs.Lives.{Live}
 use Rattle.spec_rights.specs.declared.act.Actor.{Actor}
 use Rattle.spec_rights.specs.declared.act.Act.TheVariants.{Start}
@@ -21,18 +21,18 @@ use Rattle.muck_library.specs.Library.{Library, formed}
 use Rattle.muck_library.specs.Programs.{built_tree}
 use Rattle.std.specs.Prelude.{Result, Ok, Err}
 use Rattle.muck_queue.specs.declared.process.Process.{Process}
-use Rattle.muck_queue.specs.Queues.{Queue, has_pid, has_trigger, runs, is_tied_to, without_trigger, without_all, without_first, changed_first, process, on_process, without, added, ended_tied, ended_running, trigger_cleared}
+use Rattle.muck_queue.specs.Queues.{Queue, has_pid, has_trigger, runs_in, is_tied_to, without_trigger, without_all, without_first, changed_first, process, on_process, without_process, process_added, ended_tied, ended_running, trigger_cleared}
 use Rattle.muck_queue.specs.Queues as queues
 use Rattle.spec_processes.proofs.Ends.{IsSame, Stays}
 use Rattle.spec_commands.specs.declared.outcome.Outcome.{Outcome}
-use Rattle.spec_commands.specs.declared.outcome.Outcome.TheVariants.{Done, NotMine, Start as StartOutcome, Edit, Leave, Dump, Stop, Retune}
+use Rattle.spec_commands.specs.declared.outcome.Outcome.TheVariants.{Done, Said, NotMine, Start as StartOutcome, Edit, Leave, Dump, Stop, Retune}
 use Rattle.spec_commands.specs.declared.edit.EditStep.{EditStep}
 use Rattle.spec_commands.specs.declared.edit.EditStep.TheVariants.{Stay, Compile, Left}
 use Rattle.spec_commands.specs.Finding.{actor_of}
 use Rattle.spec_events.specs.declared.starting.Call.{Call as Started}
 use Rattle.spec_events.specs.World.{World, on_queue, with_library}
-use Rattle.spec_events.specs.Following.{unbuilt, followed, swept, settled}
-use Rattle.spec_events.specs.Starting.{by_command, new_process, beginning, joined, word_started, form_started, built_started, begun, start_told, start_judged, launched}
+use Rattle.spec_events.specs.Following.{unbuilt, mark_followed, swept, settled}
+use Rattle.spec_events.specs.Starting.{by_command, new_process, program_beginning, process_joined, word_started, form_started, built_started, program_begun, start_told, start_judged, launched}
 use Rattle.spec_events.specs.declared.starting.Manner.{Manner}
 use Rattle.muf_model.specs.declared.fault.MufFault.{MufFault}
 use Rattle.muf_model.specs.declared.fault.MufFault.TheVariants.{ProcessLimit}
@@ -141,8 +141,8 @@ module _ (may : Process → Type 0) (pid : ℤ) where
       ]
 
   -- the process of this number is gone, which might end
-  pub lasting_without : (q : Queue) → ((p : Process) → process pid q ≡ Some p → may p) → Lasting may q (without pid q)
-  unfolding without
+  pub lasting_without : (q : Queue) → ((p : Process) → process pid q ≡ Some p → may p) → Lasting may q (without_process pid q)
+  unfolding without_process
   lasting_without q h at = left_first q.processes h at
 
   -- it is changed, and keeps its number
@@ -173,9 +173,9 @@ found_number pid (q ∷ ps) p =
 pub process_number : (pid : ℤ) (q : Queue) (p : Process) → process pid q ≡ Some p → has_pid pid p ≡ true
 process_number pid q p e = found_number pid q.processes p e
 
-pub lasting_added : (may : Process → Type 0) (x : Process) (q : Queue) → Lasting may q (added x q)
-unfolding added
-lasting_added may x q pid = left_more may (queues.numbered _ x) pid q.processes
+pub lasting_added : (may : Process → Type 0) (x : Process) (q : Queue) → Lasting may q (process_added x q)
+unfolding process_added
+lasting_added may x q pid = left_more may (queues.process_numbered _ x) pid q.processes
 
 cleared : (may : Process → Type 0) → IsSteady may → (d : Dbref) (p : Process) (b : Bool) → ((cond b (without_trigger p) p).number ≡ p.number) × (may (cond b (without_trigger p) p) → may p)
 cleared may steady d p true = (refl, steady p (without_trigger p) (record { number = refl; program = refl; player = refl; running = refl }))
@@ -187,33 +187,33 @@ lasting_cleared may steady d q pid = left_each may (λ p. cond (has_trigger d p)
 
 -- What follows from a change of objects.
 
-lasting_unbuilt : (may : Process → Type 0) (d : Dbref) (w : World) → ((p : Process) → runs d p ≡ true → may p) → Lasting may w.queue (unbuilt d w).queue
+lasting_unbuilt : (may : Process → Type 0) (d : Dbref) (w : World) → ((p : Process) → runs_in d p ≡ true → may p) → Lasting may w.queue (unbuilt d w).queue
 unfolding ended_running
-lasting_unbuilt may d w h pid = left_without may (runs d) h pid w.queue.processes
+lasting_unbuilt may d w h pid = left_without may (runs_in d) h pid w.queue.processes
 
-lasting_followed : (may : Process → Type 0) → IsSteady may → (m : Mark) (d : Dbref) (w : World) → ((p : Process) → runs d p ≡ true → may p) → Lasting may w.queue (followed m d w).queue
+lasting_followed : (may : Process → Type 0) → IsSteady may → (m : Mark) (d : Dbref) (w : World) → ((p : Process) → runs_in d p ≡ true → may p) → Lasting may w.queue (mark_followed m d w).queue
 lasting_followed may steady Lines d w h = lasting_unbuilt may d w h
 lasting_followed may steady Gone d w h = lasting_both may w.queue (unbuilt d w).queue (trigger_cleared d (unbuilt d w).queue) (lasting_unbuilt may d w h) (lasting_cleared may steady d (unbuilt d w).queue)
 
-lasting_marked : (may : Process → Type 0) → IsSteady may → (o : Option Mark) (d : Dbref) (w : World) → ((m : Mark) → o ≡ Some m → (p : Process) → runs d p ≡ true → may p) →
-    Lasting may w.queue (option_map_or (λ m. followed m d w) o w).queue
+lasting_marked : (may : Process → Type 0) → IsSteady may → (o : Option Mark) (d : Dbref) (w : World) → ((m : Mark) → o ≡ Some m → (p : Process) → runs_in d p ≡ true → may p) →
+    Lasting may w.queue (option_map_or (λ m. mark_followed m d w) o w).queue
 lasting_marked may steady None d w h = lasting_same may w.queue
 lasting_marked may steady (Some m) d w h = lasting_followed may steady m d w (h m refl)
 
 -- what a mark at a number lets end
 abbrev Told : (Process → Type 0) → ℕ → List Entry → Type 0
-Told may n es = (k : ℕ) (m : Mark) → mark_in es k ≡ Some m → (p : Process) → runs (dbref_of (n + k)) p ≡ true → may p
+Told may n es = (k : ℕ) (m : Mark) → mark_in es k ≡ Some m → (p : Process) → runs_in (dbref_of (n + k)) p ≡ true → may p
 
-told_first : (may : Process → Type 0) (e : Entry) (es : List Entry) (n : ℕ) → Told may n (e ∷ es) → (m : Mark) → e.mark ≡ Some m → (p : Process) → runs (dbref_of n) p ≡ true → may p
+told_first : (may : Process → Type 0) (e : Entry) (es : List Entry) (n : ℕ) → Told may n (e ∷ es) → (m : Mark) → e.mark ≡ Some m → (p : Process) → runs_in (dbref_of n) p ≡ true → may p
 unfolding mark_in
-told_first may e es n h m f p r = h 0 m f p (ap (λ i. runs (dbref_of i) p) (past n) ∙ r)
+told_first may e es n h m f p r = h 0 m f p (ap (λ i. runs_in (dbref_of i) p) (past n) ∙ r)
   where
     past : (n : ℕ) → n + 0 ≡ n
     past n = omega arith
 
 told_rest : (may : Process → Type 0) (e : Entry) (es : List Entry) (n : ℕ) → Told may n (e ∷ es) → Told may (suc n) es
 unfolding mark_in
-told_rest may e es n h k m f p r = h (suc k) m f p (ap (λ i. runs (dbref_of i) p) (past n k) ∙ r)
+told_rest may e es n h k m f p r = h (suc k) m f p (ap (λ i. runs_in (dbref_of i) p) (past n k) ∙ r)
   where
     past : (n k : ℕ) → n + suc k ≡ suc n + k
     past n k = omega arith
@@ -222,16 +222,16 @@ lasting_swept : (may : Process → Type 0) → IsSteady may → (n : ℕ) (es : 
 unfolding swept
 lasting_swept may steady n [] w h = lasting_same may w.queue
 lasting_swept may steady n (e ∷ es) w h =
-    let u : World = option_map_or (λ m. followed m (dbref_of n) w) e.mark w in
+    let u : World = option_map_or (λ m. mark_followed m (dbref_of n) w) e.mark w in
     lasting_both may w.queue u.queue (swept (suc n) es u).queue (lasting_marked may steady e.mark (dbref_of n) w (told_first may e es n h)) (lasting_swept may steady (suc n) es u (told_rest may e es n h))
 
 -- the same from the first number on
 abbrev pub Tells : (Process → Type 0) → List Entry → Type 0
-Tells may es = (k : ℕ) (m : Mark) → mark_in es k ≡ Some m → (p : Process) → runs (dbref_of k) p ≡ true → may p
+Tells may es = (k : ℕ) (m : Mark) → mark_in es k ≡ Some m → (p : Process) → runs_in (dbref_of k) p ≡ true → may p
 
 pub lasting_settled : (may : Process → Type 0) → IsSteady may → (w : World) → Tells may w.live.objects → Lasting may w.queue (settled w).queue
 unfolding settled
-lasting_settled may steady w h = lasting_swept may steady 0 w.live.objects w (λ k m e p r. h k m e p (ap (λ i. runs (dbref_of i) p) (first k) ∙ r))
+lasting_settled may steady w h = lasting_swept may steady 0 w.live.objects w (λ k m e p r. h k m e p (ap (λ i. runs_in (dbref_of i) p) (first k) ∙ r))
   where
     first : (k : ℕ) → k ≡ 0 + k
     first k = omega arith
@@ -242,9 +242,9 @@ IsTold w = (n : ℕ) → mark_in w.objects n ≡ None
 
 pub told_settled : (w : World) → IsTold (settled w).live
 unfolding settled mark_in
-told_settled w n = ap (λ o. option_and_then (λ (e : Entry). e.mark) o) (slice_get-map unmarked (swept 0 w.live.objects w).live.objects n) ∙ at (slice_get (swept 0 w.live.objects w).live.objects n)
+told_settled w n = ap (λ o. option_and_then (λ (e : Entry). e.mark) o) (slice_get-map entry_unmarked (swept 0 w.live.objects w).live.objects n) ∙ at (slice_get (swept 0 w.live.objects w).live.objects n)
   where
-    at : (o : Option Entry) → option_and_then (λ (e : Entry). e.mark) (option_map unmarked o) ≡ None
+    at : (o : Option Entry) → option_and_then (λ (e : Entry). e.mark) (option_map entry_unmarked o) ≡ None
     at None = refl
     at (Some e) = refl
 
@@ -253,16 +253,16 @@ told_settled w n = ap (λ o. option_and_then (λ (e : Entry). e.mark) o) (slice_
 abbrev pub BegunLasting : (Process → Type 0) → World → World × Result ℤ MufFault → Type 0
 BegunLasting may w r = Lasting may w.queue r.0.queue
 
-pub lasting_joined : (may : Process → Type 0) (p : Process) (w : World) → BegunLasting may w (joined p w)
-lasting_joined may p w = at (queues.is_full p.player w.live.board.tune w.queue)
+pub lasting_joined : (may : Process → Type 0) (p : Process) (w : World) → BegunLasting may w (process_joined p w)
+lasting_joined may p w = at (queues.is_queue_full p.player w.live.board.tune w.queue)
   where
-    at : (b : Bool) → BegunLasting may w (cond b (w, Err ProcessLimit) (on_queue (added p) w, Ok (w.queue.last +ℤ pos 1)))
+    at : (b : Bool) → BegunLasting may w (cond b (w, Err ProcessLimit) (on_queue (process_added p) w, Ok (w.queue.last +ℤ pos 1)))
     at true = lasting_same may w.queue
     at false = lasting_added may p w.queue
 
 lasting_word : (may : Process → Type 0) (m : Manner) (c : Started) (tree : Tree) (word : Option Definition) (w : World) → BegunLasting may w (word_started m c tree word w)
 lasting_word may m c tree None w = lasting_same may w.queue
-lasting_word may m c tree (Some word) w = lasting_joined may (new_process m c (beginning c tree word w)) w
+lasting_word may m c tree (Some word) w = lasting_joined may (new_process m c (program_beginning c tree word w)) w
 
 lasting_form : (may : Process → Type 0) (m : Manner) (c : Started) (form : Option Tree) (w : World) → BegunLasting may w (form_started m c form w)
 lasting_form may m c None w = lasting_same may w.queue
@@ -271,8 +271,8 @@ lasting_form may m c (Some tree) w = lasting_word may m c tree (last_word tree.w
 lasting_built : (may : Process → Type 0) (m : Manner) (c : Started) (made : Option Tree × Library) (w : World) → BegunLasting may w (built_started m c made w)
 lasting_built may m c (form, library) w = lasting_form may m c form (with_library library w)
 
-pub lasting_begun : (may : Process → Type 0) (m : Manner) (c : Started) (w : World) → BegunLasting may w (begun m c w)
-unfolding begun
+pub lasting_begun : (may : Process → Type 0) (m : Manner) (c : Started) (w : World) → BegunLasting may w (program_begun m c w)
+unfolding program_begun
 lasting_begun may m c w = lasting_built may m c (formed w.live.objects c.program w.library) w
 
 lasting_told : (may : Process → Type 0) (d : ℕ) (w : World) (r : World × Result ℤ MufFault) → BegunLasting may w r → Lasting may w.queue (start_told d r).queue
@@ -303,6 +303,7 @@ lasting_up may d player (StartOutcome program trigger command arg) w =
 lasting_up may d player Leave w = lasting_same may w.queue
 lasting_up may d player (Edit program) w = lasting_same may w.queue
 lasting_up may d player Done w = lasting_same may w.queue
+lasting_up may d player (Said pose text) w = lasting_same may w.queue
 lasting_up may d player NotMine w = lasting_same may w.queue
 lasting_up may d player Dump w = lasting_same may w.queue
 lasting_up may d player Stop w = lasting_same may w.queue

@@ -16,7 +16,7 @@ use Rattle.spec_rights.specs.Licence.{Freedom, Judge}
 use Rattle.spec_rights.proofs.Licences.{judge, MarkOpen, SameMarks}
 use Rattle.muf_model.specs.Source.{Source}
 use Rattle.muck_queue.specs.declared.process.Process.{Process}
-use Rattle.muck_queue.specs.Queues.{is_in, runs}
+use Rattle.muck_queue.specs.Queues.{is_in, runs_in}
 use Rattle.spec_events.specs.World.{World}
 use Rattle.spec_events.specs.Following.{swept, settled}
 use Rattle.spec_processes.proofs.Ends.{IsSame}
@@ -54,7 +54,7 @@ lapsed_as x w u v e (inr h) = inr (λ s. h (ap (λ (q : Option Object). option_m
 
 -- a program that it runs lapsed
 abbrev pub Cut : Live → Live → Process → Type 0
-Cut w v p = (x : Dbref) × (runs x p ≡ true) × Lapsed x w v
+Cut w v p = (x : Dbref) × (runs_in x p ≡ true) × Lapsed x w v
 
 -- it may end by who acts, or by what lapsed, alike in another way of going on
 pub end_as : (a : Actor) (es : List Entry) (p q : Process) → IsSame p q → end_open a es p ≡ end_open a es q

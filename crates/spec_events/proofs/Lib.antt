@@ -13,6 +13,7 @@ pub mod Modes
 mod Effects
 pub mod Sections
 pub mod Begun
+pub mod Hooking
 pub mod Happening
 pub mod Numbers
 pub mod Taken
@@ -23,6 +24,8 @@ mod Chained
 pub mod Living
 pub mod Reached
 pub mod Walked
+pub mod Stilling
+pub mod Turning
 pub mod Runs
 pub mod Logging
 pub mod Owning

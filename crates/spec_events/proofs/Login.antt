@@ -5,7 +5,7 @@ use Rattle.std.specs.Option.{option_and_then}
 use Rattle.muck_model.specs.declared.dbref.Dbref.{Dbref}
 use Rattle.spec_live.specs.Objects.{Entry, mark_in}
 use Rattle.spec_live.specs.Boards.{leaving_one}
-use Rattle.spec_live.specs.Lives.{Live, Change, followed, reading, either, ◌▸◌, tell, leave, enter}
+use Rattle.spec_live.specs.Lives.{Live, Change, change_followed, reading, either, ◌▸◌, tell, leave, enter}
 use Rattle.spec_live.proofs.Keeping.{Keeps, keeps_followed}
 use Rattle.spec_rights.specs.declared.act.Actor.{Actor}
 use Rattle.spec_rights.specs.Licence.{Licensed, nobody}
@@ -16,7 +16,7 @@ use Rattle.spec_mpi.proofs.Deeds.{touching_order}
 use Rattle.spec_commands.specs.Texts.{first_word, other_words, trimmed, is_alike}
 use Rattle.spec_commands.specs.Replies.{goodbye, has_connected}
 use Rattle.spec_commands.specs.Messages.{look_typed}
-use Rattle.spec_commands.specs.Finding.{actor_of, shown_others, looked}
+use Rattle.spec_commands.specs.Finding.{actor_of, shown_others, place_looked_at}
 use Rattle.spec_commands.specs.Talking.{who_shown}
 use Rattle.spec_commands.specs.Talk.{welcome, refused_login, proved, let_in, logged_in, connecting, quit, at_login}
 use Rattle.spec_commands.proofs.Showing.{quiet_shown_others, quiet_who_shown, stays_looked}
@@ -27,7 +27,7 @@ use Rattle.spec_events.proofs.Endings.{IsTold}
 -- What a player sees who has connected.
 
 abbrev pub greeted : ℕ → Dbref → Actor → Change
-greeted d player a = shown_others player has_connected ▸ looked d a look_typed
+greeted d player a = shown_others player has_connected ▸ place_looked_at d a look_typed
 
 stays_greeted : (d : ℕ) (player : Dbref) (a : Actor) → Stays a nobody None (greeted d player a)
 stays_greeted d player a = stays_behind a nobody None _ _ (quiet_shown_others player has_connected) (stays_looked a nobody None d look_typed)
@@ -49,11 +49,11 @@ screen_quiet : (d : ℕ) (f : Change) → Quiet f → (w : Live) → Screen d w 
 screen_quiet d f q w = let s = q.law w in inl (record { objects = s.objects; tune = s.tune })
 
 screen_quit : (d : ℕ) (w : Live) → Screen d w (quit d w)
-unfolding quit followed leave leaving_one
+unfolding quit change_followed leave leaving_one
 screen_quit d w = let s = (quiet_tell d goodbye).law w in inl (record { objects = s.objects; tune = s.tune })
 
 screen_let_in : (d : ℕ) (player : Option Dbref) (w : Live) → Screen d w (let_in d player w)
-unfolding followed reading enter
+unfolding change_followed reading enter
 screen_let_in d None w = screen_quiet d (tell d refused_login) (quiet_tell d refused_login) w
 screen_let_in d (Some player) w =
     let a : Actor = actor_of w.objects player in

@@ -1,11 +1,12 @@
 -- What becomes of the mode and the section of a process in changes of a queue, and of a world.
-use Rattle.std.proofs.Common.{◌≡◌, ℕ, ℤ, pos, ◌+ℤ◌, ◌≤ℤ◌, ◌<ℤ◌, suc, Bool, true, false, not, cond, List, [], ◌∷◌, ◌++◌, map, refl, sym, ◌∙◌, ap, subst, arith, Option, Some, None, Result}
+use Rattle.std.proofs.Common.{◌≡◌, ℕ, ℤ, pos, ◌+ℤ◌, ◌≤ℤ◌, suc, Bool, true, false, not, cond, List, [], ◌∷◌, ◌++◌, map, refl, sym, ◌∙◌, ap, subst, arith, Option, Some, None, Result}
 use Rattle.std.specs.Prelude.{find}
 use Rattle.std.specs.List.{filter}
 use Rattle.std.specs.Option.{option_map, option_map_or}
 use Rattle.std.specs.Ordering.{int_eq}
 use Rattle.std.proofs.lemmas.Bool.{cond_both}
 use Rattle.std.proofs.lemmas.Int.{ints}
+use Rattle.muck_laws.proofs.Numbers.{above_not, int_at_most, same_pid}
 use Rattle.muck_model.specs.declared.dbref.Dbref.{Dbref}
 use Rattle.spec_live.specs.declared.mark.Mark.{Mark}
 use Rattle.spec_live.specs.declared.mark.Mark.TheVariants.{Lines, Gone}
@@ -16,7 +17,7 @@ use Rattle.muf_model.specs.Tree.{Definition, Tree}
 use Rattle.muck_library.specs.Library.{formed}
 use Rattle.muck_queue.specs.declared.mode.Mode.{Mode}
 use Rattle.muck_queue.specs.declared.process.Process.{Process}
-use Rattle.muck_queue.specs.Queues.{Queue, has_pid, runs, has_trigger, without_trigger, without_first, process, on_process, without, added, ended_running, trigger_cleared, is_full}
+use Rattle.muck_queue.specs.Queues.{Queue, has_pid, runs_in, has_trigger, without_trigger, without_first, process, on_process, without_process, process_added, ended_running, trigger_cleared, is_queue_full}
 use Rattle.muck_queue.specs.Queues as queues
 use Rattle.muck_queue.specs.inner.Numbered.{Rises, IsNumbered}
 use Rattle.muck_queue.proofs.Numbered.{rises_added, rises_kept, rises_without, rises_changed, rises_cleared}
@@ -24,8 +25,8 @@ use Rattle.muck_queue.proofs.Changed.{KeepsNumber, process_changed, process_unch
 use Rattle.spec_events.specs.declared.starting.Call.{Call}
 use Rattle.spec_events.specs.declared.starting.Manner.{Manner}
 use Rattle.spec_events.specs.World.{World, with_library}
-use Rattle.spec_events.specs.Following.{followed, swept, settled}
-use Rattle.spec_events.specs.Starting.{beginning, new_process, joined, word_started, form_started, begun}
+use Rattle.spec_events.specs.Following.{mark_followed, swept, settled}
+use Rattle.spec_events.specs.Starting.{program_beginning, new_process, process_joined, word_started, form_started, program_begun}
 
 -- how a process is, where it is there
 abbrev pub Holds : (Mode → ℕ → Type 0) → Option Process → Type 0
@@ -60,37 +61,28 @@ pub numbered_changed : (pid : ℤ) (f : Process → Process) → KeepsNumber f �
 unfolding IsNumbered on_process
 numbered_changed pid f k q h = rises_changed (has_pid pid) f k (pos 0) q.last q.processes h
 
-pub numbered_without : (pid : ℤ) (q : Queue) → IsNumbered q → IsNumbered (without pid q)
-unfolding IsNumbered without
+pub numbered_without : (pid : ℤ) (q : Queue) → IsNumbered q → IsNumbered (without_process pid q)
+unfolding IsNumbered without_process
 numbered_without pid q h = rises_without (has_pid pid) (pos 0) q.last q.processes h
 
 pub numbered_ended : (d : Dbref) (q : Queue) → IsNumbered q → IsNumbered (ended_running d q)
 unfolding IsNumbered ended_running
-numbered_ended d q h = rises_kept (λ p. not (runs d p)) (pos 0) q.last q.processes h
+numbered_ended d q h = rises_kept (λ p. not (runs_in d p)) (pos 0) q.last q.processes h
 
 pub numbered_cleared : (d : Dbref) (q : Queue) → IsNumbered q → IsNumbered (trigger_cleared d q)
 unfolding IsNumbered trigger_cleared
 numbered_cleared d q h = rises_cleared d (pos 0) q.last q.processes h
 
-pub numbered_added : (p : Process) (q : Queue) → IsNumbered q → IsNumbered (added p q)
-unfolding IsNumbered added
+pub numbered_added : (p : Process) (q : Queue) → IsNumbered q → IsNumbered (process_added p q)
+unfolding IsNumbered process_added
 numbered_added p q h = rises_added (pos 0) q.last q.processes p h
 
 -- Queues.
-
-pub same_pid : (m n : ℤ) → int_eq m n ≡ true → m ≡ n
-same_pid m n e = grind (arith, ints)
-
-above_not : (pid low m : ℤ) → pid ≤ℤ low → low <ℤ m → int_eq m pid ≡ false
-above_not pid low m h k = grind (arith, ints)
 
 none_above : (pid low last : ℤ) (ps : List Process) → pid ≤ℤ low → Rises low last ps → find (has_pid pid) ps ≡ None
 none_above pid low last [] h r = refl
 none_above pid low last (p ∷ ps) h r =
     ap (λ b. cond b (Some p) (find (has_pid pid) ps)) (above_not pid low p.number h r.0) ∙ none_above pid p.number last ps (omega (arith, ints, h, r.0)) r.1
-
-at_most : (m n : ℤ) → m ≡ n → n ≤ℤ m
-at_most m n e = omega (arith, ints)
 
 module _ (K : Mode → ℕ → Type 0) (pid : ℤ) where
   -- one that isn't looked for stands before the others
@@ -101,7 +93,7 @@ module _ (K : Mode → ℕ → Type 0) (pid : ℤ) where
   -- one that is gone is none of the others
   gone_one : (p : Process) (last : ℤ) (ps rs : List Process) (b : Bool) → has_pid pid p ≡ b → Rises p.number last rs → (Holds K (find (has_pid pid) ps) → Holds K (find (has_pid pid) rs)) →
       Holds K (cond b (Some p) (find (has_pid pid) ps)) → Holds K (find (has_pid pid) rs)
-  gone_one p last ps rs true e r f h = subst (Holds K) (sym (none_above pid p.number last rs (at_most p.number pid (same_pid p.number pid e)) r)) tt
+  gone_one p last ps rs true e r f h = subst (Holds K) (sym (none_above pid p.number last rs (int_at_most p.number pid (same_pid p.number pid e)) r)) tt
   gone_one p last ps rs false e r f h = f h
 
   kept_holds : (test : Process → Bool) (low last : ℤ) (ps : List Process) → Rises low last ps → Holds K (find (has_pid pid) ps) → Holds K (find (has_pid pid) (filter test ps))
@@ -141,22 +133,22 @@ module _ (K : Mode → ℕ → Type 0) (pid : ℤ) where
         | false ↦ λ e. added_holds new ps p e
       ]) e
 
-  pub fits_without : (other : ℤ) (q : Queue) → Fits K pid q → Fits K pid (without other q)
-  unfolding IsNumbered without
+  pub fits_without : (other : ℤ) (q : Queue) → Fits K pid q → Fits K pid (without_process other q)
+  unfolding IsNumbered without_process
   fits_without other q h = record { numbered = numbered_without other q h.numbered; holds = without_holds (has_pid other) (pos 0) q.last q.processes h.numbered h.holds }
 
   fits_ended : (d : Dbref) (q : Queue) → Fits K pid q → Fits K pid (ended_running d q)
   unfolding IsNumbered ended_running
-  fits_ended d q h = record { numbered = numbered_ended d q h.numbered; holds = kept_holds (λ p. not (runs d p)) (pos 0) q.last q.processes h.numbered h.holds }
+  fits_ended d q h = record { numbered = numbered_ended d q h.numbered; holds = kept_holds (λ p. not (runs_in d p)) (pos 0) q.last q.processes h.numbered h.holds }
 
   fits_cleared : (d : Dbref) (q : Queue) → Fits K pid q → Fits K pid (trigger_cleared d q)
   unfolding trigger_cleared
   fits_cleared d q h = record { numbered = numbered_cleared d q h.numbered; holds = cleared_holds d q.processes h.holds }
 
-  seated_added : (new : Process) (q : Queue) → Seated K pid q → Seated K pid (added new q)
-  unfolding added
+  seated_added : (new : Process) (q : Queue) → Seated K pid q → Seated K pid (process_added new q)
+  unfolding process_added
   seated_added new q h =
-      record { numbered = numbered_added new q h.numbered; it = h.it; found = added_holds (queues.numbered (q.last +ℤ pos 1) new) q.processes h.it h.found; holds = h.holds }
+      record { numbered = numbered_added new q h.numbered; it = h.it; found = added_holds (queues.process_numbered (q.last +ℤ pos 1) new) q.processes h.it h.found; holds = h.holds }
 
   -- a process is changed that may stay so
   holds_map : (f : Process → Process) (o : Option Process) → ((p : Process) → K p.mode p.section → K (f p).mode (f p).section) → Holds K o → Holds K (option_map f o)
@@ -176,11 +168,11 @@ module _ (K : Mode → ℕ → Type 0) (pid : ℤ) where
 
   -- What follows from a change of objects.
 
-  followed_fits : (m : Mark) (d : Dbref) (w : World) → Fits K pid w.queue → Fits K pid (followed m d w).queue
+  followed_fits : (m : Mark) (d : Dbref) (w : World) → Fits K pid w.queue → Fits K pid (mark_followed m d w).queue
   followed_fits Lines d w h = fits_ended d w.queue h
   followed_fits Gone d w h = fits_cleared d _ (fits_ended d w.queue h)
 
-  marked_fits : (o : Option Mark) (d : Dbref) (w : World) → Fits K pid w.queue → Fits K pid (option_map_or (λ m. followed m d w) o w).queue
+  marked_fits : (o : Option Mark) (d : Dbref) (w : World) → Fits K pid w.queue → Fits K pid (option_map_or (λ m. mark_followed m d w) o w).queue
   marked_fits None d w h = h
   marked_fits (Some m) d w h = followed_fits m d w h
 
@@ -195,20 +187,20 @@ module _ (K : Mode → ℕ → Type 0) (pid : ℤ) where
 
   -- A process more.
 
-  pub joined_fits : (new : Process) (w : World) → Seated K pid w.queue → Fits K pid (joined new w).0.queue
+  pub joined_fits : (new : Process) (w : World) → Seated K pid w.queue → Fits K pid (process_joined new w).0.queue
   joined_fits new w h =
-      cond_both (is_full new.player w.live.board.tune w.queue) _ _ (λ (r : World × Result ℤ MufFault). Fits K pid r.0.queue) (λ e. fits_seated K pid w.queue h) (λ e. fits_seated K pid (added new w.queue) (seated_added new w.queue h))
+      cond_both (is_queue_full new.player w.live.board.tune w.queue) _ _ (λ (r : World × Result ℤ MufFault). Fits K pid r.0.queue) (λ e. fits_seated K pid w.queue h) (λ e. fits_seated K pid (process_added new w.queue) (seated_added new w.queue h))
 
   word_fits : (m : Manner) (c : Call) (tree : Tree) (o : Option Definition) (w : World) → Seated K pid w.queue → Fits K pid (word_started m c tree o w).0.queue
   word_fits m c tree None w h = fits_seated K pid w.queue h
-  word_fits m c tree (Some word) w h = joined_fits (new_process m c (beginning c tree word w)) w h
+  word_fits m c tree (Some word) w h = joined_fits (new_process m c (program_beginning c tree word w)) w h
 
   form_fits : (m : Manner) (c : Call) (o : Option Tree) (w : World) → Seated K pid w.queue → Fits K pid (form_started m c o w).0.queue
   form_fits m c None w h = fits_seated K pid w.queue h
   form_fits m c (Some tree) w h = word_fits m c tree (last_word tree.words) w h
 
-  pub begun_fits : (m : Manner) (c : Call) (w : World) → Seated K pid w.queue → Fits K pid (begun m c w).0.queue
-  unfolding begun
+  pub begun_fits : (m : Manner) (c : Call) (w : World) → Seated K pid w.queue → Fits K pid (program_begun m c w).0.queue
+  unfolding program_begun
   begun_fits m c w h =
       let r = formed w.live.objects c.program w.library in form_fits m c r.0 (with_library r.1 w) h
 

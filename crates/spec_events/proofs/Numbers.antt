@@ -26,15 +26,15 @@ use Rattle.spec_commands.specs.declared.outcome.Outcome.{Outcome}
 use Rattle.spec_commands.specs.declared.outcome.Outcome.TheVariants.{Start as StartOutcome, Edit, Leave, Dump, Stop, Retune}
 use Rattle.spec_commands.specs.declared.edit.EditStep.{EditStep}
 use Rattle.spec_commands.specs.declared.edit.EditStep.TheVariants.{Compile}
-use Rattle.spec_commands.specs.Editing.{is_open, edited}
+use Rattle.spec_commands.specs.Editing.{is_editor_open, edited_by_line}
 use Rattle.spec_commands.specs.Finding.{actor_of}
 use Rattle.spec_commands.specs.Talk.{waits}
 use Rattle.spec_events.specs.declared.starting.Call.{Call}
 use Rattle.spec_events.specs.declared.starting.Manner.{Manner}
-use Rattle.spec_events.specs.World.{World, starting, booted, on_live}
-use Rattle.spec_events.specs.Starting.{by_command, by_hook, new_process, begun, start_told, start_judged, launched}
-use Rattle.spec_events.specs.Lines.{with_editor, compiled_so, compiled, next_editor, after_edit, edited_line, in_editor, typed, left_by, followed_up, in_world, command, given_line, is_abort, line_for, line_done, done}
-use Rattle.spec_events.specs.Slices.{awake, slice_most, sliced}
+use Rattle.spec_events.specs.World.{World, starting_world, world_booted, on_live}
+use Rattle.spec_events.specs.Starting.{by_command, by_hook, new_process, program_begun, start_told, start_judged, launched}
+use Rattle.spec_events.specs.Lines.{with_editor, compiled_so, compiled, next_editor, after_edit, edited_line, in_editor, typed, processes_after_line, followed_up, in_world, command, given_line, is_abort, line_for, line_done, first_line_done}
+use Rattle.spec_events.specs.Slices.{process_awake, slice_most, sliced}
 use Rattle.spec_events.specs.Steps.{effect, happened}
 use Rattle.spec_events.proofs.Modes.{numbered_changed, numbered_without, numbered_added, settled_numbered}
 use Rattle.spec_events.proofs.Sections.{run_numbered}
@@ -48,7 +48,7 @@ Rising w = IsNumbered w.queue
 
 -- Programs that are started.
 
-begun_rising : (m : Manner) (c : Call) (w : World) → Rising w → Rising (begun m c w).0
+begun_rising : (m : Manner) (c : Call) (w : World) → Rising w → Rising (program_begun m c w).0
 begun_rising m c w h = begun_keeps Rising m c (λ s u k. numbered_added (new_process m c s) u.queue k) w h
 
 told_rising : (d : ℕ) (w : World) (r : Result ℤ MufFault) → Rising w → Rising (start_told d (w, r))
@@ -57,7 +57,7 @@ told_rising d w (Err f) h = h
 
 judged_rising : (d : ℕ) (c : Call) (o : Option Denial) (w : World) → Rising w → Rising (start_judged d c o w)
 judged_rising d c (Some denial) w h = h
-judged_rising d c None w h = let r = begun (by_command d c.program w) c w in told_rising d r.0 r.1 (begun_rising (by_command d c.program w) c w h)
+judged_rising d c None w h = let r = program_begun (by_command d c.program w) c w in told_rising d r.0 r.1 (begun_rising (by_command d c.program w) c w h)
 
 launched_rising : (d : ℕ) (a : Actor) (c : Call) (w : World) → Rising w → Rising (launched d a c w)
 unfolding launched
@@ -77,8 +77,8 @@ edit_rising d program step w h = h
 editor_rising : (d : ℕ) (player : Dbref) (s : EditState) (line : List ℕ) (w : World) → Rising w → Rising (in_editor d player s line w)
 unfolding in_editor edited_line
 editor_rising d player s line w h =
-    cond_both (is_open s w.live) _ _ Rising
-    (λ e. let r = edited d (actor_of w.live.objects player) s line w.live in edit_rising d s.program r.2 _ (settled_numbered (record w { live = with_editor d (next_editor r.2 r.1) r.0 }) h))
+    cond_both (is_editor_open s w.live) _ _ Rising
+    (λ e. let r = edited_by_line d (actor_of w.live.objects player) s line w.live in edit_rising d s.program r.2 _ (settled_numbered (record w { live = with_editor d (next_editor r.2 r.1) r.0 }) h))
     (λ e. h)
 
 follows_rising : (d : ℕ) (player : Dbref) (o : Outcome) (w : World) → Rising w → Rising (followed_up d player o w)
@@ -95,7 +95,7 @@ unfolding in_world
 world_rising d player line w h =
     let a : Actor = actor_of w.live.objects player in
     let r = typed w.queue d a line w.live in
-    follows_rising d player r.1 _ (settled_numbered (record w { live = r.0; queue = left_by d a line w.live w.queue }) (numbered_left d a line w.live w.queue h))
+    follows_rising d player r.1 _ (settled_numbered (record w { live = r.0; queue = processes_after_line d a line w.live w.queue }) (numbered_left d a line w.live w.queue h))
 
 command_rising : (player : Option Dbref) (editor : Option EditState) (d : ℕ) (line : List ℕ) (w : World) → Rising w → Rising (command player editor d line w)
 command_rising None editor d line w h = h
@@ -115,8 +115,8 @@ lines_rising : (d : ℕ) (player : Option Dbref) (editor : Option EditState) (li
 lines_rising d player editor [] w h = h
 lines_rising d player editor (line ∷ lines) w h = for_rising (reader d w.queue) player editor d line (on_live (waits d lines) w) h
 
-done_rising : (d : ℕ) (o : Option Connection) (w : World) → Rising w → Rising (done d o w)
-unfolding done
+done_rising : (d : ℕ) (o : Option Connection) (w : World) → Rising w → Rising (first_line_done d o w)
+unfolding first_line_done
 done_rising d None w h = h
 done_rising d (Some c) w h = lines_rising d c.player c.editor c.waiting w h
 
@@ -125,7 +125,7 @@ done_rising d (Some c) w h = lines_rising d c.player c.editor c.waiting w h
 sliced_rising : (pid : ℤ) (w : World) → Rising w → Rising (sliced pid w)
 unfolding sliced
 sliced_rising pid w h =
-    run_numbered w.live.board.tune pid (slice_most w.live.board.tune) (awake pid w) (numbered_changed pid (woken w.moment) (woken_number w.moment) w.queue h)
+    run_numbered w.live.board.tune pid (slice_most w.live.board.tune) (process_awake pid w) (numbered_changed pid (woken w.moment) (woken_number w.moment) w.queue h)
 
 released_numbered : (pid : ℤ) (q : Queue) → IsNumbered q → IsNumbered (released pid q)
 unfolding IsNumbered released
@@ -149,14 +149,14 @@ rising_happened (Lost pid) w party h = released_numbered pid w.queue h
 rising_happened event w party h = h
 
 pub numbered_effect : (w : World) (e : Happened) → Rising w → Rising (effect w e)
-numbered_effect w e h = effect-keeps Rising (λ c u there k. begun_rising (by_hook u) c u k) w e (rising_happened e.event w e.party h)
+numbered_effect w e h = effect-keeps Rising (λ c u there k. begun_rising (by_hook u) c u k) (λ u k. k) w e (rising_happened e.event w e.party h)
 
 -- and those of a world that is booted, in which nothing runs, too
-pub rising_booted : (objects : List Entry) (tune : Tune) (moment start : ℕ) → Rising (booted objects tune moment start)
-unfolding booted IsNumbered empty_queue
+pub rising_booted : (objects : List Entry) (tune : Tune) (moment start : ℕ) → Rising (world_booted objects tune moment start)
+unfolding world_booted IsNumbered empty_queue
 rising_booted objects tune moment start = omega (arith, ints)
 
 -- as the first
-pub rising_starting : Rising starting
-unfolding starting booted IsNumbered empty_queue
+pub rising_starting : Rising starting_world
+unfolding starting_world world_booted IsNumbered empty_queue
 rising_starting = omega (arith, ints)

@@ -5,6 +5,7 @@ use Rattle.std.proofs.lemmas.Option.{none-some}
 use Rattle.std.proofs.lemmas.List.Elements.{All-head, All-tail}
 use Rattle.std.specs.Prelude.{All, find, codes, ltb}
 use Rattle.std.specs.Option.{option_map, option_and_then}
+use Rattle.muck_laws.proofs.Numbers.{apart, less_apart, other_apart, same_numbers}
 use Rattle.muck_model.specs.declared.dbref.Dbref.{Dbref}
 use Rattle.muck_model.specs.declared.tune.Tune.{Tune}
 use Rattle.muck_model.specs.declared.edit.EditState.{EditState}
@@ -12,10 +13,10 @@ use Rattle.muck_model.specs.declared.event.Entry.{Entry}
 use Rattle.muck_model.specs.declared.event.Event.{Event}
 use Rattle.muck_model.specs.declared.event.Event.TheVariants.{Opened, Input, Closed, Exec, Slice, Take, Stored, DumpFailed, Died}
 use Rattle.spec_live.specs.Objects.{Entry as Kept, mark_in, nothing}
-use Rattle.spec_live.specs.Connections.{Connection, has_number, changed_in, placed, without, left, seated, newcomer}
+use Rattle.spec_live.specs.Connections.{Connection, is_connection, changed_in, connection_placed, without_connection, left, player_seated, newcomer}
 use Rattle.spec_live.specs.Saving as saving
-use Rattle.spec_live.specs.Boards.{Board, player_in, opened, closed, line_added, bytes_taken, seated_one, leaving_one, early_board}
-use Rattle.spec_live.specs.Lives.{Live, Change, followed, reading, either, tell, leave, enter, on_board}
+use Rattle.spec_live.specs.Boards.{Board, player_in, connection_opened, connection_closed, line_added, bytes_taken, seated_one, leaving_one, early_board}
+use Rattle.spec_live.specs.Lives.{Live, Change, change_followed, reading, either, tell, leave, enter, on_board}
 use Rattle.spec_rights.specs.declared.act.Actor.{Actor}
 use Rattle.spec_live.proofs.Lives.{Loose, loose_quiet}
 use Rattle.spec_rights.proofs.Licences.{Quiet, ties_same}
@@ -24,29 +25,29 @@ use Rattle.spec_commands.specs.Texts.{first_word, other_words, trimmed, is_alike
 use Rattle.spec_commands.specs.Replies.{goodbye}
 use Rattle.spec_commands.specs.Finding.{actor_of}
 use Rattle.spec_commands.specs.Talking.{who_shown}
-use Rattle.spec_commands.specs.Talk.{welcome, refused_login, proved, let_in, logged_in, connecting, quit, at_login, waits, parted, gone_away}
+use Rattle.spec_commands.specs.Talk.{welcome, refused_login, proved, let_in, logged_in, connecting, quit, at_login, waits, player_parted, gone_away}
 use Rattle.spec_commands.specs.inner.Rising.{IsAbove, IsRising}
 use Rattle.spec_commands.proofs.Showing.{quiet_who_shown, loose_waits}
 use Rattle.spec_commands.proofs.Lines.{quiet_parted}
-use Rattle.muck_queue.specs.Queues.{reader, without as process_without, on_process, told_line}
-use Rattle.spec_events.specs.World.{World, connection, starting, booted, askers_of, on_live, on_queue}
+use Rattle.muck_queue.specs.Queues.{reader, without_process as process_without, on_process, told_line}
+use Rattle.spec_events.specs.World.{World, connection, starting_world, world_booted, askers_of, on_live, on_queue}
 use Rattle.spec_events.specs.Dumping.{resaved, dump_stored, dump_failed, told_each}
-use Rattle.spec_events.specs.Lines.{program_aborted, is_abort, given_line, line_for, line_done, done}
-use Rattle.spec_events.specs.Slices.{Taken, after_unit, last_world, awake, units_of}
+use Rattle.spec_events.specs.Lines.{program_aborted, is_abort, given_line, line_for, line_done, first_line_done}
+use Rattle.spec_events.specs.Slices.{Taken, after_unit, last_world, process_awake, units_of}
 use Rattle.spec_events.specs.Steps.{is_died, is_allowed, is_lawful, happened, effect}
 use Rattle.spec_events.specs.Licences.{LineLicensed, TurnLicensed, UnitLicensed, answering, Chained, SliceLicensed, EventLicensed}
 use Rattle.spec_events.specs.Histories.{after, AllLawful, AllLicensed}
-use Rattle.spec_events.specs.Passwords.{credentials, Proves, Stays, IsKnown, AllKnown}
+use Rattle.spec_events.specs.Passwords.{credentials, Proves, StaysOpen, IsKnown, AllKnown}
 use Rattle.spec_events.proofs.Knowing.{has_password}
 use Rattle.spec_events.proofs.Quietly.{quiet_told_each}
 use Rattle.spec_events.proofs.Login.{greeted, greeted_open}
 use Rattle.spec_events.proofs.Done.{player-same_ties}
-use Rattle.spec_events.proofs.Happening.{effect-is, effect-board}
-use Rattle.spec_events.proofs.Reached.{rising-happened, apart}
+use Rattle.spec_events.proofs.Happening.{effect-board}
+use Rattle.spec_events.proofs.Reached.{rising-happened}
 use Rattle.spec_events.proofs.Turns.{all_licensed_booted, all_licensed_starting}
 
 abbrev player_found : ℕ → List Connection → Option Dbref
-player_found d cs = option_and_then (λ (c : Connection). c.player) (find (has_number d) cs)
+player_found d cs = option_and_then (λ (c : Connection). c.player) (find (is_connection d) cs)
 
 -- What shows only keeps who is who.
 
@@ -60,47 +61,44 @@ kept_quiet d f q w = kept_loose d f (loose_quiet f q) w
 
 kept_changed : (e d : ℕ) (f : Connection → Connection) → ((c : Connection) → (f c).number ≡ c.number) → ((c : Connection) → (f c).player ≡ c.player) → (cs : List Connection) → player_found e (changed_in d f cs) ≡ player_found e cs
 kept_changed e d f number player [] = refl
-kept_changed e d f number player (c ∷ cs) = at (has_number d c) (kept_changed e d f number player cs)
+kept_changed e d f number player (c ∷ cs) = at (is_connection d c) (kept_changed e d f number player cs)
   where
-    here : (q : Bool) → option_and_then (λ (c : Connection). c.player) (cond q (Some (f c)) (find (has_number e) cs)) ≡ option_and_then (λ (c : Connection). c.player) (cond q (Some c) (find (has_number e) cs))
+    here : (q : Bool) → option_and_then (λ (c : Connection). c.player) (cond q (Some (f c)) (find (is_connection e) cs)) ≡ option_and_then (λ (c : Connection). c.player) (cond q (Some c) (find (is_connection e) cs))
     here true = player c
     here false = refl
 
     there : (q : Bool) → player_found e (changed_in d f cs) ≡ player_found e cs →
-        option_and_then (λ (c : Connection). c.player) (cond q (Some c) (find (has_number e) (changed_in d f cs))) ≡ option_and_then (λ (c : Connection). c.player) (cond q (Some c) (find (has_number e) cs))
+        option_and_then (λ (c : Connection). c.player) (cond q (Some c) (find (is_connection e) (changed_in d f cs))) ≡ option_and_then (λ (c : Connection). c.player) (cond q (Some c) (find (is_connection e) cs))
     there true h = refl
     there false h = h
 
     at : (b : Bool) → player_found e (changed_in d f cs) ≡ player_found e cs → player_found e (cond b (f c ∷ cs) (c ∷ changed_in d f cs)) ≡ player_found e (c ∷ cs)
-    at true h = ap (λ n. option_and_then (λ (c : Connection). c.player) (cond (n == e) (Some (f c)) (find (has_number e) cs))) (number c) ∙ here (c.number == e)
+    at true h = ap (λ n. option_and_then (λ (c : Connection). c.player) (cond (n == e) (Some (f c)) (find (is_connection e) cs))) (number c) ∙ here (c.number == e)
     at false h = there (c.number == e) h
 
 -- Connections that come, get a player, or go.
 
-same_numbers : (n e d : ℕ) → (n == e) ≡ true → (n == d) ≡ true → e ≡ d
-same_numbers n e d s r = grind (arith, nat_tests)
-
-seated_found : (e d : ℕ) (player p : Dbref) (cs : List Connection) → player_found e (changed_in d (seated player) cs) ≡ Some p → (player_found e cs ≡ Some p) ⊎ ((e ≡ d) × (p ≡ player))
+seated_found : (e d : ℕ) (player p : Dbref) (cs : List Connection) → player_found e (changed_in d (player_seated player) cs) ≡ Some p → (player_found e cs ≡ Some p) ⊎ ((e ≡ d) × (p ≡ player))
 seated_found e d player p [] h = inl h
 seated_found e d player p (c ∷ cs) h = at (c.number == d) refl (seated_found e d player p cs) h
   where
-    here : (q : Bool) → (c.number == e) ≡ q → (c.number == d) ≡ true → option_and_then (λ (c : Connection). c.player) (cond q (Some (seated player c)) (find (has_number e) cs)) ≡ Some p →
-        (option_and_then (λ (c : Connection). c.player) (cond q (Some c) (find (has_number e) cs)) ≡ Some p) ⊎ ((e ≡ d) × (p ≡ player))
+    here : (q : Bool) → (c.number == e) ≡ q → (c.number == d) ≡ true → option_and_then (λ (c : Connection). c.player) (cond q (Some (player_seated player c)) (find (is_connection e) cs)) ≡ Some p →
+        (option_and_then (λ (c : Connection). c.player) (cond q (Some c) (find (is_connection e) cs)) ≡ Some p) ⊎ ((e ≡ d) × (p ≡ player))
     here true s r k = let one : p ≡ player = cc in inr (same_numbers c.number e d s r, one)
     here false s r k = inl k
 
-    there : (q : Bool) → (player_found e (changed_in d (seated player) cs) ≡ Some p → (player_found e cs ≡ Some p) ⊎ ((e ≡ d) × (p ≡ player))) →
-        option_and_then (λ (c : Connection). c.player) (cond q (Some c) (find (has_number e) (changed_in d (seated player) cs))) ≡ Some p →
-        (option_and_then (λ (c : Connection). c.player) (cond q (Some c) (find (has_number e) cs)) ≡ Some p) ⊎ ((e ≡ d) × (p ≡ player))
+    there : (q : Bool) → (player_found e (changed_in d (player_seated player) cs) ≡ Some p → (player_found e cs ≡ Some p) ⊎ ((e ≡ d) × (p ≡ player))) →
+        option_and_then (λ (c : Connection). c.player) (cond q (Some c) (find (is_connection e) (changed_in d (player_seated player) cs))) ≡ Some p →
+        (option_and_then (λ (c : Connection). c.player) (cond q (Some c) (find (is_connection e) cs)) ≡ Some p) ⊎ ((e ≡ d) × (p ≡ player))
     there true next k = inl k
     there false next k = next k
 
-    at : (b : Bool) → (c.number == d) ≡ b → (player_found e (changed_in d (seated player) cs) ≡ Some p → (player_found e cs ≡ Some p) ⊎ ((e ≡ d) × (p ≡ player))) →
-        player_found e (cond b (seated player c ∷ cs) (c ∷ changed_in d (seated player) cs)) ≡ Some p → (player_found e (c ∷ cs) ≡ Some p) ⊎ ((e ≡ d) × (p ≡ player))
+    at : (b : Bool) → (c.number == d) ≡ b → (player_found e (changed_in d (player_seated player) cs) ≡ Some p → (player_found e cs ≡ Some p) ⊎ ((e ≡ d) × (p ≡ player))) →
+        player_found e (cond b (player_seated player c ∷ cs) (c ∷ changed_in d (player_seated player) cs)) ≡ Some p → (player_found e (c ∷ cs) ≡ Some p) ⊎ ((e ≡ d) × (p ≡ player))
     at true r next k = here (c.number == e) refl r k
     at false r next k = there (c.number == e) next k
 
-placed_found : (e d : ℕ) (greeting : List ℕ) (p : Dbref) (cs : List Connection) → player_found e (placed (newcomer d greeting) cs) ≡ Some p → player_found e cs ≡ Some p
+placed_found : (e d : ℕ) (greeting : List ℕ) (p : Dbref) (cs : List Connection) → player_found e (connection_placed (newcomer d greeting) cs) ≡ Some p → player_found e cs ≡ Some p
 placed_found e d greeting p [] h = at (d == e) h
   where
     at : (q : Bool) → option_and_then (λ (c : Connection). c.player) (cond q (Some (newcomer d greeting)) None) ≡ Some p → ◌≡◌ {A = Option Dbref} None (Some p)
@@ -108,18 +106,18 @@ placed_found e d greeting p [] h = at (d == e) h
     at false k = k
 placed_found e d greeting p (c ∷ cs) h = at (ltb d c.number) (placed_found e d greeting p cs) h
   where
-    new : (q : Bool) → option_and_then (λ (c : Connection). c.player) (cond q (Some (newcomer d greeting)) (find (has_number e) (c ∷ cs))) ≡ Some p → player_found e (c ∷ cs) ≡ Some p
+    new : (q : Bool) → option_and_then (λ (c : Connection). c.player) (cond q (Some (newcomer d greeting)) (find (is_connection e) (c ∷ cs))) ≡ Some p → player_found e (c ∷ cs) ≡ Some p
     new true k = absurd (none-some p k)
     new false k = k
 
-    there : (q : Bool) → (player_found e (placed (newcomer d greeting) cs) ≡ Some p → player_found e cs ≡ Some p) →
-        option_and_then (λ (c : Connection). c.player) (cond q (Some c) (find (has_number e) (placed (newcomer d greeting) cs))) ≡ Some p →
-        option_and_then (λ (c : Connection). c.player) (cond q (Some c) (find (has_number e) cs)) ≡ Some p
+    there : (q : Bool) → (player_found e (connection_placed (newcomer d greeting) cs) ≡ Some p → player_found e cs ≡ Some p) →
+        option_and_then (λ (c : Connection). c.player) (cond q (Some c) (find (is_connection e) (connection_placed (newcomer d greeting) cs))) ≡ Some p →
+        option_and_then (λ (c : Connection). c.player) (cond q (Some c) (find (is_connection e) cs)) ≡ Some p
     there true next k = k
     there false next k = next k
 
-    at : (b : Bool) → (player_found e (placed (newcomer d greeting) cs) ≡ Some p → player_found e cs ≡ Some p) →
-        player_found e (cond b (newcomer d greeting ∷ c ∷ cs) (c ∷ placed (newcomer d greeting) cs)) ≡ Some p → player_found e (c ∷ cs) ≡ Some p
+    at : (b : Bool) → (player_found e (connection_placed (newcomer d greeting) cs) ≡ Some p → player_found e cs ≡ Some p) →
+        player_found e (cond b (newcomer d greeting ∷ c ∷ cs) (c ∷ connection_placed (newcomer d greeting) cs)) ≡ Some p → player_found e (c ∷ cs) ≡ Some p
     at true next k = new (d == e) k
     at false next k = there (c.number == e) next k
 
@@ -127,36 +125,30 @@ above_found : (n e : ℕ) (p : Dbref) (cs : List Connection) → IsAbove n cs �
 above_found n e p [] a h = absurd (none-some p h)
 above_found n e p (c ∷ cs) a h = at (c.number == e) refl (above_found n e p cs a.1) h
   where
-    at : (q : Bool) → (c.number == e) ≡ q → (player_found e cs ≡ Some p → n < e) → option_and_then (λ (c : Connection). c.player) (cond q (Some c) (find (has_number e) cs)) ≡ Some p → n < e
+    at : (q : Bool) → (c.number == e) ≡ q → (player_found e cs ≡ Some p → n < e) → option_and_then (λ (c : Connection). c.player) (cond q (Some c) (find (is_connection e) cs)) ≡ Some p → n < e
     at true s next k = above c.number e a.0 s
       where
         above : (m e : ℕ) → n < m → (m == e) ≡ true → n < e
         above m e less s = grind (arith, nat_tests)
     at false s next k = next k
 
-less_apart : (n d e : ℕ) → (n == d) ≡ true → n < e → d ≢ e
-less_apart n d e s h x = grind (arith, nat_tests)
-
-other_apart : (n d e : ℕ) → (n == d) ≡ false → (n == e) ≡ true → d ≢ e
-other_apart n d e s r x = grind (arith, nat_tests)
-
-without_found : (e d : ℕ) (p : Dbref) (cs : List Connection) → IsRising cs → player_found e (without d cs) ≡ Some p → (player_found e cs ≡ Some p) × (d ≢ e)
+without_found : (e d : ℕ) (p : Dbref) (cs : List Connection) → IsRising cs → player_found e (without_connection d cs) ≡ Some p → (player_found e cs ≡ Some p) × (d ≢ e)
 without_found e d p [] r h = absurd (none-some p h)
 without_found e d p (c ∷ cs) r h = at (c.number == d) refl (without_found e d p cs r.1) h
   where
     gone : (c.number == d) ≡ true → player_found e cs ≡ Some p → (player_found e (c ∷ cs) ≡ Some p) × (d ≢ e)
     gone s k =
         let less : c.number < e = above_found c.number e p cs r.0 k in
-        (ap (λ b. option_and_then (λ (c : Connection). c.player) (cond b (Some c) (find (has_number e) cs))) (apart c.number e less) ∙ k, less_apart c.number d e s less)
+        (ap (λ b. option_and_then (λ (c : Connection). c.player) (cond b (Some c) (find (is_connection e) cs))) (apart c.number e less) ∙ k, less_apart c.number d e s less)
 
-    there : (q : Bool) → (c.number == e) ≡ q → (c.number == d) ≡ false → (player_found e (without d cs) ≡ Some p → (player_found e cs ≡ Some p) × (d ≢ e)) →
-        option_and_then (λ (c : Connection). c.player) (cond q (Some c) (find (has_number e) (without d cs))) ≡ Some p →
-        (option_and_then (λ (c : Connection). c.player) (cond q (Some c) (find (has_number e) cs)) ≡ Some p) × (d ≢ e)
+    there : (q : Bool) → (c.number == e) ≡ q → (c.number == d) ≡ false → (player_found e (without_connection d cs) ≡ Some p → (player_found e cs ≡ Some p) × (d ≢ e)) →
+        option_and_then (λ (c : Connection). c.player) (cond q (Some c) (find (is_connection e) (without_connection d cs))) ≡ Some p →
+        (option_and_then (λ (c : Connection). c.player) (cond q (Some c) (find (is_connection e) cs)) ≡ Some p) × (d ≢ e)
     there true s r next k = (k, other_apart c.number d e r s)
     there false s r next k = next k
 
-    at : (b : Bool) → (c.number == d) ≡ b → (player_found e (without d cs) ≡ Some p → (player_found e cs ≡ Some p) × (d ≢ e)) →
-        player_found e (cond b cs (c ∷ without d cs)) ≡ Some p → (player_found e (c ∷ cs) ≡ Some p) × (d ≢ e)
+    at : (b : Bool) → (c.number == d) ≡ b → (player_found e (without_connection d cs) ≡ Some p → (player_found e cs ≡ Some p) × (d ≢ e)) →
+        player_found e (cond b cs (c ∷ without_connection d cs)) ≡ Some p → (player_found e (c ∷ cs) ≡ Some p) × (d ≢ e)
     at true s next k = gone s k
     at false s next k = there (c.number == e) refl s next k
 
@@ -170,7 +162,7 @@ gives_quiet : (d : ℕ) (given : Option (List ℕ × List ℕ)) (f : Change) →
 gives_quiet d given f q w e p h = inl (sym (kept_quiet e f q w) ∙ h)
 
 gives_quit : (d : ℕ) (given : Option (List ℕ × List ℕ)) (w : Live) → Gives d given w (quit d w)
-unfolding quit followed leave leaving_one
+unfolding quit change_followed leave leaving_one
 gives_quit d given w e p h =
     inl (sym (kept_quiet e (tell d goodbye) (quiet_tell d goodbye) w) ∙ (sym (kept_changed e d left (λ c. refl) (λ c. refl) (tell d goodbye w).board.connections) ∙ h))
 
@@ -178,7 +170,7 @@ kept_greeted : (e d : ℕ) (player : Dbref) (a : Actor) (w : Live) → player_in
 kept_greeted e d player a w = player-same_ties a e w.board.connections (greeted d player a w).board.connections (greeted_open d player a w).connections
 
 gives_entered : (d : ℕ) (name word : List ℕ) (player : Dbref) (w : Live) → proved name word w.objects ≡ Some player → Gives d (Some (name, word)) w (let_in d (Some player) w)
-unfolding followed reading enter seated_one
+unfolding change_followed reading enter seated_one
 gives_entered d name word player w is e p h =
     elim (seated_found e d player p w.board.connections (sym (kept_greeted e d player (actor_of w.objects player) (enter d player w)) ∙ h)) [
       | inl k ↦ inl k
@@ -250,8 +242,8 @@ gains_lines : (d : ℕ) (player : Option Dbref) (editor : Option EditState) (lin
 gains_lines d player editor [] w first l = λ e p h. inl h
 gains_lines d player editor (line ∷ lines) w first l = gains_line d (reader d w.queue) player editor line lines w first l
 
-gains_done : (d : ℕ) (o : Option Connection) (w : World) → connection d w ≡ o → TurnLicensed d o w (done d o w) → Gains d w (done d o w)
-unfolding done
+gains_done : (d : ℕ) (o : Option Connection) (w : World) → connection d w ≡ o → TurnLicensed d o w (first_line_done d o w) → Gains d w (first_line_done d o w)
+unfolding first_line_done
 gains_done d None w is l = λ e p h. inl h
 gains_done d (Some c) w is l = gains_lines d c.player c.editor c.waiting w (ap (λ o. option_map (λ (c : Connection). c.waiting) o) is) l
 
@@ -265,15 +257,15 @@ chain_kept pid e w (t ∷ ts) us cs =
     ∙ (player-same_ties (answering t) e t.before.live.board.connections (after_unit t).live.board.connections u.0.connections ∙ ap (λ (v : World). player_in e v.live.board) cs.0.world)
 
 slice_kept : (pid : ℤ) (e : ℕ) (ts : List Taken) (w v : World) → SliceLicensed pid ts w v → player_in e v.live.board ≡ player_in e w.live.board
-slice_kept pid e ts w v s = ap (λ (l : Live). player_in e l.board) s.leads ∙ chain_kept pid e (awake pid w) ts s.units s.chained
+slice_kept pid e ts w v s = ap (λ (l : Live). player_in e l.board) s.leads ∙ chain_kept pid e (process_awake pid w) ts s.units s.chained
 
 -- Closing.
 
 closed_found : (e d : ℕ) (p : Dbref) (w : Live) → IsRising w.board.connections → player_in e (gone_away d w).board ≡ Some p → (player_in e w.board ≡ Some p) × (d ≢ e)
-unfolding gone_away reading followed closed
+unfolding gone_away reading change_followed connection_closed
 closed_found e d p w r h =
-    let away = parted (player_in d w.board) in
-    without_found e d p w.board.connections r (sym (kept_quiet e away (quiet_parted (player_in d w.board)) (on_board (closed d) w)) ∙ h)
+    let away = player_parted (player_in d w.board) in
+    without_found e d p w.board.connections r (sym (kept_quiet e away (quiet_parted (player_in d w.board)) (on_board (connection_closed d) w)) ∙ h)
 
 -- Events.
 
@@ -287,14 +279,14 @@ gained_exec d w v g e p h = elim (g e p h) [
 ]
 
 gained : (event : Event) (party : ℕ) (w : World) → IsRising w.live.board.connections → EventLicensed event w (happened w party event) → HasGained event w (happened w party event)
-unfolding opened line_added bytes_taken
+unfolding connection_opened line_added bytes_taken
 gained (Exec d) party w r l = gained_exec d w (happened w party (Exec d)) (gains_done d (connection d w) w refl l)
 gained (Slice pid) party w r l = λ e p h. inl (sym (slice_kept pid e (units_of pid w) w (happened w party (Slice pid)) l) ∙ h, λ x. cc)
 gained (Closed d) party w r l = λ e p h. let k = closed_found e d p w.live r h in inl (k.0, λ x. k.1 cc)
 gained (Opened d) party w r l = λ e p h. inl (placed_found e d welcome p w.live.board.connections h, λ x. cc)
 gained (Input d line) party w r l = λ e p h. inl (sym (kept_loose e (on_board (line_added d line)) (loose_one d _ (λ c. refl)) w.live) ∙ h, λ x. cc)
 gained (Take d n) party w r l = λ e p h. inl (sym (kept_quiet e (on_board (bytes_taken d n)) (quiet_one d _ (λ c. refl)) w.live) ∙ h, λ x. cc)
-gained (Stored k) party w r l = λ e p h. inl (sym (kept_quiet e (told_each (askers_of w.dumps) (dump_stored k)) (quiet_told_each (askers_of w.dumps) (dump_stored k)) (resaved saving.done w.live)) ∙ h, λ x. cc)
+gained (Stored k) party w r l = λ e p h. inl (sym (kept_quiet e (told_each (askers_of w.dumps) (dump_stored k)) (quiet_told_each (askers_of w.dumps) (dump_stored k)) (resaved saving.saving_done w.live)) ∙ h, λ x. cc)
 gained (DumpFailed k) party w r l = λ e p h. inl (sym (kept_quiet e (told_each (askers_of w.dumps) dump_failed) (quiet_told_each (askers_of w.dumps) dump_failed) (resaved saving.due_again w.live)) ∙ h, λ x. cc)
 gained event party w r l = λ e p h. inl (h, λ x. cc)
 
@@ -310,45 +302,45 @@ unfolding is_lawful
 rising_effect w entry l r = subst (λ (b : Board). IsRising b.connections) (sym (effect-board w entry)) (rising_event entry.event entry.party w w.dead l r)
 
 known : (w : World) (entries : List Entry) → IsRising w.live.board.connections → AllLawful w entries → AllLicensed w entries → (d : ℕ) (p : Dbref) → player_in d (after w entries).live.board ≡ Some p →
-    ((player_in d w.live.board ≡ Some p) × Stays d entries) ⊎ IsKnown w entries d p
+    ((player_in d w.live.board ≡ Some p) × StaysOpen d entries) ⊎ IsKnown w entries d p
 known w [] r l m d p h = inl (h, tt)
 known w (entry ∷ entries) r l m d p h =
     elim (known (effect w entry) entries (rising_effect w entry l.0 r) l.1 m.1 d p h) [
-      | inl k ↦ elim (gained entry.event entry.party w r (subst (EventLicensed entry.event w) (effect-is w entry) m.0) d p (ap (player_in d) (sym (effect-board w entry)) ∙ k.0)) [
+      | inl k ↦ elim (gained entry.event entry.party w r m.0.0 d p (ap (player_in d) (sym (effect-board w entry)) ∙ k.0)) [
         | inl g ↦ inl (g.0, (g.1, k.1))
         | inr g ↦ inr (inl (g.0, g.1, k.1))
       ]
       | inr k ↦ inr (inr k)
     ]
 
-rising_starting : IsRising starting.live.board.connections
-unfolding starting booted early_board
+rising_starting : IsRising starting_world.live.board.connections
+unfolding starting_world world_booted early_board
 rising_starting = tt
 
-nobody_starts : (d : ℕ) (p : Dbref) → player_in d starting.live.board ≡ Some p → ⊥
-unfolding starting booted early_board
+nobody_starts : (d : ℕ) (p : Dbref) → player_in d starting_world.live.board ≡ Some p → ⊥
+unfolding starting_world world_booted early_board
 nobody_starts d p h = none-some p h
 
 -- in each history from the starting world
-pub all_known_starting : (es : List Entry) → AllLawful starting es → AllKnown starting es
+pub all_known_starting : (es : List Entry) → AllLawful starting_world es → AllKnown starting_world es
 all_known_starting es l d p h =
-    elim (known starting es rising_starting l (all_licensed_starting es) d p h) [
+    elim (known starting_world es rising_starting l (all_licensed_starting es) d p h) [
       | inl k ↦ absurd (nobody_starts d p k.0)
       | inr k ↦ k
     ]
 
-rising_booted : (objects : List Kept) (tune : Tune) (moment start : ℕ) → IsRising (booted objects tune moment start).live.board.connections
-unfolding booted early_board
+rising_booted : (objects : List Kept) (tune : Tune) (moment start : ℕ) → IsRising (world_booted objects tune moment start).live.board.connections
+unfolding world_booted early_board
 rising_booted objects tune moment start = tt
 
-nobody_boots : (objects : List Kept) (tune : Tune) (moment start : ℕ) (d : ℕ) (p : Dbref) → player_in d (booted objects tune moment start).live.board ≡ Some p → ⊥
-unfolding booted early_board
+nobody_boots : (objects : List Kept) (tune : Tune) (moment start : ℕ) (d : ℕ) (p : Dbref) → player_in d (world_booted objects tune moment start).live.board ≡ Some p → ⊥
+unfolding world_booted early_board
 nobody_boots objects tune moment start d p h = none-some p h
 
 -- and from any world that was booted with objects of which nothing is to be told
-pub all_known_booted : (objects : List Kept) (tune : Tune) (moment start : ℕ) → ((n : ℕ) → mark_in objects n ≡ None) → (es : List Entry) → AllLawful (booted objects tune moment start) es → AllKnown (booted objects tune moment start) es
+pub all_known_booted : (objects : List Kept) (tune : Tune) (moment start : ℕ) → ((n : ℕ) → mark_in objects n ≡ None) → (es : List Entry) → AllLawful (world_booted objects tune moment start) es → AllKnown (world_booted objects tune moment start) es
 all_known_booted objects tune moment start none es l d p h =
-    elim (known (booted objects tune moment start) es (rising_booted objects tune moment start) l (all_licensed_booted objects tune moment start none es) d p h) [
+    elim (known (world_booted objects tune moment start) es (rising_booted objects tune moment start) l (all_licensed_booted objects tune moment start none es) d p h) [
       | inl k ↦ absurd (nobody_boots objects tune moment start d p k.0)
       | inr k ↦ k
     ]

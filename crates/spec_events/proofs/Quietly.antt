@@ -14,26 +14,26 @@ use Rattle.spec_rights.specs.declared.act.Actor.{Actor}
 use Rattle.spec_rights.specs.declared.act.Act.TheVariants.{Start}
 use Rattle.spec_rights.specs.Verdict.{verdict}
 use Rattle.spec_rights.specs.Asking.{refused}
-use Rattle.spec_live.proofs.Steps.{Name, Begun, May}
+use Rattle.spec_live.proofs.Steps.{Name, Begun, Stilled, May}
 use Rattle.spec_live.proofs.Lives.{Shows, Readies, Loose, loose_quiet, Goes, wider}
 use Rattle.spec_rights.proofs.Walking.{acts}
 use Rattle.spec_rights.proofs.Licences.{Quiet, quiet_order, tie, ties}
 use Rattle.spec_rights.proofs.Shown.{quiet_tell, quiet_refused}
 use Rattle.muf_model.specs.declared.fault.MufFault.{MufFault}
 use Rattle.muf_model.specs.declared.fault.MufFault.TheVariants.{ProcessLimit}
-use Rattle.muf_model.specs.Faults.{text_of}
+use Rattle.muf_model.specs.Faults.{fault_text}
 use Rattle.muf_model.specs.Tree.{Definition, Tree}
 use Rattle.muf_model.specs.Source.{last_word}
 use Rattle.muck_library.specs.declared.flaw.Flaw.{Flaw}
 use Rattle.muck_library.specs.Programs.{built_tree}
 use Rattle.muck_library.specs.Library.{Library, formed}
 use Rattle.muck_queue.specs.declared.process.Process.{Process}
-use Rattle.muck_queue.specs.Queues.{Queue, added, is_full}
+use Rattle.muck_queue.specs.Queues.{Queue, process_added, is_queue_full}
 use Rattle.spec_events.specs.declared.starting.Call.{Call as Started}
 use Rattle.spec_events.specs.declared.starting.Manner.{Manner}
 use Rattle.spec_events.specs.World.{World, on_live, on_queue, with_library}
-use Rattle.spec_events.specs.Following.{followed, swept}
-use Rattle.spec_events.specs.Starting.{beginning, by_command, new_process, joined, word_started, form_started, built_started, begun, start_told, start_judged, launched}
+use Rattle.spec_events.specs.Following.{mark_followed, swept}
+use Rattle.spec_events.specs.Starting.{program_beginning, by_command, new_process, process_joined, word_started, form_started, built_started, program_begun, start_told, start_judged, launched}
 use Rattle.spec_events.specs.Lines.{compiled_so, compiled}
 use Rattle.spec_events.specs.Dumping.{told_each}
 
@@ -62,6 +62,7 @@ quietly_both u v w p q = record { objects = q.objects ∙ p.objects; ties = q.ti
 -- What events may touch by which no dump begins.
 abbrev pub lively : May
 lively Begun = false
+lively Stilled = false
 lively _ = true
 
 pub lively_acts : (w v : Live) → Goes acts w v → Goes lively w v
@@ -69,6 +70,7 @@ lively_acts w v p = wider acts lively up w v p
   where
     up : (name : Name) → acts name ≡ true → lively name ≡ true
     up Begun h = h
+    up Stilled h = h
     up _ h = refl
 
 pub quietly_readies : (w v : World) → Quietly w v → Readies w.live v.live
@@ -92,11 +94,11 @@ closed_tune : (d : Dbref) (b : Board) → (editors_closed d b).tune ≡ b.tune
 unfolding editors_closed
 closed_tune d b = refl
 
-quietly_followed : (m : Mark) (d : Dbref) (w : World) → Quietly w (followed m d w)
+quietly_followed : (m : Mark) (d : Dbref) (w : World) → Quietly w (mark_followed m d w)
 quietly_followed Lines d w = record { objects = refl; ties = refl; tune = refl; dead = refl; still = refl }
 quietly_followed Gone d w = record { objects = refl; ties = editors_closed_kept tie (λ c. refl) d w.live.board; tune = closed_tune d w.live.board; dead = refl; still = refl }
 
-quietly_marked : (o : Option Mark) (d : Dbref) (w : World) → Quietly w (option_map_or (λ m. followed m d w) o w)
+quietly_marked : (o : Option Mark) (d : Dbref) (w : World) → Quietly w (option_map_or (λ m. mark_followed m d w) o w)
 quietly_marked None d w = quietly_same w
 quietly_marked (Some m) d w = quietly_followed m d w
 
@@ -110,16 +112,16 @@ quietly_swept n (e ∷ es) w = quietly_both w _ _ (quietly_marked e.mark (dbref_
 abbrev pub BegunQuietly : World → World × Result ℤ MufFault → Type 0
 BegunQuietly w r = Quietly w r.0
 
-pub quietly_joined : (p : Process) (w : World) → BegunQuietly w (joined p w)
-quietly_joined p w = either (is_full p.player w.live.board.tune w.queue)
+pub quietly_joined : (p : Process) (w : World) → BegunQuietly w (process_joined p w)
+quietly_joined p w = either (is_queue_full p.player w.live.board.tune w.queue)
   where
-    either : (b : Bool) → BegunQuietly w (cond b (w, Err ProcessLimit) (on_queue (added p) w, Ok (w.queue.last +ℤ pos 1)))
+    either : (b : Bool) → BegunQuietly w (cond b (w, Err ProcessLimit) (on_queue (process_added p) w, Ok (w.queue.last +ℤ pos 1)))
     either true = quietly_same w
-    either false = quietly_queue (added p) w
+    either false = quietly_queue (process_added p) w
 
 quietly_word : (m : Manner) (c : Started) (tree : Tree) (word : Option Definition) (w : World) → BegunQuietly w (word_started m c tree word w)
 quietly_word m c tree None w = quietly_same w
-quietly_word m c tree (Some word) w = quietly_joined (new_process m c (beginning c tree word w)) w
+quietly_word m c tree (Some word) w = quietly_joined (new_process m c (program_beginning c tree word w)) w
 
 quietly_form : (m : Manner) (c : Started) (form : Option Tree) (w : World) → BegunQuietly w (form_started m c form w)
 quietly_form m c None w = quietly_same w
@@ -128,13 +130,13 @@ quietly_form m c (Some tree) w = quietly_word m c tree (last_word tree.words) w
 quietly_built : (m : Manner) (c : Started) (made : Option Tree × Library) (w : World) → BegunQuietly w (built_started m c made w)
 quietly_built m c (form, library) w = quietly_both w (with_library library w) _ (quietly_library library w) (quietly_form m c form (with_library library w))
 
-pub quietly_begun : (m : Manner) (c : Started) (w : World) → BegunQuietly w (begun m c w)
-unfolding begun
+pub quietly_begun : (m : Manner) (c : Started) (w : World) → BegunQuietly w (program_begun m c w)
+unfolding program_begun
 quietly_begun m c w = quietly_built m c (formed w.live.objects c.program w.library) w
 
 quietly_told : (d : ℕ) (w : World) (r : World × Result ℤ MufFault) → BegunQuietly w r → Quietly w (start_told d r)
 quietly_told d w (v, Ok pid) q = q
-quietly_told d w (v, Err fault) q = quietly_both w v _ q (quietly_live (tell d (text_of fault)) (quiet_tell d (text_of fault)) v)
+quietly_told d w (v, Err fault) q = quietly_both w v _ q (quietly_live (tell d (fault_text fault)) (quiet_tell d (fault_text fault)) v)
 
 quietly_judged : (d : ℕ) (c : Started) (o : Option Denial) (w : World) → Quietly w (start_judged d c o w)
 quietly_judged d c (Some denial) w = quietly_live (refused d denial) (quiet_refused d denial) w

@@ -10,22 +10,22 @@ use Rattle.spec_rights.specs.Licence.{nobody}
 use Rattle.muf_model.specs.declared.fault.MufFault.{MufFault}
 use Rattle.muf_model.specs.declared.prims.Primitive.{Primitive as Name}
 use Rattle.muf_model.specs.Source.{Source, locked_of}
-use Rattle.muf_model.specs.Unit.{Outcome, goes, faulted, asks, unit, fault}
+use Rattle.muf_model.specs.Unit.{Outcome, goes, faulted, asks, unit, fault_met}
 use Rattle.muf_model.specs.Chains.{programs_of, Keeps as Keep}
 use Rattle.muf_model.proofs.Chains.{unit_keeps}
 use Rattle.std.specs.Ordering.{int_eq}
-use Rattle.spec_prims.specs.Row.{Row, gives, refuses, breaks}
+use Rattle.spec_prims.specs.Row.{WorldAnswer, gives, refuses, breaks}
 use Rattle.spec_prims.specs.Shared.{shared}
 use Rattle.spec_prims.specs.Formulas.{answers_for}
 use Rattle.spec_prims.proofs.Opens.{RowOpen, shared_open}
 use Rattle.muck_queue.specs.declared.process.Process.{Process}
-use Rattle.muck_queue.specs.Queues.{Queue, at_state, counted, has_pid, is_in, on_process, without}
+use Rattle.muck_queue.specs.Queues.{Queue, at_state, units_counted, has_pid, is_in, on_process, without_process}
 use Rattle.spec_processes.specs.ProcessRows.{is_process}
 use Rattle.spec_processes.proofs.Leaves.{EndedBy}
 use Rattle.spec_events.specs.declared.starting.Agent.{Agent}
 use Rattle.spec_events.specs.World.{World}
 use Rattle.spec_events.specs.Following.{settled}
-use Rattle.spec_events.specs.Slices.{acting, Deed, does, rests, fails, lifted, row_done, process_done, deed, stands_at, out, one_counted, went, after_deed, unit_done, limit_fault, within_limit, turn, world_of}
+use Rattle.spec_events.specs.Slices.{acting, SharedEffect, does, rests, fails, lifted, row_done, process_done, deed, process_stands_at, out, one_counted, unit_went, after_deed, unit_done, limit_fault, within_limit, unit_taken, world_of}
 use Rattle.spec_events.specs.Endings.{ProcessesLicensed, EndsIn, by_itself, by_actor, by_change}
 use Rattle.spec_events.proofs.Endings.{IsTold, IsSteady, Lasting, lasting_same, lasting_both, lasting_changed, lasting_without, process_number, processes_remain}
 use Rattle.spec_events.proofs.Lapses.{IsLapsing, told_lapse, marks_lapse, Cut, end_as, lasting_lapse}
@@ -38,26 +38,26 @@ module _ (pid : ℤ) (may : Process → Type 0) (steady : IsSteady may) (own : (
   lasting_own : (f : Process → Process) (q : Queue) → ((p : Process) → (f p).number ≡ p.number) → Lasting may q (on_process pid f q)
   lasting_own f q same = lasting_changed may pid f q same (λ p e m. own p (process_number pid q p e))
 
-  lasting_gone : (q : Queue) → Lasting may q (without pid q)
+  lasting_gone : (q : Queue) → Lasting may q (without_process pid q)
   lasting_gone q = lasting_without may pid q (λ p e. own p (process_number pid q p e))
 
-  lasting_went : (player : Dbref) (program : ℤ) (o : Outcome) (w : World) → Lasting may w.queue (world_of (went pid player program o w)).queue
+  lasting_went : (player : Dbref) (program : ℤ) (o : Outcome) (w : World) → Lasting may w.queue (world_of (unit_went pid player program o w)).queue
   lasting_went player program (goes k t) w = lasting_own (at_state (Some t)) w.queue (λ p. refl)
   lasting_went player program (faulted f) w = lasting_gone w.queue
   lasting_went player program _ w = lasting_gone w.queue
 
   -- A shared primitive ends such as might end, and whatever it marks has lapsed.
-  abbrev DeedLasts : World → Deed World → Type 0
+  abbrev DeedLasts : World → SharedEffect World → Type 0
   DeedLasts w (does t v) = Lasting may w.queue v.queue × IsLapsing w.live v.live
   DeedLasts w (rests t v) = Lasting may w.queue v.queue × IsLapsing w.live v.live
   DeedLasts w (fails f v) = Lasting may w.queue v.queue
 
-  lasting_row : (a : Actor) (s : Source) (w : World) (row : Row) → IsTold w.live → RowOpen a w.live row → DeedLasts w (lifted s w row)
+  lasting_row : (a : Actor) (s : Source) (w : World) (row : WorldAnswer) → IsTold w.live → RowOpen a w.live row → DeedLasts w (lifted s w row)
   lasting_row a s w (gives stack live) told h = (lasting_same may w.queue, marks_lapse a nobody w.live live (λ x. refl) told h.marks)
   lasting_row a s w (refuses f) told h = lasting_same may w.queue
   lasting_row a s w (breaks f live) told h = lasting_same may w.queue
 
-  lasting_left : (w : World) (d : Deed World) → IsTold w.live → Leads (Left may w) d → DeedLasts w d
+  lasting_left : (w : World) (d : SharedEffect World) → IsTold w.live → Leads (Left may w) d → DeedLasts w d
   lasting_left w (does t v) told h = (h.lasting, told_lapse w.live v.live h.quietly.objects told)
   lasting_left w (rests t v) told h = (h.lasting, told_lapse w.live v.live h.quietly.objects told)
   lasting_left w (fails f v) told h = h.lasting
@@ -76,18 +76,18 @@ module _ (pid : ℤ) (may : Process → Type 0) (steady : IsSteady may) (own : (
   abbrev Cuts : World → World → Type 0
   Cuts w v = (p : Process) → Cut w.live v.live p → may p
 
-  lasting_behind : (w : World) (t : Source) (v : World) → Cuts w (settled (stands_at pid t v)) → Lasting may w.queue v.queue → IsLapsing w.live v.live → Lasting may w.queue (settled (stands_at pid t v)).queue
+  lasting_behind : (w : World) (t : Source) (v : World) → Cuts w (settled (process_stands_at pid t v)) → Lasting may w.queue v.queue → IsLapsing w.live v.live → Lasting may w.queue (settled (process_stands_at pid t v)).queue
   lasting_behind w t v cut h lapsing =
-      let u : World = stands_at pid t v in
+      let u : World = process_stands_at pid t v in
       lasting_both may w.queue u.queue (settled u).queue
       (lasting_both may w.queue v.queue u.queue h (lasting_own (at_state (Some t)) v.queue (λ p. refl)))
       (lasting_lapse may steady w.live (settled u).live u cut refl lapsing)
 
-  lasting_after : (player : Dbref) (s : Source) (w : World) (d : Deed World) → Cuts w (world_of (after_deed pid player s d)) → DeedLasts w d → Lasting may w.queue (world_of (after_deed pid player s d)).queue
+  lasting_after : (player : Dbref) (s : Source) (w : World) (d : SharedEffect World) → Cuts w (world_of (after_deed pid player s d)) → DeedLasts w d → Lasting may w.queue (world_of (after_deed pid player s d)).queue
   lasting_after player s w (does t v) cut h = lasting_behind w t v cut h.0 h.1
   lasting_after player s w (rests t v) cut h = lasting_behind w t v cut h.0 h.1
   lasting_after player s w (fails f v) cut h =
-      lasting_both may w.queue v.queue (world_of (went pid player s.program.number (fault f s) v)).queue h (lasting_went player s.program.number (fault f s) v)
+      lasting_both may w.queue v.queue (world_of (unit_went pid player s.program.number (fault_met f s) v)).queue h (lasting_went player s.program.number (fault_met f s) v)
 
   abbrev Opens : Actor → World → Type 0
   Opens a w = (q : Process) → EndedBy a w.live.objects q → may q
@@ -109,7 +109,7 @@ module _ (pid : ℤ) (may : Process → Type 0) (steady : IsSteady may) (own : (
   lasting_within x s w None told ends cut =
       let u : World = one_counted pid w in
       lasting_both may w.queue u.queue (world_of (unit_done pid x s.program.number (unit s) u)).queue
-      (lasting_own (counted 1) w.queue (λ p. refl))
+      (lasting_own (units_counted 1) w.queue (λ p. refl))
       (lasting_unit x s u (unit s) refl told ends cut)
 
 -- What ends in a unit may end alike in another way of going on.
@@ -121,8 +121,8 @@ steady_ends pid a w v p q s (by_change d r l) = by_change d (ap (λ (t : Option 
 
 -- A unit ends its own process, such as its actor may end, and such as run what it changed, at most.
 pub leaves_turn : (tune : Tune) (pid : ℤ) (x : Agent) (s : Source) (w : World) → IsTold w.live →
-    ProcessesLicensed (EndsIn pid (acting x s w.live.objects) w.live (world_of (turn tune pid x s w)).live) w (world_of (turn tune pid x s w))
-unfolding turn
+    ProcessesLicensed (EndsIn pid (acting x s w.live.objects) w.live (world_of (unit_taken tune pid x s w)).live) w (world_of (unit_taken tune pid x s w))
+unfolding unit_taken
 leaves_turn tune pid x s w told =
     let a : Actor = acting x s w.live.objects in
     let o : Option MufFault = limit_fault tune a.level x in

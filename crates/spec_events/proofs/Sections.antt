@@ -2,6 +2,7 @@
 use Rattle.std.proofs.Common.{◌≡◌, ◌⊎◌, inl, inr, ℕ, zero, suc, ◌+◌, ◌<◌, ◌≤◌, ℤ, Bool, true, false, not, ◌&&◌, cond, nat_le, nat_lt, List, [], ◌∷◌, length, refl, sym, ◌∙◌, ap, subst, arith, Option, Some, None, Result, Ok, Err}
 use Rattle.std.specs.Option.{option_map, option_map_or, option_and_then}
 use Rattle.std.proofs.lemmas.Bool.{cond_both, cond-true, leb-false, le-leb}
+use Rattle.muck_laws.proofs.Truths.{not_through}
 use Rattle.muck_model.specs.declared.dbref.Dbref.{Dbref}
 use Rattle.muck_model.specs.declared.tune.Tune.{Tune}
 use Rattle.spec_rights.specs.declared.act.Actor.{Actor}
@@ -11,25 +12,25 @@ use Rattle.muf_model.specs.declared.prims.Primitive.{Primitive as Name}
 use Rattle.std.specs.Prelude.{pos}
 use Rattle.muf_model.specs.Datum.{Datum, int}
 use Rattle.muf_model.specs.Tree.{Definition, Tree}
-use Rattle.muf_model.specs.Source.{Program, Source, locked_of, calls_of, handed, entered}
-use Rattle.muf_model.specs.Unit.{calls_most, Outcome, goes, ended, faulted, asks, stuck, unit, fault}
+use Rattle.muf_model.specs.Source.{Program, Source, locked_of, calls_running, handed, program_entered}
+use Rattle.muf_model.specs.Unit.{calls_most, Outcome, goes, ended, faulted, asks, stuck, unit, fault_met}
 use Rattle.muck_library.specs.Library.{formed}
-use Rattle.spec_prims.specs.Asking.{numbered}
-use Rattle.spec_prims.specs.Row.{Row, gives, refuses, breaks}
+use Rattle.spec_prims.specs.Asking.{object_numbered}
+use Rattle.spec_prims.specs.Row.{WorldAnswer, gives, refuses, breaks}
 use Rattle.spec_prims.specs.Shared.{shared}
 use Rattle.muck_queue.specs.declared.mode.Mode.{Mode}
 use Rattle.muck_queue.specs.declared.mode.Mode.TheVariants.{Background}
 use Rattle.spec_live.specs.Objects.{nothing}
 use Rattle.muck_queue.specs.declared.process.Process.{Process}
-use Rattle.muck_queue.specs.Queues.{process, at_state, counted, more, woken, is_preempt}
+use Rattle.muck_queue.specs.Queues.{process, at_state, units_counted, more, woken, is_preempt}
 use Rattle.muck_queue.specs.inner.Numbered.{IsNumbered}
 use Rattle.muck_queue.proofs.Changed.{process_changed}
 use Rattle.muck_queue.proofs.Woken.{woken_number}
-use Rattle.spec_processes.specs.ProcessRows.{Effect, gives as effect_gives, waits, forks, enters, starts, refuses as effect_refuses, is_process, later}
+use Rattle.spec_processes.specs.ProcessRows.{Effect, gives as effect_gives, waits, forks, enters, starts, refuses as effect_refuses, is_process, seconds_later}
 use Rattle.spec_events.specs.declared.starting.Agent.{Agent}
 use Rattle.spec_events.specs.World.{World, with_library}
-use Rattle.spec_events.specs.Starting.{joined, begun}
-use Rattle.spec_events.specs.Slices.{acting, Deed, does, rests, fails, lifted, row_done, behind, called_word, word_entered, form_entered, program_called, child_of, with_number, child_joined, forked, with_process, queued_command, queued, place_in, effected, process_done, deed, stands_at, out, one_counted, Turn, on, rest, over, went, after_deed, unit_done, section_most, limit_fault, turn, Taken, unit_of, agent_of, seat_of, seat, then_more, is_through, next_unit, slice_most, run_of, last_world, world_of, awake, units_of}
+use Rattle.spec_events.specs.Starting.{process_joined, program_begun}
+use Rattle.spec_events.specs.Slices.{acting, SharedEffect, does, rests, fails, lifted, row_done, state_behind, called_word, word_entered, form_entered, program_called, child_of, with_number, child_joined, forked, with_process, queued_command, queued, place_of_use, effected, process_done, deed, process_stands_at, out, one_counted, Went, on, rest, over, unit_went, after_deed, unit_done, section_most, limit_fault, unit_taken, Taken, unit_of, agent_of, seat_of, seat, then_more, is_through, next_unit, slice_most, units_run, last_world, world_of, process_awake, units_of}
 use Rattle.spec_events.specs.Sections.{IsInterruptible, Stops, LastStops, IsOverlong, LastTooLong, IsWhole}
 use Rattle.spec_events.proofs.Modes.{Holds, Fits, Seated, fits_seated, fits_less, numbered_changed, numbered_without, fits_changed, settled_fits, settled_numbered, joined_fits, begun_fits}
 use Rattle.spec_events.proofs.Effects.{GoesOn, MayChange, goes_on, Leaves, processed_leaves}
@@ -49,25 +50,25 @@ module _ (most left : ℕ) (pid : ℤ) where
   can_may w h = fits_less (MayChange most left) (GoesOn most left) pid w.queue (goes_on most left) (fits_seated (MayChange most left) pid w.queue h)
 
   -- what a shared primitive leaves
-  abbrev DeedLeaves : Deed World → Type 0
+  abbrev DeedLeaves : SharedEffect World → Type 0
   DeedLeaves (does t w) = May w
   DeedLeaves (rests t w) = IsNumbered w.queue
   DeedLeaves (fails f w) = May w
 
   -- and a unit
-  abbrev TurnLeaves : Turn → Type 0
+  abbrev TurnLeaves : Went → Type 0
   TurnLeaves (on w) = May w
   TurnLeaves (rest w) = IsNumbered w.queue
   TurnLeaves (over w) = IsNumbered w.queue
 
-  lifted_leaves : (s : Source) (w : World) (r : Row) → May w → DeedLeaves (lifted s w r)
+  lifted_leaves : (s : Source) (w : World) (r : WorldAnswer) → May w → DeedLeaves (lifted s w r)
   lifted_leaves s w (gives stack live) h = h
   lifted_leaves s w (refuses f) h = h
   lifted_leaves s w (breaks f live) h = h
 
   word_leaves : (s : Source) (p : Program) (o : Option Definition) (w : World) → May w → DeedLeaves (word_entered s p o w)
   word_leaves s p None w h = h
-  word_leaves s p (Some d) w h = cond_both (nat_lt (calls_of s.marks) calls_most) (does (entered p d s) w) (fails CallsFull w) DeedLeaves (λ e. h) (λ e. h)
+  word_leaves s p (Some d) w h = cond_both (nat_lt (calls_running s.marks) calls_most) (does (program_entered p d s) w) (fails CallsFull w) DeedLeaves (λ e. h) (λ e. h)
 
   form_leaves : (a : Actor) (s : Source) (d : ℤ) (name : Option (List ℕ)) (o : Option Tree) (w : World) → May w → DeedLeaves (form_entered a s d name o w)
   form_leaves a s d name None w h = h
@@ -75,7 +76,7 @@ module _ (most left : ℕ) (pid : ℤ) where
 
   program_leaves : (a : Actor) (s : Source) (d : ℤ) (name : Option (List ℕ)) (w : World) → May w → DeedLeaves (program_called a s d name w)
   unfolding program_called
-  program_leaves a s d name w h = let r = formed w.live.objects (numbered d) w.library in form_leaves a s d name r.0 (with_library r.1 w) h
+  program_leaves a s d name w h = let r = formed w.live.objects (object_numbered d) w.library in form_leaves a s d name r.0 (with_library r.1 w) h
 
   number_leaves : (stack : List Datum) (s : Source) (w : World) (r : Result ℤ MufFault) → May w → DeedLeaves (with_number stack s (w, r))
   number_leaves stack s w (Ok n) h = h
@@ -88,7 +89,7 @@ module _ (most left : ℕ) (pid : ℤ) where
   child_leaves : (o : Option Process) (stack : List Datum) (s : Source) (w : World) → Can w → DeedLeaves (child_joined o stack s w)
   child_leaves None stack s w h = can_may w h
   child_leaves (Some p) stack s w h =
-      let r = joined (child_of w.moment (handed (int (pos 0)) (behind stack s)) p) w in
+      let r = process_joined (child_of w.moment (handed (int (pos 0)) (state_behind stack s)) p) w in
       number_leaves stack s r.0 r.1
       (fits_less (MayChange most left) (GoesOn most left) pid r.0.queue (goes_on most left) (joined_fits (MayChange most left) pid _ w h))
 
@@ -99,14 +100,14 @@ module _ (most left : ℕ) (pid : ℤ) where
   queued_leaves : (x : Agent) (stack : List Datum) (d : ℤ) (seconds : ℕ) (argument : List ℕ) (s : Source) (w : World) → Can w → DeedLeaves (queued x stack d seconds argument s w)
   unfolding queued
   queued_leaves x stack d seconds argument s w h =
-      let r = begun (record { descr = None; mode = Background; due = later w.moment seconds }) (record { player = x.player; program = numbered d; trigger = nothing; command = queued_command; argument = argument }) w in
+      let r = program_begun (record { descr = None; mode = Background; due = seconds_later w.moment seconds }) (record { player = x.player; program = object_numbered d; trigger = nothing; command = queued_command; argument = argument }) w in
       process_leaves stack s r.0 r.1 (fits_less (MayChange most left) (GoesOn most left) pid r.0.queue (goes_on most left) (begun_fits (MayChange most left) pid _ _ w h))
 
   effect_leaves : (x : Agent) (s : Source) (w : World) (e : Effect) → Can w → Leaves most left pid e → DeedLeaves (effected pid x s w e)
   effect_leaves x s w (effect_gives stack live queue) h k = k
   effect_leaves x s w (waits n stack queue) h k = k
   effect_leaves x s w (forks stack) h k = fork_leaves stack s w h
-  effect_leaves x s w (enters stack d name) h k = program_leaves (acting x s w.live.objects) (behind stack s) d name w (can_may w h)
+  effect_leaves x s w (enters stack d name) h k = program_leaves (acting x s w.live.objects) (state_behind stack s) d name w (can_may w h)
   effect_leaves x s w (starts stack d seconds argument) h k = queued_leaves x stack d seconds argument s w h
   effect_leaves x s w (effect_refuses f) h k = can_may w h
 
@@ -114,21 +115,21 @@ module _ (most left : ℕ) (pid : ℤ) where
   unfolding deed process_done row_done
   deed_leaves x p s w h =
       cond_both (is_process p) _ _ DeedLeaves
-      (λ e. effect_leaves x s w _ h (processed_leaves most left (place_in pid s w) (acting x s w.live.objects) w.live w.queue h p (locked_of s.marks) s.stack))
+      (λ e. effect_leaves x s w _ h (processed_leaves most left (place_of_use pid s w) (acting x s w.live.objects) w.live w.queue h p (locked_of s.marks) s.stack))
       (λ e. lifted_leaves s w (shared p (acting x s w.live.objects) x.descr (locked_of s.marks) s.stack w.live) (can_may w h))
 
-  stands_leaves : (t : Source) (w : World) → May w → May (stands_at pid t w)
+  stands_leaves : (t : Source) (w : World) → May w → May (process_stands_at pid t w)
   stands_leaves t w h = fits_changed (GoesOn most left) pid pid (at_state (Some t)) w.queue (λ p. refl) (λ p k. k) h
 
-  went_leaves : (player : Dbref) (program : ℤ) (o : Outcome) (w : World) → May w → TurnLeaves (went pid player program o w)
+  went_leaves : (player : Dbref) (program : ℤ) (o : Outcome) (w : World) → May w → TurnLeaves (unit_went pid player program o w)
   went_leaves player program (goes k t) w h = stands_leaves t w h
   went_leaves player program (faulted f) w h = numbered_without pid w.queue h.numbered
   went_leaves player program _ w h = numbered_without pid w.queue h.numbered
 
-  after_leaves : (player : Dbref) (s : Source) (d : Deed World) → DeedLeaves d → TurnLeaves (after_deed pid player s d)
-  after_leaves player s (does t w) h = settled_fits (GoesOn most left) pid (stands_at pid t w) (stands_leaves t w h)
-  after_leaves player s (rests t w) h = settled_numbered (stands_at pid t w) (numbered_changed pid (at_state (Some t)) (λ p. refl) w.queue h)
-  after_leaves player s (fails f w) h = went_leaves player s.program.number (fault f s) w h
+  after_leaves : (player : Dbref) (s : Source) (d : SharedEffect World) → DeedLeaves d → TurnLeaves (after_deed pid player s d)
+  after_leaves player s (does t w) h = settled_fits (GoesOn most left) pid (process_stands_at pid t w) (stands_leaves t w h)
+  after_leaves player s (rests t w) h = settled_numbered (process_stands_at pid t w) (numbered_changed pid (at_state (Some t)) (λ p. refl) w.queue h)
+  after_leaves player s (fails f w) h = went_leaves player s.program.number (fault_met f s) w h
 
   out_can : (w : World) → Can w → Can (out pid w)
   out_can w h = record {
@@ -168,10 +169,6 @@ within_section true true spent h e = absurd cc
 within_section true false spent h e = refl
 within_section false c spent h e = absurd cc
 
-not_through : (b c : Bool) → (not b && c) ≡ false → b ≡ false → c ≡ false
-not_through true c h e = absurd cc
-not_through false c h e = h
-
 -- a unit that may be taken leaves what the section needs
 counted_may : (all section n : ℕ) (b : Bool) → (b ≡ true → suc (more 0 all) ≤ section + suc n) → (b ≡ true → section < more 0 all) → (b ≡ false → suc all < suc n) →
     suc (more 0 all) ≤ cond b (cond b (more 1 section) section) 0 + n
@@ -186,9 +183,9 @@ module _ (tune : Tune) (pid : ℤ) where
       let mode : sit.it.mode ≡ x.mode = ap (λ (y : Agent). y.mode) sit.agent in
       let section : sit.it.section ≡ x.section = ap (λ (y : Agent). y.section) sit.agent in
       record {
-        numbered = numbered_changed pid (counted 1) (λ p. refl) w.queue numbered;
-        it = counted 1 sit.it;
-        found = process_changed pid (counted 1) (λ p. refl) w.queue ∙ ap (option_map (counted 1)) sit.found;
+        numbered = numbered_changed pid (units_counted 1) (λ p. refl) w.queue numbered;
+        it = units_counted 1 sit.it;
+        found = process_changed pid (units_counted 1) (λ p. refl) w.queue ∙ ap (option_map (units_counted 1)) sit.found;
         holds = subst (λ (m : Mode). suc (section_most tune) ≤ cond (is_preempt m) (cond (is_preempt m) (more 1 sit.it.section) sit.it.section) 0 + n) (sym mode)
             (subst (λ c. suc (section_most tune) ≤ cond (is_preempt x.mode) (cond (is_preempt x.mode) (more 1 c) c) 0 + n) (sym section)
             (counted_may tune.preempt_units x.section n (is_preempt x.mode) h
@@ -197,7 +194,7 @@ module _ (tune : Tune) (pid : ℤ) where
       }
 
   turn_leaves : (n : ℕ) (x : Agent) (s : Source) (w : World) → IsNumbered w.queue → seat pid w ≡ Some (x, s) → GoesOn (section_most tune) (suc n) x.mode x.section → is_through tune (suc n) x ≡ false →
-      (o : Option MufFault) → limit_fault tune (acting x s w.live.objects).level x ≡ o → TurnLeaves (section_most tune) n pid (turn tune pid x s w)
+      (o : Option MufFault) → limit_fault tune (acting x s w.live.objects).level x ≡ o → TurnLeaves (section_most tune) n pid (unit_taken tune pid x s w)
   turn_leaves n x s w numbered at h on_it None e =
       subst (TurnLeaves (section_most tune) n pid) (sym (turn_within tune pid x s w e))
       (unit_leaves (section_most tune) n pid x s.program.number (unit s) (one_counted pid w) (seated_on n x s w numbered at h on_it e))
@@ -216,26 +213,26 @@ module _ (tune : Tune) (pid : ℤ) where
   any_seated x s w h at =
       let sit = sits pid x s w at in
       record {
-        numbered = numbered_changed pid (counted 1) (λ p. refl) w.queue h;
-        it = counted 1 sit.it;
-        found = process_changed pid (counted 1) (λ p. refl) w.queue ∙ ap (option_map (counted 1)) sit.found;
+        numbered = numbered_changed pid (units_counted 1) (λ p. refl) w.queue h;
+        it = units_counted 1 sit.it;
+        found = process_changed pid (units_counted 1) (λ p. refl) w.queue ∙ ap (option_map (units_counted 1)) sit.found;
         holds = omega arith;
       }
 
-  turn_numbered : (x : Agent) (s : Source) (w : World) → IsNumbered w.queue → seat pid w ≡ Some (x, s) → (o : Option MufFault) → limit_fault tune (acting x s w.live.objects).level x ≡ o → TurnLeaves 0 1 pid (turn tune pid x s w)
+  turn_numbered : (x : Agent) (s : Source) (w : World) → IsNumbered w.queue → seat pid w ≡ Some (x, s) → (o : Option MufFault) → limit_fault tune (acting x s w.live.objects).level x ≡ o → TurnLeaves 0 1 pid (unit_taken tune pid x s w)
   turn_numbered x s w h at None e =
       subst (TurnLeaves 0 1 pid) (sym (turn_within tune pid x s w e)) (unit_leaves 0 1 pid x s.program.number (unit s) (one_counted pid w) (any_seated x s w h at))
   turn_numbered x s w h at (Some f) e = subst (TurnLeaves 0 1 pid) (sym (turn_limit tune pid x s f w e)) (numbered_without pid w.queue h)
 
-  leaves_numbered : (t : Turn) → TurnLeaves 0 1 pid t → IsNumbered (world_of t).queue
+  leaves_numbered : (t : Went) → TurnLeaves 0 1 pid t → IsNumbered (world_of t).queue
   leaves_numbered (on v) h = h.numbered
   leaves_numbered (rest v) h = h
   leaves_numbered (over v) h = h
 
-  pub run_numbered : (n : ℕ) (w : World) → IsNumbered w.queue → IsNumbered (last_world w (run_of tune n pid w)).queue
+  pub run_numbered : (n : ℕ) (w : World) → IsNumbered w.queue → IsNumbered (last_world w (units_run tune n pid w)).queue
   run_numbered n w =
       run_holds tune pid (λ v ts. IsNumbered v.queue → IsNumbered (last_world v ts).queue) (λ v h. h)
-      (λ v x s ts e more h. more (leaves_numbered (turn tune pid x s v) (turn_numbered x s v h e (limit_fault tune (acting x s v.live.objects).level x) refl)))
+      (λ v x s ts e more h. more (leaves_numbered (unit_taken tune pid x s v) (turn_numbered x s v h e (limit_fault tune (acting x s v.live.objects).level x) refl)))
       n w
 
 -- The units of a slice.
@@ -260,7 +257,7 @@ module _ (tune : Tune) (pid : ℤ) where
   -- what follows a unit is so, too
   abbrev More : ℕ → Type 0
   More zero = Unit {0}
-  More (suc n) = (v : World) → Fits (GoesOn (section_most tune) (suc n)) pid v.queue → Wholly (suc n) v (run_of tune (suc n) pid v)
+  More (suc n) = (v : World) → Fits (GoesOn (section_most tune) (suc n)) pid v.queue → Wholly (suc n) v (units_run tune (suc n) pid v)
 
   ends_more : (n : ℕ) (t : Taken) (ts : List Taken) → Ends (suc n) ts → Ends (suc (suc n)) (t ∷ ts)
   ends_more n t ts (inl l) = inl (omega (arith, l))
@@ -268,27 +265,27 @@ module _ (tune : Tune) (pid : ℤ) where
   ends_more n t (u ∷ ts) (inr h) = inr (ap suc h.0, h.1)
 
   -- units behind one
-  wholly_more : (n : ℕ) (x : Agent) (s : Source) (w : World) (t : Turn) → turn tune pid x s w ≡ t → TurnLeaves (section_most tune) (suc n) pid t → ((v : World) → Fits (GoesOn (section_most tune) (suc n)) pid v.queue → Wholly (suc n) v (run_of tune (suc n) pid v)) →
-      Wholly (suc (suc n)) w (unit_of x s w t ∷ then_more (run_of tune (suc n) pid) t)
+  wholly_more : (n : ℕ) (x : Agent) (s : Source) (w : World) (t : Went) → unit_taken tune pid x s w ≡ t → TurnLeaves (section_most tune) (suc n) pid t → ((v : World) → Fits (GoesOn (section_most tune) (suc n)) pid v.queue → Wholly (suc n) v (units_run tune (suc n) pid v)) →
+      Wholly (suc (suc n)) w (unit_of x s w t ∷ then_more (units_run tune (suc n) pid) t)
   wholly_more n x s w (on v) e h more =
       let k = more v h in
-      record { stops = stops_on pid v w (unit_of x s w (on v)) (run_of tune (suc n) pid v) refl k.stops; ends = ends_more n (unit_of x s w (on v)) (run_of tune (suc n) pid v) k.ends }
+      record { stops = stops_on pid v w (unit_of x s w (on v)) (units_run tune (suc n) pid v) refl k.stops; ends = ends_more n (unit_of x s w (on v)) (units_run tune (suc n) pid v) k.ends }
   wholly_more n x s w (rest v) e h more = record { stops = tt; ends = inl (omega arith) }
   wholly_more n x s w (over v) e h more = record { stops = tt; ends = inl (omega arith) }
 
   wholly_last : (x : Agent) (s : Source) (w : World) (more : World → List Taken) → seat pid w ≡ Some (x, s) → limit_fault tune (acting x s w.live.objects).level x ≡ Some PreemptTooLong →
-      Wholly 1 w (unit_of x s w (turn tune pid x s w) ∷ then_more more (turn tune pid x s w))
+      Wholly 1 w (unit_of x s w (unit_taken tune pid x s w) ∷ then_more more (unit_taken tune pid x s w))
   wholly_last x s w more at e =
       subst (λ t. Wholly 1 w (unit_of x s w t ∷ then_more more t)) (sym (turn_limit tune pid x s PreemptTooLong w e))
       (record { stops = tt; ends = inr (refl, subst (IsOverlong tune (acting x s w.live.objects).level) (sym at) e) })
 
   wholly_next : (n : ℕ) (x : Agent) (s : Source) (w : World) → IsNumbered w.queue → seat pid w ≡ Some (x, s) → GoesOn (section_most tune) (suc n) x.mode x.section → is_through tune (suc n) x ≡ false →
       More n →
-      Wholly (suc n) w (unit_of x s w (turn tune pid x s w) ∷ then_more (run_of tune n pid) (turn tune pid x s w))
+      Wholly (suc n) w (unit_of x s w (unit_taken tune pid x s w) ∷ then_more (units_run tune n pid) (unit_taken tune pid x s w))
   wholly_next zero x s w numbered at h on_it more =
-      wholly_last x s w (run_of tune 0 pid) at (last_too_long tune pid (is_preempt x.mode) tune.preempt_units (section_most tune) x.section _ on_it h)
+      wholly_last x s w (units_run tune 0 pid) at (last_too_long tune pid (is_preempt x.mode) tune.preempt_units (section_most tune) x.section _ on_it h)
   wholly_next (suc n) x s w numbered at h on_it more =
-      wholly_more n x s w (turn tune pid x s w) refl (turn_leaves tune pid (suc n) x s w numbered at h on_it (limit_fault tune (acting x s w.live.objects).level x) refl) more
+      wholly_more n x s w (unit_taken tune pid x s w) refl (turn_leaves tune pid (suc n) x s w numbered at h on_it (limit_fault tune (acting x s w.live.objects).level x) refl) more
 
   open_preempt : (b c : Bool) → (not b && c) ≡ true → b ≡ false
   open_preempt true c e = absurd cc
@@ -297,15 +294,15 @@ module _ (tune : Tune) (pid : ℤ) where
   -- the process is seated so, or isn't
   wholly_from : (n : ℕ) (w : World) (o : Option (Agent × Source)) → IsNumbered w.queue → seat pid w ≡ o → MayGo (section_most tune) (suc n) pid o →
       More n →
-      Wholly (suc n) w (option_map_or (next_unit tune (suc n) pid w (run_of tune n pid)) o [])
+      Wholly (suc n) w (option_map_or (next_unit tune (suc n) pid w (units_run tune n pid)) o [])
   wholly_from n w None numbered at h more = record { stops = subst IsInterruptible (sym at) tt; ends = inl (omega arith) }
   wholly_from n w (Some (x, s)) numbered at h more =
       cond_both (is_through tune (suc n) x) [] _ (Wholly (suc n) w)
       (λ e. record { stops = subst IsInterruptible (sym at) (open_preempt (is_preempt x.mode) _ e); ends = inl (omega arith) })
       (λ e. wholly_next n x s w numbered at h e more)
 
-  wholly : (n : ℕ) (w : World) → Fits (GoesOn (section_most tune) (suc n)) pid w.queue → Wholly (suc n) w (run_of tune (suc n) pid w)
-  unfolding run_of
+  wholly : (n : ℕ) (w : World) → Fits (GoesOn (section_most tune) (suc n)) pid w.queue → Wholly (suc n) w (units_run tune (suc n) pid w)
+  unfolding units_run
   wholly zero w h = wholly_from zero w (seat pid w) h.numbered refl (seat_may (section_most tune) 1 pid w h) tt
   wholly (suc n) w h = wholly_from (suc n) w (seat pid w) h.numbered refl (seat_may (section_most tune) (suc (suc n)) pid w h) (wholly n)
 
@@ -319,14 +316,14 @@ woken_holds most left moment None l = tt
 woken_holds most left moment (Some p) l = λ e. omega (arith, l)
 
 -- The units of a slice are whole, where the numbers of the processes rise.
-pub slice_whole : (pid : ℤ) (w : World) → IsNumbered w.queue → IsWhole w.live.board.tune pid (awake pid w) (units_of pid w)
+pub slice_whole : (pid : ℤ) (w : World) → IsNumbered w.queue → IsWhole w.live.board.tune pid (process_awake pid w) (units_of pid w)
 slice_whole pid w numbered =
     let tune = w.live.board.tune in
     let n : suc (tune.instr_slice + tune.preempt_units) ≡ slice_most tune = omega arith in
-    let begins : Fits (GoesOn (section_most tune) (suc (tune.instr_slice + tune.preempt_units))) pid (awake pid w).queue = record {
+    let begins : Fits (GoesOn (section_most tune) (suc (tune.instr_slice + tune.preempt_units))) pid (process_awake pid w).queue = record {
       numbered = numbered_changed pid (woken w.moment) (woken_number w.moment) w.queue numbered;
       holds = subst (Holds (GoesOn (section_most tune) (suc (tune.instr_slice + tune.preempt_units)))) (sym (process_changed pid (woken w.moment) (woken_number w.moment) w.queue))
           (woken_holds (section_most tune) (suc (tune.instr_slice + tune.preempt_units)) w.moment (process pid w.queue) (omega arith));
     } in
-    let k = subst (λ m. Wholly tune pid m (awake pid w) (run_of tune m pid (awake pid w))) n (wholly tune pid (tune.instr_slice + tune.preempt_units) (awake pid w) begins) in
+    let k = subst (λ m. Wholly tune pid m (process_awake pid w) (units_run tune m pid (process_awake pid w))) n (wholly tune pid (tune.instr_slice + tune.preempt_units) (process_awake pid w) begins) in
     record { stops = k.stops; most = ends_most tune pid (slice_most tune) (units_of pid w) refl k.ends }

@@ -10,11 +10,13 @@ use Rattle.spec_live.specs.declared.object.Object.{Object}
 use Rattle.spec_live.specs.declared.saving.Saving.{Saving}
 use Rattle.spec_live.specs.Saving.{all_saving}
 use Rattle.spec_live.specs.Objects.{Entry, dbref_of, index_of, is_garbage, kind_in, mark_in, number_in, object_at, object_in}
+use Rattle.spec_live.specs.Stood.{stilled}
+use Rattle.spec_live.proofs.Tracing.{object_stilled}
 use Rattle.spec_live.proofs.Savings.{object_resaved}
 use Rattle.spec_rights.proofs.Lookups.{at_negative}
 use Rattle.spec_rights.proofs.Telling.{Told}
 use Rattle.spec_mpi.specs.Touching.{without_props}
-use Rattle.spec_prims.specs.Asking.{numbered}
+use Rattle.spec_prims.specs.Asking.{object_numbered}
 use Rattle.muck_library.specs.Programs.{source_in}
 use Rattle.spec_events.specs.Following.{is_marked}
 
@@ -47,7 +49,7 @@ pub lined_told : (es fs : List Entry) → Told es fs → IsLined es fs
 unfolding source_in
 lined_told es fs t d = at d.0
   where
-    at : (z : ℤ) → (source_in fs (numbered z) ≡ source_in es (numbered z)) ⊎ ((n : ℕ) × (numbered z ≡ dbref_of n) × (is_marked n fs ≡ true))
+    at : (z : ℤ) → (source_in fs (object_numbered z) ≡ source_in es (object_numbered z)) ⊎ ((n : ℕ) × (object_numbered z ≡ dbref_of n) × (is_marked n fs ≡ true))
     at (pos n) = elim (t.source n) [ inl e ↦ inl e | inr m ↦ inr (n, refl, marked_in fs n m) ]
     at (negsuc k) = inl (ap (λ (o : Option Object). option_map_or (λ o. o.lines) o []) (at_negative fs k ∙ sym (at_negative es k)))
 
@@ -69,6 +71,9 @@ read_alike es fs h d = at (index_of d)
 
 pub saved_sources : (f : Saving → Saving) (es : List Entry) → SameSources es (all_saving f es)
 saved_sources f es d = source_as d es (all_saving f es) (read_alike es (all_saving f es) (λ n. object_resaved f n es) d)
+
+pub stilled_sources : (es : List Entry) → SameSources es (stilled es)
+stilled_sources es d = source_as d es (stilled es) (read_alike es (stilled es) (λ n. object_stilled es n) d)
 
 -- What touches notes alone leaves each source.
 

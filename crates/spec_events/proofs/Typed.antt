@@ -17,7 +17,7 @@ use Rattle.spec_commands.proofs.Plain.{Untuned}
 use Rattle.spec_commands.proofs.Lawful.{open_quiet}
 use Rattle.spec_commands.proofs.Permitted.{Leaves, keeps_or, played_leading}
 use Rattle.muck_queue.specs.Queues.{Queue}
-use Rattle.spec_admin.specs.Parameters.{IsInRange}
+use Rattle.muck_model.specs.Parameters.{IsInRange}
 use Rattle.spec_admin.proofs.Following.{AsFollows}
 use Rattle.spec_admin.proofs.Permitted.{admin_leading}
 use Rattle.spec_events.specs.Lines.{by_keeper, typed}

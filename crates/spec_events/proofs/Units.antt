@@ -1,9 +1,10 @@
 -- What a process makes of many units at once.
-use Rattle.std.proofs.Common.{◌≡◌, ℕ, zero, suc, ◌-◌, ◌<◌, ◌≤◌, min, Bool, true, false, not, ◌&&◌, cond, nat_le, List, [], ◌∷◌, map, refl, sym, ◌∙◌, ap, subst, arith, Option, Some, None}
-use Rattle.std.proofs.lemmas.Bool.{cond-true, cond-false, lt-leb, le-leb, leb-false}
+use Rattle.std.proofs.Common.{◌≡◌, ℕ, zero, suc, ◌-◌, ◌<◌, ◌≤◌, min, Bool, true, false, ◌&&◌, cond, nat_le, List, [], ◌∷◌, map, refl, sym, ◌∙◌, ap, subst, arith, Option, Some, None}
+use Rattle.std.proofs.lemmas.Bool.{cond-true, cond-false, lt-leb, le-leb}
 use Rattle.std.proofs.Math.Nat.{min-le_left, min-le_right}
 use Rattle.std.specs.Prelude.{ℤ}
 use Rattle.std.specs.Option.{option_map, option_map_or, option_and_then}
+use Rattle.muck_laws.proofs.Numbers.{clear_by, some_of, third_zero, through_not}
 use Rattle.muck_model.specs.declared.dbref.Dbref.{Dbref}
 use Rattle.muck_model.specs.declared.tune.Tune.{Tune}
 use Rattle.spec_live.specs.Objects.{Entry}
@@ -16,22 +17,22 @@ use Rattle.muf_model.specs.Source.{Program, Source}
 use Rattle.muf_model.specs.Unit.{Outcome, goes, ended, faulted, asks, stuck, unit, units, and_then}
 use Rattle.muf_model.specs.Chains.{count, taken, programs_of, Keeps}
 use Rattle.muf_model.proofs.Chains.{unit_keeps}
-use Rattle.spec_prims.specs.Asking.{numbered}
+use Rattle.spec_prims.specs.Asking.{object_numbered}
 use Rattle.muck_queue.specs.declared.process.Process.{Process}
-use Rattle.muck_queue.specs.Queues.{process, standing, on_process, at_state, counted, more, is_preempt}
+use Rattle.muck_queue.specs.Queues.{process, standing, on_process, at_state, units_counted, more, is_preempt}
 use Rattle.muck_queue.proofs.Changed.{changed_twice, process_changed}
 use Rattle.muck_queue.proofs.Standing.{standing_twice, without_standing, standing_same}
 use Rattle.spec_events.specs.declared.starting.Agent.{Agent}
 use Rattle.spec_events.specs.World.{World, on_live, on_queue}
-use Rattle.spec_events.specs.Slices.{acting, program_error, process_done, row_done, queued, deed, stands_at, ended_one, broken, out, one_counted, Turn, on, rest, over, went, after_deed, unit_done, section_most, limit_fault, are_spent, units_most, within_limit, turn, world_of, agent_of, seat_of, seat, then_more, is_through, next_unit, run_of, last_world}
+use Rattle.spec_events.specs.Slices.{acting, program_error, process_done, row_done, queued, deed, process_stands_at, ended_one, broken, out, one_counted, Went, on, rest, over, unit_went, after_deed, unit_done, section_most, limit_fault, are_spent, units_most_at, within_limit, unit_taken, world_of, agent_of, seat_of, seat, then_more, is_through, next_unit, units_run, last_world}
 use Rattle.spec_events.specs.inner.Stints.{many_counted, counting, unbroken, unspent, allowed}
 
 -- the world after the units of a process that has so many left
 abbrev pub finish : Tune → ℕ → ℤ → World → World
-finish tune n pid w = last_world w (run_of tune n pid w)
+finish tune n pid w = last_world w (units_run tune n pid w)
 
 -- and after a unit that left so many
-abbrev pub after_turn : Tune → ℕ → ℤ → Turn → World
+abbrev pub after_turn : Tune → ℕ → ℤ → Went → World
 after_turn tune n pid (on w) = finish tune n pid w
 after_turn tune n pid (rest w) = w
 after_turn tune n pid (over w) = w
@@ -39,44 +40,44 @@ after_turn tune n pid (over w) = w
 -- How units of a slice come one behind the other.
 
 module _ (tune : Tune) (pid : ℤ) where
-  turned : (n : ℕ) (t : Turn) → last_world (world_of t) (then_more (run_of tune n pid) t) ≡ after_turn tune n pid t
+  turned : (n : ℕ) (t : Went) → last_world (world_of t) (then_more (units_run tune n pid) t) ≡ after_turn tune n pid t
   turned n (on w) = refl
   turned n (rest w) = refl
   turned n (over w) = refl
 
   -- where none is left, none is taken
   pub finish_zero : (w : World) → finish tune 0 pid w ≡ w
-  unfolding run_of
+  unfolding units_run
   finish_zero w = refl
 
   -- a process that isn't there, or whose state is out, takes none
   pub finish_none : (n : ℕ) (w : World) → seat pid w ≡ None → finish tune n pid w ≡ w
-  unfolding run_of
+  unfolding units_run
   finish_none zero w e = refl
-  finish_none (suc n) w e = ap (λ (o : Option (Agent × Source)). last_world w (option_map_or (next_unit tune (suc n) pid w (run_of tune n pid)) o [])) e
+  finish_none (suc n) w e = ap (λ (o : Option (Agent × Source)). last_world w (option_map_or (next_unit tune (suc n) pid w (units_run tune n pid)) o [])) e
 
   -- nor does one whose slice is through
   pub finish_through : (n : ℕ) (x : Agent) (s : Source) (w : World) → seat pid w ≡ Some (x, s) → is_through tune n x ≡ true → finish tune n pid w ≡ w
-  unfolding run_of
+  unfolding units_run
   finish_through zero x s w e h = refl
   finish_through (suc n) x s w e h =
-      ap (λ (o : Option (Agent × Source)). last_world w (option_map_or (next_unit tune (suc n) pid w (run_of tune n pid)) o [])) e
+      ap (λ (o : Option (Agent × Source)). last_world w (option_map_or (next_unit tune (suc n) pid w (units_run tune n pid)) o [])) e
       ∙ ap (last_world w) (cond-true _ _ _ h)
 
   -- another one takes the next
-  pub finish_next : (n : ℕ) (x : Agent) (s : Source) (w : World) → seat pid w ≡ Some (x, s) → is_through tune (suc n) x ≡ false → finish tune (suc n) pid w ≡ after_turn tune n pid (turn tune pid x s w)
-  unfolding run_of
+  pub finish_next : (n : ℕ) (x : Agent) (s : Source) (w : World) → seat pid w ≡ Some (x, s) → is_through tune (suc n) x ≡ false → finish tune (suc n) pid w ≡ after_turn tune n pid (unit_taken tune pid x s w)
+  unfolding units_run
   finish_next n x s w e h =
-      ap (λ (o : Option (Agent × Source)). last_world w (option_map_or (next_unit tune (suc n) pid w (run_of tune n pid)) o [])) e
-      ∙ ap (last_world w) (cond-false _ _ _ h) ∙ turned n (turn tune pid x s w)
+      ap (λ (o : Option (Agent × Source)). last_world w (option_map_or (next_unit tune (suc n) pid w (units_run tune n pid)) o [])) e
+      ∙ ap (last_world w) (cond-false _ _ _ h) ∙ turned n (unit_taken tune pid x s w)
 
   -- a unit that is one too many ends the process
-  pub turn_limit : (x : Agent) (s : Source) (f : MufFault) (w : World) → limit_fault tune (acting x s w.live.objects).level x ≡ Some f → turn tune pid x s w ≡ over (broken pid x.player s.program.number f w)
-  unfolding turn
+  pub turn_limit : (x : Agent) (s : Source) (f : MufFault) (w : World) → limit_fault tune (acting x s w.live.objects).level x ≡ Some f → unit_taken tune pid x s w ≡ over (broken pid x.player s.program.number f w)
+  unfolding unit_taken
   turn_limit x s f w e = ap (λ o. within_limit o pid x s w) e
 
-  pub turn_within : (x : Agent) (s : Source) (w : World) → limit_fault tune (acting x s w.live.objects).level x ≡ None → turn tune pid x s w ≡ unit_done pid x s.program.number (unit s) (one_counted pid w)
-  unfolding turn
+  pub turn_within : (x : Agent) (s : Source) (w : World) → limit_fault tune (acting x s w.live.objects).level x ≡ None → unit_taken tune pid x s w ≡ unit_done pid x s.program.number (unit s) (one_counted pid w)
+  unfolding unit_taken
   turn_within x s w e = ap (λ o. within_limit o pid x s w) e
 
   pub finish_limit : (n : ℕ) (x : Agent) (s : Source) (f : MufFault) (w : World) → seat pid w ≡ Some (x, s) → is_through tune (suc n) x ≡ false →
@@ -106,14 +107,14 @@ pub sits : (pid : ℤ) (x : Agent) (s : Source) (w : World) → seat pid w ≡ S
 sits pid x s w e = sits_by pid x s w (process pid w.queue) refl e
 
 -- it is there for the same at another state, once its units are counted
-pub seat_moved : (pid : ℤ) (n : ℕ) (x : Agent) (s t : Source) (w : World) → seat pid w ≡ Some (x, s) → seat pid (stands_at pid t (many_counted n pid w)) ≡ Some (counting n x, t)
+pub seat_moved : (pid : ℤ) (n : ℕ) (x : Agent) (s t : Source) (w : World) → seat pid w ≡ Some (x, s) → seat pid (process_stands_at pid t (many_counted n pid w)) ≡ Some (counting n x, t)
 seat_moved pid n x s t w e =
     let h = sits pid x s w e in
-    ap (option_and_then seat_of) (process_changed pid (at_state (Some t)) (λ p. refl) (on_process pid (counted n) w.queue) ∙ ap (option_map (at_state (Some t))) (process_changed pid (counted n) (λ p. refl) w.queue ∙ ap (option_map (counted n)) h.found))
+    ap (option_and_then seat_of) (process_changed pid (at_state (Some t)) (λ p. refl) (on_process pid (units_counted n) w.queue) ∙ ap (option_map (at_state (Some t))) (process_changed pid (units_counted n) (λ p. refl) w.queue ∙ ap (option_map (units_counted n)) h.found))
     ∙ ap (λ y. Some (counting n y, t)) h.agent
 
 -- where it stands at its state already, nothing changes
-pub stands_same : (pid : ℤ) (x : Agent) (s : Source) (w : World) → seat pid w ≡ Some (x, s) → stands_at pid s w ≡ w
+pub stands_same : (pid : ℤ) (x : Agent) (s : Source) (w : World) → seat pid w ≡ Some (x, s) → process_stands_at pid s w ≡ w
 stands_same pid x s w e = let h = sits pid x s w e in ap (λ q. record w { queue = q }) (standing_same pid (Some s) w.queue h.it h.found h.state)
 
 -- What units make of a world doesn't depend on the state that the world has of the process.
@@ -123,7 +124,7 @@ module _ (pid : ℤ) (r : Option Source) where
   abbrev moved : World → World
   moved w = on_queue (standing pid r) w
 
-  pub stands_moved : (t : Source) (w : World) → stands_at pid t (moved w) ≡ stands_at pid t w
+  pub stands_moved : (t : Source) (w : World) → process_stands_at pid t (moved w) ≡ process_stands_at pid t w
   stands_moved t w = ap (λ q. record w { queue = q }) (standing_twice pid r (Some t) w.queue)
 
   pub out_moved : (w : World) → out pid (moved w) ≡ out pid w
@@ -138,9 +139,9 @@ module _ (pid : ℤ) (r : Option Source) where
   -- its units are counted before or after that
   pub counted_moved : (n : ℕ) (w : World) → many_counted n pid (moved w) ≡ moved (many_counted n pid w)
   counted_moved n w =
-      ap (λ q. record w { queue = q }) (changed_twice pid (counted n) (at_state r) (λ p. refl) w.queue ∙ sym (changed_twice pid (at_state r) (counted n) (λ p. refl) w.queue))
+      ap (λ q. record w { queue = q }) (changed_twice pid (units_counted n) (at_state r) (λ p. refl) w.queue ∙ sym (changed_twice pid (at_state r) (units_counted n) (λ p. refl) w.queue))
 
-  pub went_moved : (player : Dbref) (program : ℤ) (o : Outcome) (w : World) → went pid player program o (moved w) ≡ went pid player program o w
+  pub went_moved : (player : Dbref) (program : ℤ) (o : Outcome) (w : World) → unit_went pid player program o (moved w) ≡ unit_went pid player program o w
   went_moved player program (goes k t) w = ap on (stands_moved t w)
   went_moved player program (faulted f) w = ap over (broken_moved player program f w)
   went_moved player program _ w = ap over (ended_moved w)
@@ -154,31 +155,31 @@ section_twice : (b : Bool) (n c : ℕ) → cond b (more n (cond b (more 1 c) c))
 section_twice true n c = more_twice n c
 section_twice false n c = refl
 
-one_more : (n : ℕ) (p : Process) → counted n (counted 1 p) ≡ counted (suc n) p
+one_more : (n : ℕ) (p : Process) → units_counted n (units_counted 1 p) ≡ units_counted (suc n) p
 one_more n p = λ i. record p { units = more_twice n p.units i; section = section_twice (is_preempt p.mode) n p.section i }
 
 counted_twice : (pid : ℤ) (n : ℕ) (w : World) → many_counted n pid (one_counted pid w) ≡ many_counted (suc n) pid w
 counted_twice pid n w =
-    ap (λ q. record w { queue = q }) (changed_twice pid (counted n) (counted 1) (λ p. refl) w.queue ∙ ap (λ (f : Process → Process). on_process pid f w.queue) (λ i p. one_more n p i))
+    ap (λ q. record w { queue = q }) (changed_twice pid (units_counted n) (units_counted 1) (λ p. refl) w.queue ∙ ap (λ (f : Process → Process). on_process pid f w.queue) (λ i p. one_more n p i))
 
 -- The world after units that ended so, of a process in the program of this number: before them so many were left, and so many
 -- are taken, beside the one that is asked for.
 abbrev pub resumed : Tune → ℤ → Agent → ℕ → ℕ → ℤ → Outcome → World → World
 resumed tune pid x n left program (asks p t) w = after_turn tune (left - suc n) pid (after_deed pid x.player t (deed pid x p t (out pid (many_counted (suc n) pid w))))
-resumed tune pid x n left program o w = after_turn tune (left - n) pid (went pid x.player program o (many_counted n pid w))
+resumed tune pid x n left program o w = after_turn tune (left - n) pid (unit_went pid x.player program o (many_counted n pid w))
 
 -- it doesn't depend on the state that the world has of the process
 pub resumed_moved : (tune : Tune) (pid : ℤ) (r : Option Source) (x : Agent) (n left : ℕ) (program : ℤ) (o : Outcome) (w : World) → resumed tune pid x n left program o (on_queue (standing pid r) w) ≡ resumed tune pid x n left program o w
 resumed_moved tune pid r x n left program (asks p t) w =
     ap (λ v. after_turn tune (left - suc n) pid (after_deed pid x.player t (deed pid x p t v))) (ap (out pid) (counted_moved pid r (suc n) w) ∙ out_moved pid r (many_counted (suc n) pid w))
 resumed_moved tune pid r x n left program (goes k t) w =
-    ap (after_turn tune (left - n) pid) (ap (went pid x.player program (goes k t)) (counted_moved pid r n w) ∙ went_moved pid r x.player program (goes k t) (many_counted n pid w))
+    ap (after_turn tune (left - n) pid) (ap (unit_went pid x.player program (goes k t)) (counted_moved pid r n w) ∙ went_moved pid r x.player program (goes k t) (many_counted n pid w))
 resumed_moved tune pid r x n left program ended w =
-    ap (after_turn tune (left - n) pid) (ap (went pid x.player program ended) (counted_moved pid r n w) ∙ went_moved pid r x.player program ended (many_counted n pid w))
+    ap (after_turn tune (left - n) pid) (ap (unit_went pid x.player program ended) (counted_moved pid r n w) ∙ went_moved pid r x.player program ended (many_counted n pid w))
 resumed_moved tune pid r x n left program stuck w =
-    ap (after_turn tune (left - n) pid) (ap (went pid x.player program stuck) (counted_moved pid r n w) ∙ went_moved pid r x.player program stuck (many_counted n pid w))
+    ap (after_turn tune (left - n) pid) (ap (unit_went pid x.player program stuck) (counted_moved pid r n w) ∙ went_moved pid r x.player program stuck (many_counted n pid w))
 resumed_moved tune pid r x n left program (faulted f) w =
-    ap (after_turn tune (left - n) pid) (ap (went pid x.player program (faulted f)) (counted_moved pid r n w) ∙ went_moved pid r x.player program (faulted f) (many_counted n pid w))
+    ap (after_turn tune (left - n) pid) (ap (unit_went pid x.player program (faulted f)) (counted_moved pid r n w) ∙ went_moved pid r x.player program (faulted f) (many_counted n pid w))
 
 -- What a shared primitive does doesn't depend on the counts of its process.
 deed_counting : (pid : ℤ) (n : ℕ) (x : Agent) (p : Name) (s : Source) (w : World) → deed pid (counting n x) p s w ≡ deed pid x p s w
@@ -193,7 +194,7 @@ resumed_next tune pid x n left program (asks p t) w =
     ∙ ap (λ m. after_turn tune m pid (after_deed pid x.player t (deed pid x p t (out pid (many_counted (suc (suc n)) pid w))))) rest_left
 resumed_next tune pid x n left program (goes k t) w =
     let rest_left : left - n ≡ suc left - suc n = omega arith in
-    ap (λ v. after_turn tune (left - n) pid (went pid x.player program (goes k t) v)) (counted_twice pid n w) ∙ ap (λ m. after_turn tune m pid (went pid x.player program (goes k t) (many_counted (suc n) pid w))) rest_left
+    ap (λ v. after_turn tune (left - n) pid (unit_went pid x.player program (goes k t) v)) (counted_twice pid n w) ∙ ap (λ m. after_turn tune m pid (unit_went pid x.player program (goes k t) (many_counted (suc n) pid w))) rest_left
 resumed_next tune pid x n left program ended w = ap (λ v. ended_one pid v) (counted_twice pid n w)
 resumed_next tune pid x n left program stuck w = ap (λ v. ended_one pid v) (counted_twice pid n w)
 resumed_next tune pid x n left program (faulted f) w = ap (λ v. broken pid x.player program f v) (counted_twice pid n w)
@@ -213,10 +214,6 @@ may_of tune level left m x h =
     let c = min-le_left (unbroken tune left x) (unspent tune level left x) in
     let d = min-le_right (unbroken tune left x) (unspent tune level left x) in
     record { by_left = omega (arith, a, h); by_section = omega (arith, b, c, h); by_level = omega (arith, b, d, h) }
-
-through_not : (b : Bool) (all most section left : ℕ) → 1 ≤ cond b (most - section) (left - suc all) → (not b && nat_le left (suc all)) ≡ false
-through_not true all most section left h = refl
-through_not false all most section left h = lt-leb left (suc all) (omega (arith, h))
 
 limit_not : (b : Bool) (all most section : ℕ) (spent : Option ℕ) (before left : ℕ) → 1 ≤ cond b (most - section) (left - suc all) → 1 ≤ option_map_or (λ n. n - before) spent left →
     cond (b && nat_le most section) (Some PreemptTooLong) (cond (are_spent spent before) (Some TooManyUnits) None) ≡ None
@@ -238,23 +235,20 @@ may_less : (tune : Tune) (level left m : ℕ) (x : Agent) → May tune level (su
 may_less tune level left m x h = record {
   by_left = omega (arith, h.by_left);
   by_section = unbroken_less (is_preempt x.mode) tune.preempt_units (section_most tune) x.section left m h.by_section;
-  by_level = unspent_less (units_most tune level) x.units left m h.by_level;
+  by_level = unspent_less (units_most_at tune level) x.units left m h.by_level;
 }
-
-some_of : (m k : ℕ) → suc m ≤ k → 1 ≤ k
-some_of m k h = omega (arith, h)
 
 may_through : (tune : Tune) (level left m : ℕ) (x : Agent) → May tune level left (suc m) x → is_through tune left x ≡ false
 may_through tune level left m x h = through_not (is_preempt x.mode) tune.preempt_units (section_most tune) x.section left (some_of m _ h.by_section)
 
 may_within : (tune : Tune) (level left m : ℕ) (x : Agent) → May tune level left (suc m) x → limit_fault tune level x ≡ None
 may_within tune level left m x h =
-    limit_not (is_preempt x.mode) tune.preempt_units (section_most tune) x.section (units_most tune level) x.units left (some_of m _ h.by_section) (some_of m _ h.by_level)
+    limit_not (is_preempt x.mode) tune.preempt_units (section_most tune) x.section (units_most_at tune level) x.units left (some_of m _ h.by_section) (some_of m _ h.by_level)
 
 -- the level of a process that is in these programs, the running one first
 abbrev level_in : List Entry → List Program → ℕ
 level_in es [] = 0
-level_in es (p ∷ ps) = level es (numbered p.number) (map (λ q. numbered q.number) ps)
+level_in es (p ∷ ps) = level es (object_numbered p.number) (map (λ q. object_numbered q.number) ps)
 
 acting_in : (x : Agent) (s : Source) (es : List Entry) → (acting x s es).level ≡ level_in es (programs_of s)
 unfolding acting
@@ -273,10 +267,10 @@ stays s t e = subst (Keeps (programs_of s)) e (unit_keeps s)
 
 module _ (tune : Tune) (pid : ℤ) (level : ℕ) where
   run_on : (n m : ℕ) (x : Agent) (s : Source) (w : World) (o : Outcome) → unit s ≡ o →
-      ((t : Source) → unit s ≡ goes 0 t → finish tune n pid (stands_at pid t (one_counted pid w)) ≡ resumed tune pid x (suc (taken m t)) (suc n) s.program.number (units m t) w) →
+      ((t : Source) → unit s ≡ goes 0 t → finish tune n pid (process_stands_at pid t (one_counted pid w)) ≡ resumed tune pid x (suc (taken m t)) (suc n) s.program.number (units m t) w) →
       after_turn tune n pid (unit_done pid x s.program.number o (one_counted pid w)) ≡ resumed tune pid x (count o (taken m)) (suc n) s.program.number (and_then o (units m)) w
   run_on n m x s w (goes zero t) e h = h t e
-  run_on n m x s w (goes (suc k) t) e h = let left : n ≡ suc n - 1 = omega arith in ap (λ r. finish tune r pid (stands_at pid t (one_counted pid w))) left
+  run_on n m x s w (goes (suc k) t) e h = let left : n ≡ suc n - 1 = omega arith in ap (λ r. finish tune r pid (process_stands_at pid t (one_counted pid w))) left
   run_on n m x s w ended e h = refl
   run_on n m x s w stuck e h = refl
   run_on n m x s w (faulted f) e h = refl
@@ -284,7 +278,7 @@ module _ (tune : Tune) (pid : ℤ) (level : ℕ) where
       let left : n ≡ suc n - 1 = omega arith in ap (λ r. after_turn tune r pid (after_deed pid x.player t (deed pid x p t (out pid (one_counted pid w))))) left
 
   run_next : (n m : ℕ) (x : Agent) (s : Source) (w : World) → seat pid w ≡ Some (x, s) → level_in w.live.objects (programs_of s) ≡ level → May tune level (suc n) (suc m) x →
-      ((t : Source) → unit s ≡ goes 0 t → finish tune n pid (stands_at pid t (one_counted pid w)) ≡ resumed tune pid x (suc (taken m t)) (suc n) s.program.number (units m t) w) →
+      ((t : Source) → unit s ≡ goes 0 t → finish tune n pid (process_stands_at pid t (one_counted pid w)) ≡ resumed tune pid x (suc (taken m t)) (suc n) s.program.number (units m t) w) →
       finish tune (suc n) pid w ≡ resumed tune pid x (taken (suc m) s) (suc n) s.program.number (units (suc m) s) w
   run_next n m x s w at is may h =
       finish_next tune pid n x s w at (may_through tune level (suc n) m x may)
@@ -294,12 +288,12 @@ module _ (tune : Tune) (pid : ℤ) (level : ℕ) where
   run_by : (m n : ℕ) (x : Agent) (s : Source) (w : World) → seat pid w ≡ Some (x, s) → level_in w.live.objects (programs_of s) ≡ level → May tune level (suc n) (suc m) x →
       finish tune (suc n) pid w ≡ resumed tune pid x (taken (suc m) s) (suc n) s.program.number (units (suc m) s) w
   run_by zero n x s w at is may =
-      run_next n zero x s w at is may (λ t e. let left : n ≡ suc n - 1 = omega arith in ap (λ r. finish tune r pid (stands_at pid t (one_counted pid w))) left)
+      run_next n zero x s w at is may (λ t e. let left : n ≡ suc n - 1 = omega arith in ap (λ r. finish tune r pid (process_stands_at pid t (one_counted pid w))) left)
   run_by (suc m) zero x s w at is may = absurd (omega (arith, may.by_left))
   run_by (suc m) (suc n) x s w at is may =
       run_next (suc n) (suc m) x s w at is may (λ t e.
       let kept = stays s t e in
-      run_by m n (counting 1 x) t (stands_at pid t (one_counted pid w)) (seat_moved pid 1 x s t w at) (ap (level_in w.live.objects) kept ∙ is) (may_less tune level (suc n) (suc m) x may)
+      run_by m n (counting 1 x) t (process_stands_at pid t (one_counted pid w)) (seat_moved pid 1 x s t w at) (ap (level_in w.live.objects) kept ∙ is) (may_less tune level (suc n) (suc m) x may)
       ∙ resumed_moved tune pid (Some t) (counting 1 x) (taken (suc m) t) (suc n) t.program.number (units (suc m) t) (one_counted pid w)
       ∙ ap (λ number. resumed tune pid (counting 1 x) (taken (suc m) t) (suc n) number (units (suc m) t) (one_counted pid w)) (same_program s t kept)
       ∙ resumed_next tune pid x (taken (suc m) t) (suc n) s.program.number (units (suc m) t) w)
@@ -331,19 +325,11 @@ met_by : (b c : Bool) → (c ≡ false → b ≡ true) → cond c (Some PreemptT
 met_by b true h = refl
 met_by b false h = cond-true _ _ _ (h refl)
 
--- some could be taken by the section and by the slice
-clear_by : (b : Bool) (all most section left : ℕ) → (not b && nat_le left (suc all)) ≡ false → (b && nat_le most section) ≡ false → 0 < cond b (most - section) (left - suc all)
-clear_by true all most section left h k = let less = leb-false most section k in omega (arith, less)
-clear_by false all most section left h k = let less = leb-false left (suc all) h in omega (arith, less)
-
-none_of_three : (a b c : ℕ) → 0 < a → 0 < b → min a (min b c) ≡ 0 → c ≡ 0
-none_of_three a b c h k e = omega (arith, h, k, e)
-
 pub allowed_none : (tune : Tune) (level left : ℕ) (x : Agent) → 0 < left → is_through tune left x ≡ false → allowed tune level left x ≡ 0 → limit_fault tune level x ≡ Some (limit_met tune x)
 allowed_none tune level left x some on_it none =
-    met_by (are_spent (units_most tune level) x.units) (is_preempt x.mode && nat_le (section_most tune) x.section) (λ e.
-    is_spent (units_most tune level) x.units left some
-    (none_of_three left (unbroken tune left x) (unspent tune level left x) some (clear_by (is_preempt x.mode) tune.preempt_units (section_most tune) x.section left on_it e) none))
+    met_by (are_spent (units_most_at tune level) x.units) (is_preempt x.mode && nat_le (section_most tune) x.section) (λ e.
+    is_spent (units_most_at tune level) x.units left some
+    (third_zero left (unbroken tune left x) (unspent tune level left x) some (clear_by (is_preempt x.mode) tune.preempt_units (section_most tune) x.section left on_it e) none))
 
 -- so the process ends by that
 pub finish_met : (tune : Tune) (pid : ℤ) (left : ℕ) (x : Agent) (s : Source) (w : World) → seat pid w ≡ Some (x, s) → 0 < left → is_through tune left x ≡ false → allowed tune (acting x s w.live.objects).level left x ≡ 0 →

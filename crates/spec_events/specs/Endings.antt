@@ -7,7 +7,7 @@ use Rattle.spec_rights.specs.declared.act.Actor.{Actor}
 use Rattle.spec_rights.specs.Levels.{owner_at}
 use Rattle.spec_rights.specs.Verdict.{is_master}
 use Rattle.muck_queue.specs.declared.process.Process.{Process}
-use Rattle.muck_queue.specs.Queues.{has_pid, process, runs}
+use Rattle.muck_queue.specs.Queues.{has_pid, process, runs_in}
 use Rattle.spec_commands.specs.Programming.{source_of}
 use Rattle.spec_events.specs.World.{World}
 
@@ -34,14 +34,14 @@ Lapsed d w v = (object_at d v.objects ≡ None) ⊎ (source_of d v ≡ source_of
 -- a process may end by its actor, or as a consequence for a program on its call stack
 pub data MayEnd (a : Actor) (w v : Live) (p : Process) : Type 0 where
   by_actor : end_open a w.objects p ≡ true → MayEnd a w v p
-  by_program : (program : Dbref) → runs program p ≡ true → Lapsed program w v → MayEnd a w v p
+  by_program : (program : Dbref) → runs_in program p ≡ true → Lapsed program w v → MayEnd a w v p
 
 -- In a unit of the process of this number a process may end by itself, by who acts in the unit, or as a consequence for a
 -- program on its call stack.
 pub data EndsIn (pid : ℤ) (a : Actor) (w v : Live) (p : Process) : Type 0 where
   by_itself : has_pid pid p ≡ true → EndsIn pid a w v p
   by_actor : end_open a w.objects p ≡ true → EndsIn pid a w v p
-  by_change : (program : Dbref) → runs program p ≡ true → Lapsed program w v → EndsIn pid a w v p
+  by_change : (program : Dbref) → runs_in program p ≡ true → Lapsed program w v → EndsIn pid a w v p
 
 -- by a line for a process that reads that one ends, where the line says so
 abbrev pub EndsReading : ℤ → Process → Type 0

@@ -6,7 +6,8 @@ use Rattle.muck_model.specs.declared.note.Note.{Note}
 use Rattle.muck_model.specs.declared.note.Count.{Count}
 use Rattle.muck_model.specs.declared.note.Counted.{Counted}
 use Rattle.spec_events.specs.World.{World}
-use Rattle.spec_events.specs.Steps.{Step, is_lawful, effect}
+use Rattle.spec_events.specs.Steps.{Step, effect, happened, is_lawful, resting}
+use Rattle.spec_events.specs.OnlyStarts.{OnlyStarts}
 use Rattle.spec_events.specs.Licences.{EventLicensed}
 
 -- the world after these entries
@@ -24,10 +25,14 @@ abbrev pub AllLawful : World → List Entry → Type 0
 AllLawful w [] = Unit {0}
 AllLawful w (entry ∷ entries) = (is_lawful w entry ≡ true) × AllLawful (effect w entry) entries
 
+-- What happened by an entry is licensed; and behind it hooks start programs, and do nothing else.
+abbrev pub EntryLicensed : Entry → World → World → Type 0
+EntryLicensed entry w v = EventLicensed entry.event w (happened w entry.party entry.event) × OnlyStarts (resting entry.event (happened w entry.party entry.event)) v
+
 -- each entry changes only what is open where it stands
 abbrev pub AllLicensed : World → List Entry → Type 0
 AllLicensed w [] = Unit {0}
-AllLicensed w (entry ∷ entries) = EventLicensed entry.event w (effect w entry) × AllLicensed (effect w entry) entries
+AllLicensed w (entry ∷ entries) = EntryLicensed entry w (effect w entry) × AllLicensed (effect w entry) entries
 
 -- A history: how the world began, what happened since, the notes of the disks that stand between, and the note of the links: how
 -- many entries stand before it, and its counts.

@@ -2,6 +2,7 @@ pub mod inner
 pub mod World
 pub mod Following
 pub mod Starting
+pub mod Hooked
 pub mod Slices
 pub mod Sections
 pub mod Lines
@@ -14,3 +15,4 @@ pub mod Logged
 pub mod Own
 pub mod Passwords
 pub mod Sourced
+pub mod OnlyStarts

@@ -6,8 +6,8 @@ use Rattle.muck_model.specs.declared.event.Event.{Event}
 use Rattle.muck_model.specs.declared.event.Event.TheVariants.{Opened, Exec, Slice, Closed, Cut, Stored, DumpFailed}
 use Rattle.spec_live.specs.declared.saving.Saving.{Saving}
 use Rattle.spec_live.specs.Objects.{Entry}
-use Rattle.spec_live.specs.Saving.{pending, done, due_again, all_saving}
-use Rattle.spec_live.specs.Connections.{Connection, has_number}
+use Rattle.spec_live.specs.Saving.{pending, saving_done, due_again, all_saving}
+use Rattle.spec_live.specs.Connections.{Connection, is_connection}
 use Rattle.spec_live.specs.Lives.{Live, enter}
 use Rattle.spec_rights.specs.declared.act.Actor.{Actor}
 use Rattle.muf_model.specs.Unit.{Outcome, asks, unit}
@@ -21,7 +21,7 @@ use Rattle.muck_queue.specs.Queues.{is_tied_to}
 use Rattle.spec_events.specs.declared.starting.Agent.{Agent}
 use Rattle.spec_events.specs.World.{World, connection}
 use Rattle.muck_queue.specs.Queues.{reader}
-use Rattle.spec_events.specs.Slices.{Taken, acting, after_unit, awake, last_world, seat, units_of}
+use Rattle.spec_events.specs.Slices.{Taken, acting, after_unit, process_awake, last_world, seat, units_of}
 use Rattle.spec_events.specs.Sections.{IsWhole}
 use Rattle.spec_events.specs.Endings.{ProcessesLicensed, NoProcess, MayEnd, EndsIn, EndsReading}
 
@@ -61,8 +61,8 @@ LineLicensed d (Some pid) player editor (line ∷ lines) w v =
 LineLicensed d None (Some player) editor (line ∷ lines) w v =
     Licensed (actor_of w.live.objects player) (free_for editor (actor_of w.live.objects player) line w.live.objects) w.live v.live
     × ProcessesLicensed (MayEnd (actor_of w.live.objects player) w.live v.live) w v
-LineLicensed d None None editor (line ∷ lines) w v = Undisturbed (has_number d) w v ⊎ LetsIn d lines w v
-LineLicensed d reader player editor lines w v = Undisturbed (has_number d) w v
+LineLicensed d None None editor (line ∷ lines) w v = Undisturbed (is_connection d) w v ⊎ LetsIn d lines w v
+LineLicensed d reader player editor lines w v = Undisturbed (is_connection d) w v
 
 -- who answers for what a unit changes: the running program, but where the unit is a formula its player, by the player's own rights
 abbrev pub answers_at : Outcome → Actor → List Entry → Actor
@@ -100,14 +100,14 @@ Chained pid w (t ∷ ts) = Begins pid w t × Chained pid (after_unit t) ts
 -- The units of a slice lead from the world before it, in which the process wakes, to the world after it; and they are whole.
 pub record SliceLicensed (pid : ℤ) (ts : List Taken) (w v : World) : Type 0 where
   pub units : All (UnitLicensed pid) ts
-  pub chained : Chained pid (awake pid w) ts
-  pub leads : v.live ≡ (last_world (awake pid w) ts).live
-  pub processes : v.queue.processes ≡ (last_world (awake pid w) ts).queue.processes
-  pub whole : IsWhole w.live.board.tune pid (awake pid w) ts
+  pub chained : Chained pid (process_awake pid w) ts
+  pub leads : v.live ≡ (last_world (process_awake pid w) ts).live
+  pub processes : v.queue.processes ≡ (last_world (process_awake pid w) ts).queue.processes
+  pub whole : IsWhole w.live.board.tune pid (process_awake pid w) ts
 
 abbrev pub TurnLicensed : ℕ → Option Connection → World → World → Type 0
 TurnLicensed d (Some c) w v = LineLicensed d (reader d w.queue) c.player c.editor c.waiting w v
-TurnLicensed d None w v = Undisturbed (has_number d) w v
+TurnLicensed d None w v = Undisturbed (is_connection d) w v
 
 -- a dump begins or ends: nor does any process end, and no connection leaves
 abbrev pub DumpLicensed : (Saving → Saving) → World → World → Type 0
@@ -121,6 +121,6 @@ EventLicensed (Slice pid) w v = SliceLicensed pid (units_of pid w) w v
 EventLicensed (Closed d) w v = Untouched w.live v.live × ProcessesLicensed (λ p. is_tied_to d p ≡ true) w v
 EventLicensed (Opened d) w v = Untouched w.live v.live × ProcessesLicensed NoProcess w v
 EventLicensed (Cut k) w v = DumpLicensed pending w v
-EventLicensed (Stored k) w v = DumpLicensed done w v
+EventLicensed (Stored k) w v = DumpLicensed saving_done w v
 EventLicensed (DumpFailed k) w v = DumpLicensed due_again w v
 EventLicensed event w v = Undisturbed (λ c. false) w v

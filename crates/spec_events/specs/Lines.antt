@@ -8,24 +8,25 @@ use Rattle.muck_model.specs.declared.edit.EditState.{EditState}
 use Rattle.spec_live.specs.Objects.{object_at}
 use Rattle.spec_live.specs.Connections.{Connection}
 use Rattle.spec_live.specs.Boards.{edited_one}
-use Rattle.spec_live.specs.Lives.{Live, Change, on_board, tell, leave}
+use Rattle.spec_live.specs.Lives.{Live, Change, on_board, tell, leave, name_at}
 use Rattle.spec_rights.specs.declared.act.Actor.{Actor}
 use Rattle.spec_rights.specs.Changing.{tuned}
 use Rattle.muf_model.specs.Tree.{Tree}
 use Rattle.muck_library.specs.declared.flaw.Flaw.{Flaw}
 use Rattle.muck_library.specs.Programs.{built_tree}
 use Rattle.muck_library.specs.Library.{form_kept, form_dropped}
-use Rattle.muck_queue.specs.Queues.{Queue, reader, on_process, told_line, without}
+use Rattle.muck_queue.specs.Queues.{Queue, reader, on_process, told_line, without_process}
 use Rattle.spec_commands.specs.declared.outcome.Outcome.{Outcome}
-use Rattle.spec_commands.specs.declared.outcome.Outcome.TheVariants.{Done, NotMine, Start, Edit, Leave, Dump, Stop, Retune}
+use Rattle.spec_commands.specs.declared.outcome.Outcome.TheVariants.{Done, Said, NotMine, Start, Edit, Leave, Dump, Stop, Retune}
 use Rattle.spec_commands.specs.declared.edit.EditStep.{EditStep}
 use Rattle.spec_commands.specs.declared.edit.EditStep.TheVariants.{Compile, Left}
 use Rattle.spec_commands.specs.Finding.{actor_of}
 use Rattle.spec_commands.specs.Replies.{huh}
 use Rattle.spec_commands.specs.Going.{Play, ended}
-use Rattle.spec_commands.specs.Commands.{or_else, played}
-use Rattle.spec_commands.specs.Editing.{editor_exited, is_open, edited}
+use Rattle.spec_commands.specs.Commands.{play_or_else, played}
+use Rattle.spec_commands.specs.Editing.{editor_exited, is_editor_open, edited_by_line}
 use Rattle.spec_commands.specs.Talk.{at_login, waits}
+use Rattle.spec_commands.specs.Talking.{heard_as}
 use Rattle.spec_admin.specs.Lines.{admin_line, after_line}
 use Rattle.spec_events.specs.World.{World, asked_by, on_live, on_queue, on_dumps, with_library}
 use Rattle.spec_events.specs.Following.{settled}
@@ -63,22 +64,22 @@ after_edit d program step w = w
 -- a line of the editor, what follows from a source that it changed, and the building that it asks for
 unfoldable pub edited_line : ℕ → Dbref → EditState → List ℕ → World → World
 edited_line d player s line w =
-    let r = edited d (actor_of w.live.objects player) s line w.live in
+    let r = edited_by_line d (actor_of w.live.objects player) s line w.live in
     after_edit d s.program r.2 (settled (record w { live = with_editor d (next_editor r.2 r.1) r.0 }))
 
 -- an editor that isn't open any more is left
 unfoldable pub in_editor : ℕ → Dbref → EditState → List ℕ → World → World
-in_editor d player s line w = if is_open s w.live then edited_line d player s line w else on_live (tell d editor_exited) w
+in_editor d player s line w = if is_editor_open s w.live then edited_line d player s line w else on_live (tell d editor_exited) w
 
 -- Commands.
 
 -- by a line that is neither a player's nor a builder's: what is none of a keeper's either is told so
 unfoldable pub by_keeper : Queue → ℕ → Actor → List ℕ → Play
-by_keeper q d a line = or_else (admin_line q d a line) (ended Done (tell d huh))
+by_keeper q d a line = play_or_else (admin_line q d a line) (ended Done (tell d huh))
 
 -- a line of a player, while these are the processes
 unfoldable pub typed : Queue → ℕ → Actor → List ℕ → Play
-typed q d a line = or_else (played d a line) (by_keeper q d a line)
+typed q d a line = play_or_else (played d a line) (by_keeper q d a line)
 
 -- a keeper's line may end a process
 abbrev pub ended_behind : Actor → List ℕ → Queue → Live × Outcome → Queue
@@ -86,8 +87,8 @@ ended_behind a line q (w, NotMine) = after_line a line w q
 ended_behind a line q (w, outcome) = q
 
 -- the processes behind a line
-unfoldable pub left_by : ℕ → Actor → List ℕ → Live → Queue → Queue
-left_by d a line w q = ended_behind a line q (played d a line w)
+unfoldable pub processes_after_line : ℕ → Actor → List ℕ → Live → Queue → Queue
+processes_after_line d a line w q = ended_behind a line q (played d a line w)
 
 -- an editor that is opened on a program has its source
 abbrev pub editor_on : Dbref → Live → EditState
@@ -109,7 +110,7 @@ unfoldable pub in_world : ℕ → Dbref → List ℕ → World → World
 in_world d player line w =
     let a = actor_of w.live.objects player in
     let r = typed w.queue d a line w.live in
-    followed_up d player r.1 (settled (record w { live = r.0; queue = left_by d a line w.live w.queue }))
+    followed_up d player r.1 (settled (record w { live = r.0; queue = processes_after_line d a line w.live w.queue }))
 
 -- Lines go to the login screen, to the editor that is open, or are commands. An editor is taken from its connection for
 -- its line.
@@ -128,7 +129,7 @@ is_abort line = bytes_eq (map to_ascii_lowercase line) (codes "@q")
 
 unfoldable pub given_line : ℕ → ℤ → List ℕ → World → World
 given_line d pid line w =
-    if is_abort line then on_live (tell d program_aborted) (on_queue (without pid) w)
+    if is_abort line then on_live (tell d program_aborted) (on_queue (without_process pid) w)
     else on_queue (on_process pid (told_line w.moment line)) w
 
 -- the line goes to that process, where there is one, or is done
@@ -141,6 +142,25 @@ abbrev pub line_done : ℕ → Option Dbref → Option EditState → List (List 
 line_done d player editor [] w = w
 line_done d player editor (line ∷ lines) w = line_for (reader d w.queue) player editor d line (on_live (waits d lines) w)
 
-unfoldable pub done : ℕ → Option Connection → World → World
-done d None w = w
-done d (Some c) w = line_done d c.player c.editor c.waiting w
+unfoldable pub first_line_done : ℕ → Option Connection → World → World
+first_line_done d None w = w
+first_line_done d (Some c) w = line_done d c.player c.editor c.waiting w
+
+-- What a line says: of a player's line that was said or posed, what others hear, and whose it is.
+
+abbrev pub spoken_by : Dbref → Live × Outcome → Option (Dbref × List ℕ)
+spoken_by player (w, Said pose text) = Some (player, heard_as pose (name_at player w) text)
+spoken_by player (w, outcome) = None
+
+abbrev pub line_spoken : Option ℤ → Option Dbref → Option EditState → ℕ → List ℕ → World → Option (Dbref × List ℕ)
+line_spoken None (Some player) None d line w = spoken_by player (typed w.queue d (actor_of w.live.objects player) line w.live)
+line_spoken reader player editor d line w = None
+
+abbrev pub first_spoken : ℕ → Option Dbref → Option EditState → List (List ℕ) → World → Option (Dbref × List ℕ)
+first_spoken d player editor [] w = None
+first_spoken d player editor (line ∷ lines) w = line_spoken (reader d w.queue) player editor d line (on_live (waits d lines) w)
+
+-- by the line that is done
+unfoldable pub spoken : ℕ → Option Connection → World → Option (Dbref × List ℕ)
+spoken d None w = None
+spoken d (Some c) w = first_spoken d c.player c.editor c.waiting w

@@ -94,13 +94,13 @@ died_next Stage.ended = None
 died_next stage = Some Stage.ended
 
 -- what a party did last where it does this next, if it may
-abbrev pub next : ℕ → Stage → Event → Option Stage
-next party stage Died = died_next stage
-next party stage event = party_next party stage event
+abbrev pub next_stage : ℕ → Stage → Event → Option Stage
+next_stage party stage Died = died_next stage
+next_stage party stage event = party_next party stage event
 
 abbrev pub stage_from : ℕ → Option Stage → List Event → Option Stage
 stage_from party stage [] = stage
-stage_from party stage (event ∷ events) = stage_from party (option_and_then (λ s. next party s event) stage) events
+stage_from party stage (event ∷ events) = stage_from party (option_and_then (λ s. next_stage party s event) stage) events
 
 -- what a party did last that has done these, if it may
 unfoldable pub stage_of : ℕ → List Event → Option Stage
@@ -125,5 +125,5 @@ abbrev pub is_over : ℕ → List Event → Bool
 is_over party events = option_map_or is_last (stage_of party events) false
 
 -- A party that has returned did these, as it may: no claim is left that isn't sliced, and no dump that is neither stored nor failed.
-abbrev pub IsOver : ℕ → List Event → Type 0
-IsOver party events = is_over party events ≡ true
+abbrev pub IsPartyOver : ℕ → List Event → Type 0
+IsPartyOver party events = is_over party events ≡ true

@@ -44,14 +44,14 @@ pub record Proves (d : ℕ) (player : Dbref) (w : World) : Type 0 where
   pub proves : HasPassword name password player w.live.objects
 
 -- d closes in none of these entries
-abbrev pub Stays : ℕ → List Entry → Type 0
-Stays d [] = Unit {0}
-Stays d (entry ∷ entries) = (entry.event ≡ Closed d → ⊥) × Stays d entries
+abbrev pub StaysOpen : ℕ → List Entry → Type 0
+StaysOpen d [] = Unit {0}
+StaysOpen d (entry ∷ entries) = (entry.event ≡ Closed d → ⊥) × StaysOpen d entries
 
 -- in one of these entries, the first of them in the world w, d does a line that proves it to be that player; and it hasn't closed since
 abbrev pub IsKnown : World → List Entry → ℕ → Dbref → Type 0
 IsKnown w [] d player = ⊥
-IsKnown w (entry ∷ entries) d player = ((entry.event ≡ Exec d) × Proves d player w × Stays d entries) ⊎ IsKnown (effect w entry) entries d player
+IsKnown w (entry ∷ entries) d player = ((entry.event ≡ Exec d) × Proves d player w × StaysOpen d entries) ⊎ IsKnown (effect w entry) entries d player
 
 -- each connection that has a player after these entries has proved to be that player
 abbrev pub AllKnown : World → List Entry → Type 0

@@ -6,7 +6,7 @@ use Rattle.muf_model.specs.declared.fault.MufFault.TheVariants.{PreemptTooLong}
 use Rattle.muck_queue.specs.Queues.{is_preempt}
 use Rattle.spec_events.specs.declared.starting.Agent.{Agent}
 use Rattle.spec_events.specs.World.{World}
-use Rattle.spec_events.specs.Slices.{Taken, Turn, on, rest, over, limit_fault, seat}
+use Rattle.spec_events.specs.Slices.{Taken, Went, on, rest, over, limit_fault, seat}
 
 -- a process that is seated so isn't in preempt
 abbrev pub IsInterruptible : Option (Agent × Source) → Type 0
@@ -14,7 +14,7 @@ IsInterruptible None = Unit {0}
 IsInterruptible (Some (x, s)) = is_preempt x.mode ≡ false
 
 -- after a unit the process has ended, or waits, or isn't in preempt
-abbrev pub Stops : ℤ → Turn → Type 0
+abbrev pub Stops : ℤ → Went → Type 0
 Stops pid (on w) = IsInterruptible (seat pid w)
 Stops pid (rest w) = Unit {0}
 Stops pid (over w) = Unit {0}

@@ -8,13 +8,13 @@ use Rattle.spec_live.specs.Objects.{Entry as Kept}
 use Rattle.muf_model.specs.Tree.{Tree}
 use Rattle.muf_model.specs.Source.{Program, Source}
 use Rattle.muf_model.specs.Chains.{programs_of}
-use Rattle.spec_prims.specs.Asking.{numbered}
+use Rattle.spec_prims.specs.Asking.{object_numbered}
 use Rattle.muck_library.specs.Library.{Library, form_at}
 use Rattle.muck_library.specs.Programs.{source_in, built_tree}
 use Rattle.muck_queue.specs.declared.process.Process.{Process}
 use Rattle.spec_events.specs.World.{World}
 use Rattle.spec_events.specs.Slices.{Taken, units_of}
-use Rattle.spec_events.specs.Steps.{effect}
+use Rattle.spec_events.specs.Steps.{happened, effect}
 
 abbrev pub Each : {X : Type 0} → (X → Type 0) → List X → Type 0
 Each P [] = Unit {0}
@@ -26,7 +26,7 @@ BuiltOf Stood d lines tree = (es : List Kept) × Stood es × (source_in es d ≡
 
 -- a program on the call stack of a process is so of the source that it has
 abbrev pub OfSource : (Dbref → List (List ℕ) → Tree → Type 0) → List Kept → Program → Type 0
-OfSource B es p = B (numbered p.number) (source_in es (numbered p.number)) p.tree
+OfSource B es p = B (object_numbered p.number) (source_in es (object_numbered p.number)) p.tree
 
 abbrev pub Standing : (Program → Type 0) → Option Source → Type 0
 Standing P None = Unit {0}
@@ -40,7 +40,7 @@ pub record AreSourced (B : Dbref → List (List ℕ) → Tree → Type 0) (es : 
 abbrev pub Sourced : (Dbref → List (List ℕ) → Tree → Type 0) → World → Type 0
 Sourced B w = AreSourced B w.live.objects w.library w.queue.processes
 
--- The moments at which something is built: behind a line that was done, or before a unit of a slice.
+-- The moments at which something is built: behind a line that was done, behind an event by what is hooked to it, or before a unit of a slice.
 
 abbrev pub BeforeOne : List Taken → List Kept → Type 0
 BeforeOne [] es = ⊥
@@ -51,7 +51,7 @@ BeforeUnit (Slice pid) w es = BeforeOne (units_of pid w) es
 BeforeUnit event w es = ⊥
 
 abbrev pub StoodAt : World → Entry → List Kept → Type 0
-StoodAt w entry es = (es ≡ (effect w entry).live.objects) ⊎ BeforeUnit entry.event w es
+StoodAt w entry es = (es ≡ (happened w entry.party entry.event).live.objects) ⊎ ((es ≡ (effect w entry).live.objects) ⊎ BeforeUnit entry.event w es)
 
 -- What runs.
 

@@ -11,7 +11,7 @@ use Rattle.spec_rights.specs.Verdict.{verdict}
 use Rattle.spec_rights.specs.Asking.{refused}
 use Rattle.muf_model.specs.declared.fault.MufFault.{MufFault}
 use Rattle.muf_model.specs.declared.fault.MufFault.TheVariants.{NotCompiled, ProcessLimit}
-use Rattle.muf_model.specs.Faults.{text_of}
+use Rattle.muf_model.specs.Faults.{fault_text}
 use Rattle.muf_model.specs.Tree.{Definition, Tree}
 use Rattle.muf_model.specs.Source.{Source, last_word, started}
 use Rattle.muf_running.specs.declared.begin.Occasion.{Occasion}
@@ -21,7 +21,7 @@ use Rattle.muck_queue.specs.declared.process.Process.{Process}
 use Rattle.muck_queue.specs.declared.mode.Mode.{Mode}
 use Rattle.muck_queue.specs.declared.mode.Mode.TheVariants.{Preempt, Foreground, Background}
 use Rattle.muck_queue.specs.declared.mode.Wait.TheVariants.{Nothing}
-use Rattle.muck_queue.specs.Queues.{is_full, added}
+use Rattle.muck_queue.specs.Queues.{is_queue_full, process_added}
 use Rattle.spec_events.specs.declared.starting.Call.{Call}
 use Rattle.spec_events.specs.declared.starting.Manner.{Manner}
 use Rattle.spec_events.specs.World.{World, on_live, on_queue, with_library}
@@ -31,8 +31,8 @@ abbrev pub occasion : Call → World → Occasion
 occasion c w = record { player = c.player; place = place_at c.player w.live; trigger = c.trigger; command = c.command }
 
 -- the state in which the program begins
-abbrev pub beginning : Call → Tree → Definition → World → Source
-beginning c tree word w = started (record { number = c.program.0; tree = tree }) word (common_of (occasion c w)) c.argument
+abbrev pub program_beginning : Call → Tree → Definition → World → Source
+program_beginning c tree word w = started (record { number = c.program.0; tree = tree }) word (common_of (occasion c w)) c.argument
 
 -- a command starts a program with flag B in preempt
 abbrev pub first_mode : Dbref → World → Mode
@@ -64,12 +64,12 @@ new_process m c running = record {
 }
 
 -- it joins the others, where there is room for it; what is answered is its number
-abbrev pub joined : Process → World → World × Result ℤ MufFault
-joined p w = if is_full p.player w.live.board.tune w.queue then (w, Err ProcessLimit) else (on_queue (added p) w, Ok (w.queue.last +ℤ pos 1))
+abbrev pub process_joined : Process → World → World × Result ℤ MufFault
+process_joined p w = if is_queue_full p.player w.live.board.tune w.queue then (w, Err ProcessLimit) else (on_queue (process_added p) w, Ok (w.queue.last +ℤ pos 1))
 
 abbrev pub word_started : Manner → Call → Tree → Option Definition → World → World × Result ℤ MufFault
 word_started m c tree None w = (w, Err NotCompiled)
-word_started m c tree (Some word) w = joined (new_process m c (beginning c tree word w)) w
+word_started m c tree (Some word) w = process_joined (new_process m c (program_beginning c tree word w)) w
 
 -- the last word of the built form is begun
 abbrev pub form_started : Manner → Call → Option Tree → World → World × Result ℤ MufFault
@@ -80,17 +80,17 @@ abbrev pub built_started : Manner → Call → Option Tree × Library → World 
 built_started m c (form, library) w = form_started m c form (with_library library w)
 
 -- A program is started, built where it isn't yet: the number of its process, or why there is none.
-unfoldable pub begun : Manner → Call → World → World × Result ℤ MufFault
-begun m c w = built_started m c (formed w.live.objects c.program w.library) w
+unfoldable pub program_begun : Manner → Call → World → World × Result ℤ MufFault
+program_begun m c w = built_started m c (formed w.live.objects c.program w.library) w
 
 -- the connection d is told why not
 abbrev pub start_told : ℕ → World × Result ℤ MufFault → World
 start_told d (w, Ok pid) = w
-start_told d (w, Err fault) = on_live (tell d (text_of fault)) w
+start_told d (w, Err fault) = on_live (tell d (fault_text fault)) w
 
 abbrev pub start_judged : ℕ → Call → Option Denial → World → World
 start_judged d c (Some denial) w = on_live (refused d denial) w
-start_judged d c None w = start_told d (begun (by_command d c.program w) c w)
+start_judged d c None w = start_told d (program_begun (by_command d c.program w) c w)
 
 -- An actor starts a program from the connection d, by leave.
 unfoldable pub launched : ℕ → Actor → Call → World → World

@@ -7,14 +7,16 @@ use Rattle.muck_model.specs.declared.event.Event.{Event}
 use Rattle.muck_model.specs.declared.event.Event.TheVariants.{Opened, Input, Closed, Moment, Exec, Claim, Slice, Lost, Idle, Take, Cut, Stored, DumpFailed, Halt, StopSeen, Died}
 use Rattle.spec_live.specs.Saving as saving
 use Rattle.spec_live.specs.Connections.{Connection, is_ready, connections_most, takes_line, holds}
-use Rattle.spec_live.specs.Boards.{opened, line_added, bytes_taken}
-use Rattle.spec_live.specs.Lives.{on_board}
+use Rattle.spec_live.specs.Boards.{connection_opened, line_added, bytes_taken}
+use Rattle.spec_live.specs.Stood.{stilled}
+use Rattle.spec_live.specs.Lives.{on_board, on_objects}
 use Rattle.muck_queue.specs.declared.process.Process.{Process}
-use Rattle.muck_queue.specs.Queues.{has_pid, process, is_due, is_on, next_due, claimed, released, is_busy, ended_tied}
+use Rattle.muck_queue.specs.Queues.{has_pid, process, is_process_due, is_on, next_due, claimed, released, is_busy, ended_tied}
 use Rattle.spec_commands.specs.Talk.{welcome, gone_away}
-use Rattle.spec_events.specs.World.{World, connection, unasked, begun, over, askers_of, runs_dump, on_live, on_queue, on_dumps}
+use Rattle.spec_events.specs.World.{World, connection, unasked, dump_begun, dump_over, askers_of, runs_dump, on_live, on_queue, on_dumps}
 use Rattle.spec_events.specs.Dumping.{resaved, dump_stored, dump_failed, told_each}
-use Rattle.spec_events.specs.Lines.{done}
+use Rattle.spec_events.specs.Lines.{first_line_done, spoken}
+use Rattle.spec_events.specs.Hooked.{hooked}
 use Rattle.spec_events.specs.Slices.{sliced}
 
 -- the connection d is there and passes
@@ -22,16 +24,16 @@ abbrev pub passes : (Connection → Bool) → ℕ → World → Bool
 passes test d w = option_map_or test (connection d w) false
 
 -- a line waits that may be done, and no process keeps the connection from it: one that is tied to it waits for the line
-abbrev pub is_free : World → Connection → Bool
-is_free w c = is_ready c && not (is_busy c.number w.queue)
+abbrev pub has_line_to_do : World → Connection → Bool
+has_line_to_do w c = is_ready c && not (is_busy c.number w.queue)
 
 -- some process of that number passes
 abbrev pub has_process : (Process → Bool) → ℤ → World → Bool
 has_process test pid w = list_any (λ p. has_pid pid p && test p) w.queue.processes
 
 -- it is there
-abbrev pub is_there : ℤ → World → Bool
-is_there pid w = is_some (process pid w.queue)
+abbrev pub is_process_there : ℤ → World → Bool
+is_process_there pid w = is_some (process pid w.queue)
 
 -- this party has claimed it
 abbrev pub has_claim : ℕ → ℤ → World → Bool
@@ -39,11 +41,11 @@ has_claim party pid w = list_any (λ c. is_on pid c && c.party == party) w.queue
 
 -- a line may be done
 abbrev pub has_line : World → Bool
-has_line w = list_any (is_free w) w.live.board.connections && not w.stopping
+has_line w = list_any (has_line_to_do w) w.live.board.connections && not w.stopping
 
 -- a process may be claimed
 abbrev pub has_due : World → Bool
-has_due w = list_any (is_due w.moment w.queue.claims) w.queue.processes && not w.stopping
+has_due w = list_any (is_process_due w.moment w.queue.claims) w.queue.processes && not w.stopping
 
 -- a dump is asked, or so many seconds passed since the last one began
 abbrev pub is_dump_due : World → Bool
@@ -71,10 +73,10 @@ is_allowed w party (Opened d) = party == 0 && is_none (connection d w) && nat_lt
 is_allowed w party (Input d line) = party == 0 && passes takes_line d w && not w.stopping
 is_allowed w party (Closed d) = party == 0 && is_some (connection d w)
 is_allowed w party (Moment t) = party == 0 && nat_le w.moment t
-is_allowed w party (Exec d) = passes (is_free w) d w && not w.stopping
-is_allowed w party (Claim pid) = has_process (is_due w.moment w.queue.claims) pid w && not w.stopping
-is_allowed w party (Slice pid) = has_claim party pid w && is_there pid w
-is_allowed w party (Lost pid) = has_claim party pid w && not (is_there pid w)
+is_allowed w party (Exec d) = passes (has_line_to_do w) d w && not w.stopping
+is_allowed w party (Claim pid) = has_process (is_process_due w.moment w.queue.claims) pid w && not w.stopping
+is_allowed w party (Slice pid) = has_claim party pid w && is_process_there pid w
+is_allowed w party (Lost pid) = has_claim party pid w && not (is_process_there pid w)
 is_allowed w party Idle = may_idle w party
 is_allowed w party (Take d n) = party == 0 && nat_lt 0 n && passes (holds n) d w
 is_allowed w party (Cut k) = may_cut w party
@@ -96,28 +98,47 @@ is_lawful w entry = if w.dead then is_died entry.event else is_allowed w entry.p
 -- The world after an event of a party. As a dump begins, what is due is pending; once it is stored, that is done; and where it failed, what was pending is
 -- due again. Who asked for a dump is told what came of it. A claim lasts until its party has taken the slice, or has learned that the process ended.
 abbrev pub happened : World → ℕ → Event → World
-happened w party (Opened d) = on_live (on_board (opened d welcome)) w
+happened w party (Opened d) = on_live (on_board (connection_opened d welcome)) w
 happened w party (Input d line) = on_live (on_board (line_added d line)) w
 happened w party (Closed d) = on_dumps (unasked d) (on_queue (ended_tied d) (on_live (gone_away d) w))
 happened w party (Moment t) = record w { moment = t }
-happened w party (Exec d) = done d (connection d w) w
+happened w party (Exec d) = first_line_done d (connection d w) w
 happened w party (Claim pid) = on_queue (claimed pid party) w
 happened w party (Slice pid) = on_queue (released pid) (sliced pid w)
 happened w party (Lost pid) = on_queue (released pid) w
 happened w party (Take d n) = on_live (on_board (bytes_taken d n)) w
-happened w party (Cut k) = on_dumps (begun k w.moment) (on_live (resaved saving.pending) w)
-happened w party (Stored k) = on_dumps over (on_live (told_each (askers_of w.dumps) (dump_stored k)) (on_live (resaved saving.done) w))
-happened w party (DumpFailed k) = on_dumps over (on_live (told_each (askers_of w.dumps) dump_failed) (on_live (resaved saving.due_again) w))
+happened w party (Cut k) = on_dumps (dump_begun k w.moment) (on_live (resaved saving.pending) w)
+happened w party (Stored k) = on_dumps dump_over (on_live (told_each (askers_of w.dumps) (dump_stored k)) (on_live (resaved saving.saving_done) w))
+happened w party (DumpFailed k) = on_dumps dump_over (on_live (told_each (askers_of w.dumps) dump_failed) (on_live (resaved saving.due_again) w))
 happened w party Halt = record w { stopping = true }
 happened w party Died = record w { dead = true }
 happened w party event = w
 
+-- another event begins: where players stand is where they stood
+abbrev pub rested : World → World
+rested w = on_live (on_objects stilled) w
+
+-- one does behind an event that hooks follow
+abbrev pub resting : Event → World → World
+resting (Exec d) v = rested v
+resting (Slice pid) v = rested v
+resting (Closed d) v = rested v
+resting event v = v
+
+-- Behind a line that is done, a slice and a connection that goes comes what is hooked to who came, went and moved since the world before, and to what the line said.
+abbrev pub hooked_by : World → Event → World → World
+hooked_by w (Exec d) v = hooked w (rested v) (spoken d (connection d w) w)
+hooked_by w (Slice pid) v = hooked w (rested v) None
+hooked_by w (Closed d) v = hooked w (rested v) None
+hooked_by w event v = v
+
+-- the world after an entry: what happened, and what is hooked to that
 unfoldable pub effect : World → Entry → World
-effect w entry = happened w entry.party entry.event
+effect w entry = hooked_by w entry.event (happened w entry.party entry.event)
 
 -- the lowest connection with a line that may be done
 unfoldable pub next_ready : World → Option ℕ
-next_ready w = if w.dead || w.stopping then None else option_map (λ c. c.number) (find (is_free w) w.live.board.connections)
+next_ready w = if w.dead || w.stopping then None else option_map (λ c. c.number) (find (has_line_to_do w) w.live.board.connections)
 
 -- the process that may go on, whose second came first, and of those the one with the lowest number
 unfoldable pub next_process : World → Option ℤ

@@ -46,12 +46,12 @@ abbrev pub unasked : ℕ → Dumps → Dumps
 unasked d dumps = record dumps { running = option_map (λ r. (r.0, others_than d r.1)) dumps.running; asked = option_map (others_than d) dumps.asked }
 
 -- the dump k begins at this moment: those that ask now ask for it
-abbrev pub begun : ℕ → ℕ → Dumps → Dumps
-begun k moment dumps = record { running = Some (k, option_map_or (λ askers. askers) dumps.asked []); asked = None; last = moment }
+abbrev pub dump_begun : ℕ → ℕ → Dumps → Dumps
+dump_begun k moment dumps = record { running = Some (k, option_map_or (λ askers. askers) dumps.asked []); asked = None; last = moment }
 
 -- the dump that ran is over
-abbrev pub over : Dumps → Dumps
-over dumps = record dumps { running = None }
+abbrev pub dump_over : Dumps → Dumps
+dump_over dumps = record dumps { running = None }
 
 -- who asked for the dump that runs
 abbrev pub askers_of : Dumps → List ℕ
@@ -63,8 +63,8 @@ runs_dump k dumps = option_map_or (λ r. r.0 == k) dumps.running false
 
 -- The world of these objects at this moment, in which nobody is connected, no program is built and nothing runs, and
 -- whose random numbers begin so.
-unfoldable pub booted : List Entry → Tune → ℕ → ℕ → World
-booted objects tune moment start = record {
+unfoldable pub world_booted : List Entry → Tune → ℕ → ℕ → World
+world_booted objects tune moment start = record {
   live = record { objects = objects; board = early_board start tune };
   library = [];
   queue = empty_queue;
@@ -75,8 +75,8 @@ booted objects tune moment start = record {
 }
 
 -- Room Zero and One, and nothing else is as yet as anybody made it
-unfoldable pub starting : World
-starting = booted first_objects first_tune 0 0
+unfoldable pub starting_world : World
+starting_world = world_booted first_objects first_tune 0 0
 
 -- the connection of a number
 abbrev pub connection : ℕ → World → Option Connection

@@ -4,3 +4,4 @@ pub mod Sound
 pub mod Rows
 pub mod LineRows
 pub mod DumpRows
+pub mod HookRows

@@ -5,12 +5,14 @@
 #![tactic(auto)]
 
 mod agents;
+mod hooks;
 mod logged;
 mod rows;
 mod starting;
 mod texts;
 
 pub use agents::ends_what_runs_it;
+pub use hooks::only_starts;
 pub use logged::Logged;
 pub use rows::rows_hold;
 pub use starting::{Agent, Call, Manner};

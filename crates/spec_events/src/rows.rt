@@ -1,8 +1,9 @@
-// The worked slices, lines, dumps and own entries.
+// The worked slices, lines, dumps, own entries and hooks.
 ghost use Rattle.spec_events.specs.inner.Rows.{Rows};
 ghost use Rattle.spec_events.specs.inner.LineRows.{LineRows};
 ghost use Rattle.spec_events.specs.inner.DumpRows.{DumpRows};
 ghost use Rattle.spec_events.specs.inner.OwnRows.{OwnRows};
+ghost use Rattle.spec_events.specs.inner.HookRows.{HookRows};
 
 /// The worked rows of this crate hold. It does nothing: its clause is the rows.
 #[tactic(auto)]
@@ -11,4 +12,5 @@ pub fn rows_hold()
     ensures lines { LineRows }
     ensures dumps { DumpRows }
     ensures own { OwnRows }
+    ensures hooks { HookRows }
 {}

@@ -4,7 +4,7 @@ use Rattle.std.specs.List.{filter, filter_map, flat_map}
 use Rattle.std.specs.Option.{option_map_or, option_and_then}
 use Rattle.std.specs.FinMap.{entries}
 use Rattle.muck_model.specs.declared.dbref.Dbref.{Dbref}
-use Rattle.muck_model.specs.Numbers.{dbref_of}
+use Rattle.muck_model.specs.Numbers.{dbref_written}
 use Rattle.muck_prop.specs.declared.value.PropValue.{PropValue}
 use Rattle.muck_prop.specs.declared.value.PropValue.TheVariants.{Text, Number}
 use Rattle.muck_prop.specs.Order.{is_below}
@@ -63,7 +63,7 @@ values_in dir props = values_among dir (entries props)
 
 -- the program that a value names: `#N`
 abbrev pub named_program : PropValue → Option Dbref
-named_program (Text text) = dbref_of text
+named_program (Text text) = dbref_written text
 named_program (Number n) = None
 
 -- What an object names fires where it is a program with a level, and has flag L or the owner of that object.

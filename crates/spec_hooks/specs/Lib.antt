@@ -1,4 +1,4 @@
 pub mod inner
 pub mod Causes
 pub mod Firing
-pub mod Hooked
+pub mod Told

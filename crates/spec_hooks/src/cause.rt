@@ -2,6 +2,7 @@
 use muck_model::{Dbref, Line};
 
 /// What programs hear of that are hooked to it.
+#[derive(Drop)]
 pub enum Cause {
     /// A player came to a place.
     Arrive {
@@ -39,6 +40,7 @@ pub enum Cause {
 }
 
 /// A program that is to be started.
+#[derive(Drop)]
 pub struct Fire {
     /// The program.
     pub program: Dbref,

@@ -1,10 +1,10 @@
-//! What programs are hooked to, and what hooks do behind an event, as definitions in `specs/`, with their laws.
+//! What programs are hooked to, and which of them fire, as definitions in `specs/`.
 #![tactic(auto)]
 
 mod cause;
-mod laws;
 mod rows;
+mod turned;
 
 pub use cause::{Cause, Fire};
-pub use laws::only_starts;
 pub use rows::rows_hold;
+pub use turned::Turned;

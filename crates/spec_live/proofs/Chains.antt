@@ -2,9 +2,8 @@
 use Rattle.std.proofs.Common.{◌≡◌, ℕ, ◌<◌, ◌≤◌, zero, suc, List, [], ◌∷◌, Option, Some, None, inl, inr, refl, sym, ◌∙◌, ap, subst, length, arith, true, false, eqb}
 use Rattle.std.proofs.lemmas.Bool.{cases_eq, ne_eqb, eq-eqb, eqb-true, or_cases, false≢true}
 use Rattle.std.proofs.lemmas.Map.Steps.{length-le_from_distinct_below}
-use Rattle.std.specs.Option.{option_eq}
 use Rattle.std.specs.List.{IsDistinct, AllByRecursion, list_any}
-use Rattle.spec_live.specs.Chain.{walk, IsChain, Ends, Member, IsApart, without}
+use Rattle.spec_live.specs.Chain.{walk, IsChain, Ends, Member, IsApart, without_number}
 
 -- a chain is one list
 pub chain_same : (n : ℕ) (f : ℕ → Option ℕ) (s : Option ℕ) (xs ys : List ℕ) → IsChain n f s xs → IsChain n f s ys → xs ≡ ys
@@ -110,37 +109,37 @@ unfolding Ends
 ends_step n f x h = steps_at n f x (walk n f (Some x)) h
 
 -- leaving out
-pub without_same : (d : ℕ) (xs : List ℕ) → (Member d xs → ⊥) → without d xs ≡ xs
-unfolding Member without
+pub without_same : (d : ℕ) (xs : List ℕ) → (Member d xs → ⊥) → without_number d xs ≡ xs
+unfolding Member without_number
 without_same d [] h = refl
 without_same d (x ∷ xs) h = rw (ne_eqb x d (λ e. h (inl (sym e)))) (ap (λ t. x ∷ t) (without_same d xs (λ m. h (inr m))))
 
-pub without_first : (d : ℕ) (xs : List ℕ) → (Member d xs → ⊥) → without d (d ∷ xs) ≡ xs
-unfolding without
+pub without_first : (d : ℕ) (xs : List ℕ) → (Member d xs → ⊥) → without_number d (d ∷ xs) ≡ xs
+unfolding without_number
 without_first d xs h = rw (eq-eqb d d refl) (without_same d xs h)
 
-pub without_gone : (d : ℕ) (xs : List ℕ) → Member d (without d xs) → ⊥
-unfolding Member without
+pub without_gone : (d : ℕ) (xs : List ℕ) → Member d (without_number d xs) → ⊥
+unfolding Member without_number
 without_gone d [] m = m
 without_gone d (x ∷ xs) m = elim (cases_eq x d) [
   | inl e ↦ without_gone d xs (rw (eq-eqb x d e) at m)
-  | inr e ↦ let k : Member d (x ∷ without d xs) = rw (ne_eqb x d e) at m in elim k [ inl q ↦ e (sym q) | inr q ↦ without_gone d xs q ]
+  | inr e ↦ let k : Member d (x ∷ without_number d xs) = rw (ne_eqb x d e) at m in elim k [ inl q ↦ e (sym q) | inr q ↦ without_gone d xs q ]
 ]
 
-pub without_member : (d y : ℕ) (xs : List ℕ) → Member y (without d xs) → Member y xs
-unfolding Member without
+pub without_member : (d y : ℕ) (xs : List ℕ) → Member y (without_number d xs) → Member y xs
+unfolding Member without_number
 without_member d y [] m = m
 without_member d y (x ∷ xs) m = elim (cases_eq x d) [
   | inl e ↦ inr (without_member d y xs (rw (eq-eqb x d e) at m))
-  | inr e ↦ let k : Member y (x ∷ without d xs) = rw (ne_eqb x d e) at m in elim k [ inl q ↦ inl q | inr q ↦ inr (without_member d y xs q) ]
+  | inr e ↦ let k : Member y (x ∷ without_number d xs) = rw (ne_eqb x d e) at m in elim k [ inl q ↦ inl q | inr q ↦ inr (without_member d y xs q) ]
 ]
 
-pub member_without : (d y : ℕ) (xs : List ℕ) → (y ≡ d → ⊥) → Member y xs → Member y (without d xs)
-unfolding Member without
+pub member_without : (d y : ℕ) (xs : List ℕ) → (y ≡ d → ⊥) → Member y xs → Member y (without_number d xs)
+unfolding Member without_number
 member_without d y [] ne m = m
 member_without d y (x ∷ xs) ne m = elim (cases_eq x d) [
   | inl e ↦ rw (eq-eqb x d e) (elim m [ inl q ↦ absurd (ne (q ∙ e)) | inr q ↦ member_without d y xs ne q ])
-  | inr e ↦ rw (ne_eqb x d e) (let k : Member y (x ∷ without d xs) = elim m [ inl q ↦ inl q | inr q ↦ inr (member_without d y xs ne q) ] in k)
+  | inr e ↦ rw (ne_eqb x d e) (let k : Member y (x ∷ without_number d xs) = elim m [ inl q ↦ inl q | inr q ↦ inr (member_without d y xs ne q) ] in k)
 ]
 
 pub apart_first : (x : ℕ) (xs : List ℕ) → IsApart (x ∷ xs) → Member x xs → ⊥
@@ -148,13 +147,13 @@ unfolding IsApart
 apart_first x xs h = h.0
 
 -- the first of a chain is left out
-pub chain_without_first : (n : ℕ) (f : ℕ → Option ℕ) (d : ℕ) (xs : List ℕ) → IsChain n f (Some d) xs → IsChain n f (f d) (without d xs)
+pub chain_without_first : (n : ℕ) (f : ℕ → Option ℕ) (d : ℕ) (xs : List ℕ) → IsChain n f (Some d) xs → IsChain n f (f d) (without_number d xs)
 unfolding IsChain
 chain_without_first n f d [] h = absurd (cc)
 chain_without_first n f d (x ∷ xs) h =
     let same : d ≡ x = cc (h.0) in
     let apart : IsApart (x ∷ xs) = chain_apart n f (Some d) (x ∷ xs) h in
-    let P : ℕ → Type 0 = λ z. IsChain n f (f d) (without d (z ∷ xs)) in
+    let P : ℕ → Type 0 = λ z. IsChain n f (f d) (without_number d (z ∷ xs)) in
     let Q : ℕ → Type 0 = λ z. Member z xs → ⊥ in
     let R : ℕ → Type 0 = λ z. IsChain n f (f z) xs in
     let gone : Member d xs → ⊥ = subst Q (sym same) (apart_first x xs apart) in
@@ -162,22 +161,22 @@ chain_without_first n f d (x ∷ xs) h =
 
 -- one further on is left out: the one before it, i, leads on past it
 pub chain_without : (n : ℕ) (f g : ℕ → Option ℕ) (i d : ℕ) (s : Option ℕ) (xs : List ℕ) → f i ≡ Some d → g i ≡ f d → ((x : ℕ) → (x ≡ i → ⊥) → g x ≡ f x)
-    → Member i xs → (s ≡ Some d → ⊥) → IsChain n f s xs → IsChain n g s (without d xs)
-unfolding IsChain Member without
+    → Member i xs → (s ≡ Some d → ⊥) → IsChain n f s xs → IsChain n g s (without_number d xs)
+unfolding IsChain Member without_number
 chain_without n f g i d s [] to new others m ne h = elim m [ ]
 chain_without n f g i d s (x ∷ xs) to new others m ne h =
     let apart : Member x xs → ⊥ = apart_first x xs (chain_apart n f s (x ∷ xs) h) in
     let other : x ≡ d → ⊥ = λ e. ne (h.0 ∙ ap (λ z. Some z) e) in
     let rest : IsChain n f (f x) xs = h.2 in
-    let after : IsChain n g (g x) (without d xs) =
+    let after : IsChain n g (g x) (without_number d xs) =
     elim (cases_eq x i) [
       | inl e ↦
           let Q : ℕ → Type 0 = λ z. Member z xs → ⊥ in
           let P : Option ℕ → Type 0 = λ t. IsChain n f t xs in
-          let G : Option ℕ → Type 0 = λ t. IsChain n g t (without d xs) in
+          let G : Option ℕ → Type 0 = λ t. IsChain n g t (without_number d xs) in
           let gone : Member i xs → ⊥ = subst Q e apart in
           let at_d : IsChain n f (Some d) xs = subst P (ap f e ∙ to) rest in
-          subst G (sym (ap g e ∙ new)) (chain_frame n f g (f d) (without d xs) (λ y q. others y (λ w. gone (let M : ℕ → Type 0 = λ z. Member z xs in subst M w (without_member d y xs q)))) (chain_without_first n f d xs at_d))
+          subst G (sym (ap g e ∙ new)) (chain_frame n f g (f d) (without_number d xs) (λ y q. others y (λ w. gone (let M : ℕ → Type 0 = λ z. Member z xs in subst M w (without_member d y xs q)))) (chain_without_first n f d xs at_d))
       | inr e ↦
           let deeper : Member i xs = elim m [ inl q ↦ absurd (e (sym q)) | inr q ↦ q ] in
           let later : f x ≡ Some d → ⊥ = λ q.
@@ -185,7 +184,7 @@ chain_without n f g i d s (x ∷ xs) to new others m ne h =
           let P : Option ℕ → Type 0 = λ t. IsChain n f t k.0 in
           let same : k.0 ≡ xs = chain_same n f (f x) k.0 xs (subst P (to ∙ sym q) k.1) rest in
           omega (arith, k.2, ap length same) in
-          let G : Option ℕ → Type 0 = λ t. IsChain n g t (without d xs) in
+          let G : Option ℕ → Type 0 = λ t. IsChain n g t (without_number d xs) in
           subst G (sym (others x e)) (chain_without n f g i d (f x) xs to new others deeper later rest)
     ] in
     rw (ne_eqb x d other) (h.0, h.1, after)
@@ -223,11 +222,3 @@ walk_none (suc n) f = refl
 pub member_none : (n : ℕ) (f : ℕ → Option ℕ) (s : Option ℕ) (y : ℕ) → s ≡ None → Member y (walk n f s) → ⊥
 unfolding Member
 member_none n f s y e m = let P : List ℕ → Type 0 = λ l. Member y l in let Q : Option ℕ → Type 0 = λ t. Member y (walk n f t) in subst P (walk_none n f) (subst Q e m)
-
--- tests of a link
-pub leads_true : (o : Option ℕ) (d : ℕ) → option_eq eqb o (Some d) ≡ true → o ≡ Some d
-leads_true None d h = absurd (false≢true h)
-leads_true (Some x) d h = ap (λ z. Some z) (eqb-true x d h)
-
-pub leads_false : (o : Option ℕ) (d : ℕ) → option_eq eqb o (Some d) ≡ false → o ≡ Some d → ⊥
-leads_false o d h e = let P : Option ℕ → Type 0 = λ t. option_eq eqb t (Some d) ≡ false in false≢true (sym (subst P e h) ∙ eq-eqb d d refl)

@@ -2,22 +2,19 @@
 use Rattle.std.proofs.Common.{◌≡◌, ℕ, ◌<◌, ℤ, pos, negsuc, Option, Some, None, Result, Ok, Err, inl, inr, refl, sym, ◌∙◌, ap, subst, length, Bool, true, false, cond, eqb, List}
 use Rattle.std.proofs.lemmas.Bool.{cases_lt, eqb-false, false≢true}
 use Rattle.std.specs.Option.{option_and_then, option_map_or}
+use Rattle.muck_laws.proofs.Options.{kept_some}
 use Rattle.muck_model.specs.declared.dbref.Dbref.{Dbref}
 use Rattle.spec_live.specs.declared.fault.DbFault.{DbFault}
 use Rattle.spec_live.specs.declared.fault.DbFault.TheVariants.{NoSuchObject, WouldLoop, WrongKind}
 use Rattle.spec_live.specs.Chain.{has}
-use Rattle.spec_live.specs.Objects.{Entry, dbref_of, index_of, is_garbage, kind_in, fits_in, path_in, number_in}
-use Rattle.spec_live.specs.Moving.{judged, move_check}
+use Rattle.spec_live.specs.Objects.{Entry, dbref_of, index_of, is_garbage, kind_in, fits_in, places_from, number_in}
+use Rattle.spec_live.specs.Moving.{move_judged, move_check}
 use Rattle.spec_live.specs.Setting.{checked, checked_both}
 use Rattle.spec_live.specs.Consistent.{MayMove}
 use Rattle.spec_live.proofs.Lists.{has_not}
 use Rattle.spec_live.proofs.Readers.{kind_past}
 
 -- A number behind a dbref.
-
-kept_some : (b : Bool) (m n : ℕ) → cond b None (Some m) ≡ Some n → (b ≡ false) × (m ≡ n)
-kept_some true m n h = absurd (cc (h))
-kept_some false m n h = (refl, cc (h))
 
 index_is : (z : ℤ) (n : ℕ) → index_of (record { 0 = z }) ≡ Some n → ◌≡◌ {A = Dbref} (record { 0 = z }) (dbref_of n)
 index_is (pos m) n h = let e : m ≡ n = cc (h) in ap (λ k. dbref_of k) e
@@ -48,7 +45,7 @@ number_there es d n h = number_by es d (index_of d) n refl h
 
 -- A move.
 
-judged_by : (es : List Entry) (d to : ℕ) (p : ℕ × ℕ) (a b c : Bool) → d < length es → to < length es → eqb d 0 ≡ a → fits_in es d to ≡ b → has d (path_in es to) ≡ c
+judged_by : (es : List Entry) (d to : ℕ) (p : ℕ × ℕ) (a b c : Bool) → d < length es → to < length es → eqb d 0 ≡ a → fits_in es d to ≡ b → has d (places_from es to) ≡ c
     → ◌≡◌ {A = Result (ℕ × ℕ) DbFault} (cond a (Err WrongKind) (cond b (cond c (Err WouldLoop) (Ok (d, to))) (Err WrongKind))) (Ok p) → MayMove es p.0 p.1
 judged_by es d to p true b c k l x y z h = absurd (cc (h))
 judged_by es d to p false false c k l x y z h = absurd (cc (h))
@@ -56,14 +53,14 @@ judged_by es d to p false true true k l x y z h = absurd (cc (h))
 judged_by es d to p false true false k l x y z h =
     let pair : ◌≡◌ {A = ℕ × ℕ} (d, to) p = cc (h) in
     let P : ℕ × ℕ → Type 0 = λ u. MayMove es u.0 u.1 in
-    subst P pair (record { known = k; place = l; lower = eqb-false d 0 x; fits = y; free = has_not d (path_in es to) z })
+    subst P pair (record { known = k; place = l; lower = eqb-false d 0 x; fits = y; free = has_not d (places_from es to) z })
 
-judged_ok : (es : List Entry) (d to : ℕ) (p : ℕ × ℕ) → d < length es → to < length es → judged d to es ≡ Ok p → MayMove es p.0 p.1
-unfolding judged
+judged_ok : (es : List Entry) (d to : ℕ) (p : ℕ × ℕ) → d < length es → to < length es → move_judged d to es ≡ Ok p → MayMove es p.0 p.1
+unfolding move_judged
 judged_ok es d to p k l h = judged_by es d to p _ _ _ k l refl refl refl h
 
 move_by : (es : List Entry) (a b : Option ℕ) (p : ℕ × ℕ) → ((m : ℕ) → a ≡ Some m → m < length es) → ((m : ℕ) → b ≡ Some m → m < length es)
-    → option_map_or (λ x. option_map_or (λ y. judged x y es) b (Err NoSuchObject)) a (Err NoSuchObject) ≡ Ok p → MayMove es p.0 p.1
+    → option_map_or (λ x. option_map_or (λ y. move_judged x y es) b (Err NoSuchObject)) a (Err NoSuchObject) ≡ Ok p → MayMove es p.0 p.1
 move_by es None b p u v h = absurd (cc (h))
 move_by es (Some x) None p u v h = absurd (cc (h))
 move_by es (Some x) (Some y) p u v h = judged_ok es x y p (u x refl) (v y refl) h

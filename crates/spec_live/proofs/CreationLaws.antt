@@ -3,6 +3,7 @@ use Rattle.std.proofs.Common.{◌≡◌, ℕ, ◌+◌, ◌<◌, ◌≤◌, zero,
 use Rattle.std.proofs.lemmas.Bool.{cases_eq, ltb-true, ne_eqb, eq-eqb, false≢true}
 use Rattle.std.specs.List.{slice_get}
 use Rattle.std.specs.Option.{option_map, option_and_then, option_map_or}
+use Rattle.muck_laws.proofs.Places.{get_more, got_last, read_more}
 use Rattle.muck_model.specs.declared.dbref.Dbref.{Dbref}
 use Rattle.muck_model.specs.declared.dbref.Kind.{Kind}
 use Rattle.muck_model.specs.declared.dbref.Kind.TheVariants.{Room, Thing, Exit, Player, Program, Garbage}
@@ -11,12 +12,12 @@ use Rattle.spec_live.specs.declared.fault.DbFault.{DbFault}
 use Rattle.spec_live.specs.declared.fault.DbFault.TheVariants.{NoSuchObject, WrongKind, WorldFull}
 use Rattle.spec_live.specs.Chain.{walk, IsChain, Ends, Member}
 use Rattle.spec_live.specs.Flags.{no_flags}
-use Rattle.spec_live.specs.Objects.{Entry, dbref_of, index_of, is_player, is_garbage, may_stand, garbage, object_in, list_of, list_in, place_in, kind_in, flags_in, is_vehicle_in, fits_in, number_in, path_in, changed_at, with_object}
+use Rattle.spec_live.specs.Objects.{Entry, dbref_of, index_of, is_player, is_garbage, may_stand, garbage, object_in, entry_list, list_in, place_in, kind_in, flags_in, is_vehicle_in, fits_in, number_in, places_from, changed_at, with_object}
 use Rattle.spec_live.specs.Moving.{moved}
 use Rattle.spec_live.specs.Setting.{may_link, may_live}
-use Rattle.spec_live.specs.Making.{objects_most, free_in, blank_entry, grown, new_object, created, may_make, make_judged, owner_judged, create_check}
+use Rattle.spec_live.specs.Making.{objects_most, free_in, blank_entry, objects_grown, new_object, created, may_make, make_judged, owner_judged, create_check}
 use Rattle.spec_live.specs.Consistent.{HasOwner, HasLink, HasHome, IsTied, IsOrdered, IsConsistent, MayMove}
-use Rattle.spec_live.proofs.Lists.{get_last, get_more, read_more, length_changed}
+use Rattle.spec_live.proofs.Lists.{length_changed}
 use Rattle.spec_live.proofs.KindLaws.{only_garbage, none_in_garbage, standing_alive, player_alive, linked_alive, home_alive}
 use Rattle.spec_live.proofs.Readers.{kind_alike, flags_alike, vehicle_alike, object_named, object_unnamed, list_named}
 use Rattle.spec_live.proofs.Orders.{ordered_alike, ordered_moved, placed_moved, nobodys_place, no_place}
@@ -31,12 +32,12 @@ object_more es k ne = ap (λ (o : Option Entry). option_map (λ (e : Entry). e.o
 
 pub object_last : (es : List Entry) → object_in (es ++ blank_entry ∷ []) (length es) ≡ Some garbage
 unfolding object_in blank_entry
-object_last es = ap (λ (o : Option Entry). option_map (λ (e : Entry). e.object) o) (get_last es blank_entry)
+object_last es = ap (λ (o : Option Entry). option_map (λ (e : Entry). e.object) o) (got_last es blank_entry)
 
 pub list_more : (v : Bool) (es : List Entry) (k : ℕ) → list_in v (es ++ blank_entry ∷ []) k ≡ list_in v es k
 unfolding list_in blank_entry
-list_more true es k = read_more (λ (o : Option Entry). option_map_or (list_of true) o []) es blank_entry k refl
-list_more false es k = read_more (λ (o : Option Entry). option_map_or (list_of false) o []) es blank_entry k refl
+list_more true es k = read_more (λ (o : Option Entry). option_map_or (entry_list true) o []) es blank_entry k refl
+list_more false es k = read_more (λ (o : Option Entry). option_map_or (entry_list false) o []) es blank_entry k refl
 
 pub place_more : (es : List Entry) (k : ℕ) → place_in (es ++ blank_entry ∷ []) k ≡ place_in es k
 unfolding place_in object_in blank_entry garbage
@@ -63,21 +64,21 @@ ordered_more es few c =
 
 -- The grown table.
 
-pub grown_same : (n : ℕ) (es : List Entry) → (n ≡ length es → ⊥) → grown n es ≡ es
-unfolding grown
+pub grown_same : (n : ℕ) (es : List Entry) → (n ≡ length es → ⊥) → objects_grown n es ≡ es
+unfolding objects_grown
 grown_same n es ne = rw (ne_eqb n (length es) ne) refl
 
-pub grown_more : (n : ℕ) (es : List Entry) → n ≡ length es → grown n es ≡ es ++ blank_entry ∷ []
-unfolding grown
+pub grown_more : (n : ℕ) (es : List Entry) → n ≡ length es → objects_grown n es ≡ es ++ blank_entry ∷ []
+unfolding objects_grown
 grown_more n es e = rw (eq-eqb n (length es) e) refl
 
-pub grown_kind : (n k : ℕ) (es : List Entry) → kind_in (grown n es) k ≡ kind_in es k
+pub grown_kind : (n k : ℕ) (es : List Entry) → kind_in (objects_grown n es) k ≡ kind_in es k
 grown_kind n k es = elim (cases_eq n (length es)) [ inl e ↦ ap (λ (z : List Entry). kind_in z k) (grown_more n es e) ∙ kind_more es k | inr e ↦ ap (λ (z : List Entry). kind_in z k) (grown_same n es e) ]
 
-pub grown_place : (n k : ℕ) (es : List Entry) → place_in (grown n es) k ≡ place_in es k
+pub grown_place : (n k : ℕ) (es : List Entry) → place_in (objects_grown n es) k ≡ place_in es k
 grown_place n k es = elim (cases_eq n (length es)) [ inl e ↦ ap (λ (z : List Entry). place_in z k) (grown_more n es e) ∙ place_more es k | inr e ↦ ap (λ (z : List Entry). place_in z k) (grown_same n es e) ]
 
-pub grown_flags : (n k : ℕ) (es : List Entry) → flags_in (grown n es) k ≡ flags_in es k
+pub grown_flags : (n k : ℕ) (es : List Entry) → flags_in (objects_grown n es) k ≡ flags_in es k
 grown_flags n k es = elim (cases_eq n (length es)) [ inl e ↦ ap (λ (z : List Entry). flags_in z k) (grown_more n es e) ∙ flags_more es k | inr e ↦ ap (λ (z : List Entry). flags_in z k) (grown_same n es e) ]
 
 last_object : (es : List Entry) (k : ℕ) (o : Object) → object_in (es ++ blank_entry ∷ []) k ≡ Some o → (object_in es k ≡ Some o) ⊎ (o ≡ garbage)
@@ -86,13 +87,13 @@ last_object es k o h = elim (cases_eq k (length es)) [
   | inr e ↦ inl (sym (object_more es k e) ∙ h)
 ]
 
-grown_object : (n k : ℕ) (es : List Entry) (o : Object) → object_in (grown n es) k ≡ Some o → (object_in es k ≡ Some o) ⊎ (o ≡ garbage)
+grown_object : (n k : ℕ) (es : List Entry) (o : Object) → object_in (objects_grown n es) k ≡ Some o → (object_in es k ≡ Some o) ⊎ (o ≡ garbage)
 grown_object n k es o h = elim (cases_eq n (length es)) [
   | inl e ↦ last_object es k o (sym (ap (λ (z : List Entry). object_in z k) (grown_more n es e)) ∙ h)
   | inr e ↦ inl (sym (ap (λ (z : List Entry). object_in z k) (grown_same n es e)) ∙ h)
 ]
 
-pub ordered_grown : (es : List Entry) (n : ℕ) → n < 100000 → IsOrdered es → IsOrdered (grown n es)
+pub ordered_grown : (es : List Entry) (n : ℕ) → n < 100000 → IsOrdered es → IsOrdered (objects_grown n es)
 ordered_grown es n few c =
     let P : List Entry → Type 0 = λ z. IsOrdered z in
     elim (cases_eq n (length es)) [
@@ -100,9 +101,9 @@ ordered_grown es n few c =
       | inr e ↦ subst P (sym (grown_same n es e)) c
     ]
 
-pub tidy_grown : (es : List Entry) (n : ℕ) → IsTidy es → IsTidy (grown n es)
+pub tidy_grown : (es : List Entry) (n : ℕ) → IsTidy es → IsTidy (objects_grown n es)
 tidy_grown es n c =
-    let new : List Entry = grown n es in
+    let new : List Entry = objects_grown n es in
     let kinds : (k : ℕ) → kind_in new k ≡ kind_in es k = λ k. grown_kind n k es in
     let first : kind_in new 1 ≡ Player = kinds 1 ∙ c.first in
     record {
@@ -222,7 +223,7 @@ member_led n f s (x ∷ xs) y h m = elim m [
 -- it may go where its kind may be
 pub may_begin : (es : List Entry) (n to : ℕ) (kind : Kind) (name : List ℕ) (owner : Dbref) → IsOrdered es → n < length es → to < length es → kind_in es n ≡ Garbage → may_stand kind (kind_in es to) (is_vehicle_in es to) ≡ true
     → MayMove (changed_at n (with_object (new_object n kind name owner)) es) n to
-unfolding path_in Ends fits_in
+unfolding places_from Ends fits_in
 may_begin es n to kind name owner c lt place g fits =
     let o : Object = new_object n kind name owner in
     let new : List Entry = changed_at n (with_object o) es in
@@ -310,7 +311,7 @@ unfolding create_check
 may_create kind owner place es p h =
     create_by es kind owner (owner_judged kind owner es) (number_in es place) p (λ o e t. owner_ok es kind owner (e ∙ ap (λ z. Some z) t)) (λ m e. (number_there es place m e).known) h
 
-pub grown_long : (es : List Entry) (n : ℕ) → n ≡ free_in es → (n < length (grown n es)) × (length es ≤ length (grown n es))
+pub grown_long : (es : List Entry) (n : ℕ) → n ≡ free_in es → (n < length (objects_grown n es)) × (length es ≤ length (objects_grown n es))
 grown_long es n f = elim (cases_eq n (length es)) [
   | inl e ↦ rw (grown_more n es e) (omega (arith, length-append es (blank_entry ∷ []), e), omega (arith, length-append es (blank_entry ∷ [])))
   | inr e ↦ rw (grown_same n es e) (omega (arith, free_le es, f, e), omega arith)
@@ -318,34 +319,34 @@ grown_long es n f = elim (cases_eq n (length es)) [
 
 -- what is known before the number is named
 pub record Begins (es : List Entry) (kind : Kind) (owner : Dbref) (n to : ℕ) : Type 0 where
-  pub known : n < length (grown n es)
-  pub place : to < length (grown n es)
-  pub garbage : kind_in (grown n es) n ≡ Garbage
-  pub fits : may_stand kind (kind_in (grown n es) to) (is_vehicle_in (grown n es) to) ≡ true
-  pub owned : OwnedBy (grown n es) kind owner
+  pub known : n < length (objects_grown n es)
+  pub place : to < length (objects_grown n es)
+  pub garbage : kind_in (objects_grown n es) n ≡ Garbage
+  pub fits : may_stand kind (kind_in (objects_grown n es) to) (is_vehicle_in (objects_grown n es) to) ≡ true
+  pub owned : OwnedBy (objects_grown n es) kind owner
 
 pub begins : (es : List Entry) (kind : Kind) (owner : Dbref) (n to : ℕ) → MayCreate es kind owner n to → Begins es kind owner n to
 begins es kind owner n to m = record {
   known = (grown_long es n m.free).0;
   place = omega (arith, m.place, (grown_long es n m.free).1);
   garbage = grown_kind n n es ∙ ap (λ z. kind_in es z) m.free ∙ free_garbage es;
-  fits = rw (grown_kind n to es, vehicle_alike es (grown n es) to (grown_flags n to es)) m.fits;
+  fits = rw (grown_kind n to es, vehicle_alike es (objects_grown n es) to (grown_flags n to es)) m.fits;
   owned = elim m.owned [ inl q ↦ inl q | inr q ↦ inr (q.0, q.1, ap (λ z. is_player z) (grown_kind n q.0 es) ∙ q.2) ];
 }
 
 -- the new object may be moved to its place
 pub create_checked : (kind : Kind) (name : List ℕ) (owner place : Dbref) (es : List Entry) (p : ℕ × ℕ) → create_check kind owner place es ≡ Ok p → IsOrdered es
-    → MayMove (changed_at p.0 (with_object (new_object p.0 kind name owner)) (grown p.0 es)) p.0 p.1
+    → MayMove (changed_at p.0 (with_object (new_object p.0 kind name owner)) (objects_grown p.0 es)) p.0 p.1
 create_checked kind name owner place es p h c =
     let m : MayCreate es kind owner p.0 p.1 = may_create kind owner place es p h in
     let b : Begins es kind owner p.0 p.1 = begins es kind owner p.0 p.1 m in
-    may_begin (grown p.0 es) p.0 p.1 kind name owner (ordered_grown es p.0 m.few c) b.known b.place b.garbage b.fits
+    may_begin (objects_grown p.0 es) p.0 p.1 kind name owner (ordered_grown es p.0 m.few c) b.known b.place b.garbage b.fits
 
 consistent_made : (es : List Entry) (kind : Kind) (name : List ℕ) (owner : Dbref) (n to : ℕ) → MayCreate es kind owner n to → IsConsistent es → IsConsistent (created n kind name owner to es)
 unfolding created
 consistent_made es kind name owner n to m c =
     let b : Begins es kind owner n to = begins es kind owner n to m in
-    let g : List Entry = grown n es in
+    let g : List Entry = objects_grown n es in
     let o : Object = new_object n kind name owner in
     let mid : List Entry = changed_at n (with_object o) g in
     let ordered : IsOrdered g = ordered_grown es n m.few c.ordered in

@@ -4,6 +4,7 @@ use Rattle.std.proofs.lemmas.Bool.{cases_eq, eqb-true, eq-eqb, ne_eqb, false≢t
 use Rattle.std.proofs.lemmas.Option.{slice_get-map, slice_get_past}
 use Rattle.std.specs.List.{slice_get}
 use Rattle.std.specs.Option.{option_map, option_and_then, option_map_or}
+use Rattle.muck_laws.proofs.Places.{read_mapped, read_more}
 use Rattle.spec_live.specs.declared.object.Object.{Object}
 use Rattle.spec_live.specs.declared.saving.Saving.{Saving}
 use Rattle.spec_live.specs.declared.saving.Saving.TheVariants.{Due}
@@ -12,8 +13,8 @@ use Rattle.spec_live.specs.Objects.{Entry, is_exit, object_in, list_in, kind_in,
 use Rattle.spec_live.specs.Making.{blank_entry}
 use Rattle.spec_live.specs.Moving.{left_out, put_first, with_place, set_down}
 use Rattle.spec_live.specs.Recycling.{gone_entry, is_exit_of, exit_gone, without_exits, exits_gone, vanished}
-use Rattle.spec_live.specs.Saving.{Links, saving_in, links_in, next_in, front, is_number, same_links, relinked, all_saving}
-use Rattle.spec_live.proofs.Lists.{read_mapped, get_changed_same, get_changed_other, read_more}
+use Rattle.spec_live.specs.Saving.{Links, saving_in, links_in, next_in, first_of_list, is_number, same_links, relinked, all_saving}
+use Rattle.spec_live.proofs.Lists.{get_changed_same, get_changed_other}
 use Rattle.spec_live.proofs.Savings.{object_relinked, list_relinked, saving_relinked, object_resaved, list_resaved}
 use Rattle.spec_live.proofs.Readers.{entry_change, kind_alike, place_alike}
 use Rattle.spec_live.proofs.RecyclingLaws.{is_exit_at}
@@ -102,7 +103,7 @@ saving_exits d k es = saving_kept d k without_exits (map (exit_gone d) es) (λ e
 
 pub saving_vanished : (es : List Entry) (d k : ℕ) → saving_in (vanished d es) k ≡ cond (eqb k d) Due (saving_in es k)
 unfolding vanished gone_entry
-saving_vanished es d k = saving_changed d k (λ e. gone_entry) (map (left_out d) es) (λ e. refl) ∙ ap (λ z. cond (eqb k d) Due z) (saving_left d k es)
+saving_vanished es d k = saving_changed d k gone_entry (map (left_out d) es) (λ e. refl) ∙ ap (λ z. cond (eqb k d) Due z) (saving_left d k es)
 
 -- Links.
 
@@ -111,8 +112,8 @@ pub links_alike : (es fs : List Entry) (k : ℕ) → object_in fs k ≡ object_i
 unfolding links_in next_in
 links_alike es fs k o l = rw (place_alike es fs k o, kind_alike es fs k o, l false k, l true k) (by_place (place_in es k))
   where
-    by_place : (p : Option ℕ) → ◌≡◌ {A = Links} (record { content = front (list_in false es k); exit = front (list_in true es k); next = option_and_then (λ p. follower k (list_in (is_exit (kind_in es k)) fs p)) p })
-        (record { content = front (list_in false es k); exit = front (list_in true es k); next = option_and_then (λ p. follower k (list_in (is_exit (kind_in es k)) es p)) p })
+    by_place : (p : Option ℕ) → ◌≡◌ {A = Links} (record { content = first_of_list (list_in false es k); exit = first_of_list (list_in true es k); next = option_and_then (λ p. follower k (list_in (is_exit (kind_in es k)) fs p)) p })
+        (record { content = first_of_list (list_in false es k); exit = first_of_list (list_in true es k); next = option_and_then (λ p. follower k (list_in (is_exit (kind_in es k)) es p)) p })
     by_place None = refl
     by_place (Some p) = rw (l (is_exit (kind_in es k)) p) refl
 

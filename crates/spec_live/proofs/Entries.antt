@@ -5,11 +5,13 @@ use Rattle.std.proofs.lemmas.Option.{slice_get-map}
 use Rattle.std.specs.List.{slice_get}
 use Rattle.std.specs.Prelude.{unwrap_or}
 use Rattle.std.specs.Option.{option_map, option_and_then}
+use Rattle.muck_laws.proofs.Mapped.{length_map}
+use Rattle.muck_laws.proofs.Places.{read_more}
 use Rattle.spec_live.specs.Objects.{Entry, mark_in, due, changed_at}
 use Rattle.spec_live.specs.Saving.{relinked}
 use Rattle.spec_live.specs.Making.{blank_entry}
 use Rattle.spec_live.proofs.Keeping.{Order, Path, along}
-use Rattle.spec_live.proofs.Lists.{length_map, length_changed, get_changed_same, get_changed_other, read_more}
+use Rattle.spec_live.proofs.Lists.{length_changed, get_changed_same, get_changed_other}
 use Rattle.spec_live.proofs.Savings.{due_where, links_differ, get_relinked, length_relinked}
 use Rattle.spec_live.proofs.Steps.{Lines, Gone, Told, May, Touch, lines, vanishes, tells, dues, Part, each, at, grows, Step, parts, settles, Walk}
 

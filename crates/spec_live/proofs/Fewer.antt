@@ -1,6 +1,6 @@
 -- What keeps a world in order where some objects become garbage, on which nothing else rests.
-use Rattle.std.proofs.Common.{◌≡◌, ℕ, ◌<◌, List, [], ◌∷◌, Option, Some, None, ◌⊎◌, inl, inr, refl, sym, ◌∙◌, ap, subst, length, arith, Bool, true, false}
-use Rattle.std.proofs.lemmas.Bool.{cases_lt, false≢true}
+use Rattle.std.proofs.Common.{◌≡◌, ℕ, ◌<◌, List, [], ◌∷◌, Option, Some, None, inl, inr, refl, sym, ◌∙◌, ap, subst, length, arith, Bool, true, false}
+use Rattle.std.proofs.lemmas.Bool.{cases_lt, false≢true, cases_Bool}
 use Rattle.muck_model.specs.declared.dbref.Kind.TheVariants.{Garbage, Player}
 use Rattle.spec_live.specs.declared.object.Object.{Object}
 use Rattle.spec_live.specs.Chain.{walk, IsChain, Ends, Member, IsApart}
@@ -33,13 +33,9 @@ pub record IsFewer (es fs : List Entry) (gone : ℕ → Bool) : Type 0 where
   pub once : (v : Bool) (p : ℕ) → IsApart (list_in v fs p)
   pub room : gone 0 ≡ false
 
-pub whether : (b : Bool) → (b ≡ true) ⊎ (b ≡ false)
-whether true = inl refl
-whether false = inr refl
-
 gone_place : (es fs : List Entry) (gone : ℕ → Bool) → IsFewer es fs gone → (k p : ℕ) → place_in fs k ≡ Some p → gone k ≡ false
 unfolding garbage
-gone_place es fs gone f k p h = elim (whether (gone k)) [
+gone_place es fs gone f k p h = elim (cases_Bool (gone k)) [
   | inl g ↦
       let o : (x : Object) × (object_in fs k ≡ Some x) = object_there fs k (place_known fs k p h) in
       absurd (cc (h, place_is fs k o.0 o.1, ap (λ (z : Object). index_of z.place) (f.left k o.0 g o.1)))
@@ -54,7 +50,7 @@ gone_kind es fs gone f k g = elim (cases_lt k (length fs)) [
 ]
 
 gone_not : (es fs : List Entry) (gone : ℕ → Bool) → IsFewer es fs gone → (y z : ℕ) → gone y ≡ false → place_in es y ≡ Some z → gone z ≡ false
-gone_not es fs gone f y z h e = elim (whether (gone z)) [ inl g ↦ absurd (false≢true (sym h ∙ f.within y z e g)) | inr g ↦ g ]
+gone_not es fs gone f y z h e = elim (cases_Bool (gone z)) [ inl g ↦ absurd (false≢true (sym h ∙ f.within y z e g)) | inr g ↦ g ]
 
 no_place_by : (es fs : List Entry) (gone : ℕ → Bool) → IsFewer es fs gone → (k : ℕ) → gone k ≡ true → (o : Option ℕ) → place_in fs k ≡ o → place_in fs k ≡ None
 no_place_by es fs gone f k g None e = e
@@ -62,7 +58,7 @@ no_place_by es fs gone f k g (Some p) e = absurd (false≢true (sym (gone_place 
 
 fewer_up : (es fs : List Entry) (gone : ℕ → Bool) → IsFewer es fs gone → IsOrdered es → (d : ℕ) → d < length fs → Ends (length fs) (place_in fs) (Some d)
 unfolding Ends
-fewer_up es fs gone f c d lt = elim (whether (gone d)) [
+fewer_up es fs gone f c d lt = elim (cases_Bool (gone d)) [
   | inl g ↦ up_alone fs d lt (no_place_by es fs gone f d g (place_in fs d) refl)
   | inr g ↦
       let xs : List ℕ = walk (length es) (place_in es) (Some d) in
@@ -100,7 +96,7 @@ pub record IsUnspoken (es : List Entry) (gone : ℕ → Bool) : Type 0 where
   pub home : (k n : ℕ) (o : Object) → object_in es k ≡ Some o → o.home ≡ dbref_of n → may_live o.kind (kind_in es n) ≡ true → gone n ≡ false
 
 placed_fewer : (es fs : List Entry) (gone : ℕ → Bool) → IsFewer es fs gone → IsPlaced es → IsPlaced fs
-placed_fewer es fs gone f h = λ d none. elim (whether (gone d)) [
+placed_fewer es fs gone f h = λ d none. elim (cases_Bool (gone d)) [
   | inl g ↦ inr (gone_kind es fs gone f d g)
   | inr g ↦ elim (h d (sym (place_alike es fs d (f.kept d g)) ∙ none)) [ inl q ↦ inl q | inr q ↦ inr (kind_alike es fs d (f.kept d g) ∙ q) ]
 ]
@@ -110,14 +106,14 @@ tidy_fewer es fs gone f u c =
     let kinds : (n : ℕ) → gone n ≡ false → kind_in fs n ≡ kind_in es n = λ n g. kind_alike es fs n (f.kept n g) in
     let first : kind_in fs 1 ≡ Player = kinds 1 (u.player 1 (ap (λ z. is_player z) c.first)) ∙ c.first in
     record {
-      tied = λ k o h. elim (whether (gone k)) [
+      tied = λ k o h. elim (cases_Bool (gone k)) [
         | inl g ↦ let P : Object → Type 0 = λ z. IsTied fs z in subst P (sym (f.left k o g h)) (garbage_tied fs first)
         | inr g ↦
             let was : object_in es k ≡ Some o = sym (f.kept k g) ∙ h in
             tied_alike es fs o o (record { kind = refl; owner = refl; link = refl; home = refl }) (λ n e t. ap (λ z. is_player z) (kinds n (u.player n t)) ∙ t) (λ n e t. ap (λ z. may_link o.kind z) (kinds n (u.link k n o was e t)) ∙ t)
             (λ n e t. ap (λ z. may_live o.kind z) (kinds n (u.home k n o was e t)) ∙ t) (c.tied k o was)
       ];
-      blank = λ k o h q. elim (whether (gone k)) [ inl g ↦ f.left k o g h | inr g ↦ c.blank k o (sym (f.kept k g) ∙ h) q ];
+      blank = λ k o h q. elim (cases_Bool (gone k)) [ inl g ↦ f.left k o g h | inr g ↦ c.blank k o (sym (f.kept k g) ∙ h) q ];
       first = first;
     }
 

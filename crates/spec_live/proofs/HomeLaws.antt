@@ -1,7 +1,10 @@
 -- Untying from an object, and sending home what it holds.
 use Rattle.std.proofs.Common.{◌≡◌, ℕ, ◌<◌, List, [], ◌∷◌, Option, Some, None, inl, inr, refl, sym, ◌∙◌, ap, subst, length, arith, Bool, true, false, cond, not}
+use Rattle.muck_laws.proofs.Mapped.{length_map}
+use Rattle.muck_laws.proofs.Numbers.{way_not_by}
+use Rattle.muck_laws.proofs.Places.{read_mapped}
 use Rattle.muck_model.proofs.Dbrefs.{eq_same, same_eq}
-use Rattle.std.proofs.lemmas.Bool.{cases_lt, false≢true, and_parts}
+use Rattle.std.proofs.lemmas.Bool.{cases_lt, false≢true, and_parts, not-true}
 use Rattle.std.proofs.lemmas.Option.{slice_get-map}
 use Rattle.std.specs.List.{slice_get}
 use Rattle.std.specs.Option.{option_map, option_and_then, option_map_or}
@@ -10,14 +13,14 @@ use Rattle.muck_model.specs.declared.dbref.Kind.{Kind}
 use Rattle.muck_model.specs.declared.dbref.Kind.TheVariants.{Room, Thing, Player, Program, Garbage}
 use Rattle.spec_live.specs.declared.object.Object.{Object}
 use Rattle.spec_live.specs.Flags.{no_flags}
-use Rattle.spec_live.specs.Chain.{Member, IsApart, has, without}
-use Rattle.spec_live.specs.Objects.{Entry, dbref_of, nothing, same, index_of, is_exit, is_player, is_garbage, may_stand, garbage, object_in, list_of, list_in, mark_in, kind_in, flags_in, place_in, owner_in, home_in, is_vehicle_in, fits_in, path_in}
+use Rattle.spec_live.specs.Chain.{Member, IsApart, has, without_number}
+use Rattle.spec_live.specs.Objects.{Entry, dbref_of, nothing, same, index_of, is_exit, is_player, is_garbage, may_stand, garbage, object_in, entry_list, list_in, mark_in, kind_in, flags_in, place_in, owner_in, home_in, is_vehicle_in, fits_in, places_from}
 use Rattle.spec_live.specs.Moving.{moved}
 use Rattle.spec_live.specs.Setting.{may_link, may_live}
 use Rattle.spec_live.specs.Recycling.{without_ties, untie, untied, wished_home, may_go, way_home, sent_home}
 use Rattle.spec_live.specs.Consistent.{HasLink, HasHome, IsTied, IsOrdered, IsConsistent, StandsIn, MayMove}
 use Rattle.spec_live.proofs.Chains.{member_later, member_none, without_first, apart_first}
-use Rattle.spec_live.proofs.Lists.{read_mapped, length_map, put_other, has_not}
+use Rattle.spec_live.proofs.Lists.{put_other, has_not}
 use Rattle.spec_live.proofs.KindLaws.{none_in_garbage, stands_still, stands_in_room, garbage_in_none}
 use Rattle.spec_live.proofs.Readers.{kind_past, list_moved, kind_moved, length_moved}
 use Rattle.spec_live.proofs.Orders.{ordered_alike, ordered_moved}
@@ -36,8 +39,8 @@ object_untied d k es = rw (slice_get-map (untie d) es k) (by_cases (slice_get es
 
 pub list_untied : (v : Bool) (d k : ℕ) (es : List Entry) → list_in v (untied d es) k ≡ list_in v es k
 unfolding list_in untied
-list_untied true d k es = read_mapped (λ o. option_map_or (list_of true) o []) (untie d) es k (λ e. refl)
-list_untied false d k es = read_mapped (λ o. option_map_or (list_of false) o []) (untie d) es k (λ e. refl)
+list_untied true d k es = read_mapped (λ o. option_map_or (entry_list true) o []) (untie d) es k (λ e. refl)
+list_untied false d k es = read_mapped (λ o. option_map_or (entry_list false) o []) (untie d) es k (λ e. refl)
 
 pub mark_untied : (d k : ℕ) (es : List Entry) → mark_in (untied d es) k ≡ mark_in es k
 unfolding mark_in untied
@@ -147,7 +150,7 @@ consistent_untied es d c = record {
 -- what it may be: a place where x may go
 pub record GoesTo (es : List Entry) (x to : ℕ) : Type 0 where
   pub fits : fits_in es x to ≡ true
-  pub free : Member x (path_in es to) → ⊥
+  pub free : Member x (places_from es to) → ⊥
 
 fit_known : (es : List Entry) (x p : ℕ) → fits_in es x p ≡ true → p < length es
 unfolding fits_in
@@ -173,8 +176,8 @@ zero_fits : (es : List Entry) (x : ℕ) (s : Bool) → kind_in es 0 ≡ Room →
 unfolding fits_in
 zero_fits es x s room h = rw room (room_fits (kind_in es x) s (is_vehicle_in es 0) h)
 
-zero_free : (es : List Entry) (x : ℕ) → IsOrdered es → 0 < length es → (x ≡ 0 → ⊥) → Member x (path_in es 0) → ⊥
-unfolding path_in
+zero_free : (es : List Entry) (x : ℕ) → IsOrdered es → 0 < length es → (x ≡ 0 → ⊥) → Member x (places_from es 0) → ⊥
+unfolding places_from
 zero_free es x c lt lower h =
     member_none (length es) (place_in es) None x refl (member_later (length es) (place_in es) (Some 0) None 0 x refl (sym c.top) (c.up 0 lt) (λ e. lower (sym e)) h)
 
@@ -183,15 +186,11 @@ goes_zero es x s c lower h =
     let fits : fits_in es x 0 ≡ true = zero_fits es x s c.room h in
     record { fits = fits; free = zero_free es x c (fit_known es x 0 fits) lower }
 
-not_true : (b : Bool) → not b ≡ true → b ≡ false
-not_true true h = absurd (false≢true h)
-not_true false h = refl
-
 goes_by : (es : List Entry) (x to : ℕ) → may_go x to es ≡ true → GoesTo es x to
 unfolding may_go
 goes_by es x to h =
-    let both : (fits_in es x to ≡ true) × (not (has x (path_in es to)) ≡ true) = and_parts (fits_in es x to) (not (has x (path_in es to))) h in
-    record { fits = both.0; free = has_not x (path_in es to) (not_true (has x (path_in es to)) both.1) }
+    let both : (fits_in es x to ≡ true) × (not (has x (places_from es to)) ≡ true) = and_parts (fits_in es x to) (not (has x (places_from es to))) h in
+    record { fits = both.0; free = has_not x (places_from es to) (not-true (has x (places_from es to)) both.1) }
 
 way_by : (es : List Entry) (x to : ℕ) (b : Bool) → may_go x to es ≡ b → GoesTo es x 0 → GoesTo es x (cond b to 0)
 way_by es x to true h zeroth = goes_by es x to h
@@ -227,10 +226,6 @@ wished_not es d x Thing u h = home_not es d x u h
 wished_not es d x Player u h = home_not es d x u h
 wished_not es d x k u h = absurd (cc (h))
 
-way_not_by : (d to : ℕ) (b : Bool) → (d ≡ 0 → ⊥) → (to ≡ d → ⊥) → cond b to 0 ≡ d → ⊥
-way_not_by d to true low ne h = ne h
-way_not_by d to false low ne h = low (sym h)
-
 way_not_from : (es : List Entry) (d x : ℕ) (o : Option ℕ) → (d ≡ 0 → ⊥) → (o ≡ Some d → ⊥) → option_map_or (λ to. cond (may_go x to es) to 0) o 0 ≡ d → ⊥
 way_not_from es d x None low ne h = low (sym h)
 way_not_from es d x (Some to) low ne h = way_not_by d to (may_go x to es) low (λ e. ne (ap (λ z. Some z) e)) h
@@ -263,8 +258,8 @@ pub rest_moved : (es : List Entry) (d x to : ℕ) (xs : List ℕ) → IsOrdered 
 rest_moved es d x to xs c e lt ne =
     let P : List ℕ → Type 0 = λ l. IsApart l in
     list_moved false es x to d lt
-    ∙ put_other (is_exit (kind_in es x)) to x false d (without x (list_in false es d)) (λ _ q. ne (sym q))
-    ∙ ap (λ l. without x l) e ∙ without_first x xs (apart_first x xs (subst P e (c.once false d)))
+    ∙ put_other (is_exit (kind_in es x)) to x false d (without_number x (list_in false es d)) (λ _ q. ne (sym q))
+    ∙ ap (λ l. without_number x l) e ∙ without_first x xs (apart_first x xs (subst P e (c.once false d)))
 
 sent_first : (es : List Entry) (x : ℕ) (xs : List ℕ) → sent_home (x ∷ xs) es ≡ sent_home xs (moved x (way_home x es) es)
 unfolding sent_home

@@ -1,6 +1,6 @@
 -- What is so between a world and what comes of it: a law for each way to put changes together, whatever the world is.
 use Rattle.std.proofs.Common.{◌≡◌, Bool, true, false, refl}
-use Rattle.spec_live.specs.Lives.{followed, reading, either, where_so, unchanged}
+use Rattle.spec_live.specs.Lives.{change_followed, reading, either, where_so, unchanged}
 
 -- R is so between each world and what f makes of it
 pub record Keeps {W Y : Type 0} (R : W → Y → Type 0) (f : W → Y) : Type 0 where
@@ -39,13 +39,13 @@ pub keeps_unchanged : {W : Type 0} {R : W → W → Type 0} → Order R → Keep
 unfolding unchanged
 keeps_unchanged o = record { law = o.itself }
 
-pub keeps_followed : {W : Type 0} {R : W → W → Type 0} (f g : W → W) → Order R → Keeps R f → Keeps R g → Keeps R (followed f g)
-unfolding followed
+pub keeps_followed : {W : Type 0} {R : W → W → Type 0} (f g : W → W) → Order R → Keeps R f → Keeps R g → Keeps R (change_followed f g)
+unfolding change_followed
 keeps_followed f g o p q = record { law = λ w. o.both w (f w) (g (f w)) (p.law w) (q.law (f w)) }
 
 -- f and g differ in what they keep
-pub keeps_after : {W Y : Type 0} {R : W → W → Type 0} {S T : W → Y → Type 0} (f : W → W) (g : W → Y) → ((w v : W) (y : Y) → R w v → S v y → T w y) → Keeps R f → Keeps S g → Keeps T (followed f g)
-unfolding followed
+pub keeps_after : {W Y : Type 0} {R : W → W → Type 0} {S T : W → Y → Type 0} (f : W → W) (g : W → Y) → ((w v : W) (y : Y) → R w v → S v y → T w y) → Keeps R f → Keeps S g → Keeps T (change_followed f g)
+unfolding change_followed
 keeps_after f g both p q = record { law = λ w. both w (f w) (g (f w)) (p.law w) (q.law (f w)) }
 
 pub keeps_more : {W Y : Type 0} {R S : W → Y → Type 0} (f : W → Y) → ((w : W) (y : Y) → R w y → S w y) → Keeps R f → Keeps S f

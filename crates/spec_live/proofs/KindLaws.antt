@@ -1,7 +1,8 @@
 -- What kinds allow. A rule of all kinds is proved by a test that computes.
-use Rattle.std.proofs.Common.{◌≡◌, refl, sym, ◌∙◌, Bool, true, false}
+use Rattle.std.proofs.Common.{◌≡◌, refl, sym, Bool, true, false}
 use Rattle.std.specs.Prelude.{not, ◌&&◌, ◌||◌}
-use Rattle.std.proofs.lemmas.Bool.{false≢true, and_parts, not-true}
+use Rattle.std.proofs.lemmas.Bool.{false≢true, and_parts}
+use Rattle.muck_laws.proofs.Truths.{excluded, never_not}
 use Rattle.muck_model.specs.declared.dbref.Kind.{Kind}
 use Rattle.muck_model.specs.declared.dbref.Kind.TheVariants.{Room, Thing, Exit, Player, Program, Garbage}
 use Rattle.spec_live.specs.Objects.{is_exit, is_player, is_garbage, may_stand}
@@ -24,24 +25,16 @@ kinds p h k =
 pairs : (p : Kind → Kind → Bool) → each_kind (λ k. each_kind (p k)) ≡ true → (k to : Kind) → p k to ≡ true
 pairs p h k to = kinds (p k) (kinds (λ x. each_kind (p x)) h k) to
 
-never : (b : Bool) → not b ≡ true → b ≡ true → ⊥
-never b e h = false≢true (sym (not-true b e) ∙ h)
-
--- not both
-excluded : (a b : Bool) → (not b || not a) ≡ true → a ≡ true → b ≡ false
-excluded a false e h = refl
-excluded a true e h = absurd (never a e h)
-
 -- Standing.
 
 pub none_in_garbage : (k : Kind) (s : Bool) → may_stand k Garbage s ≡ true → ⊥
-none_in_garbage k s = never (may_stand k Garbage s) (kinds (λ x. not (may_stand x Garbage s)) refl k)
+none_in_garbage k s = never_not (may_stand k Garbage s) (kinds (λ x. not (may_stand x Garbage s)) refl k)
 
 pub none_in_exit : (k : Kind) (s : Bool) → may_stand k Exit s ≡ true → ⊥
-none_in_exit k s = never (may_stand k Exit s) (kinds (λ x. not (may_stand x Exit s)) refl k)
+none_in_exit k s = never_not (may_stand k Exit s) (kinds (λ x. not (may_stand x Exit s)) refl k)
 
 pub garbage_in_none : (k : Kind) (s : Bool) → may_stand Garbage k s ≡ true → ⊥
-garbage_in_none k s = never (may_stand Garbage k s) (kinds (λ x. not (may_stand Garbage x s)) refl k)
+garbage_in_none k s = never_not (may_stand Garbage k s) (kinds (λ x. not (may_stand Garbage x s)) refl k)
 
 -- a player's seat is wanted only in a thing
 pub stands_still : (k p : Kind) (s t : Bool) → (k ≡ Player → p ≡ Thing → s ≡ true → t ≡ true) → may_stand k p s ≡ true → may_stand k p t ≡ true

@@ -19,6 +19,7 @@ pub mod Walks
 pub mod Entries
 pub mod Marking
 pub mod Lives
+pub mod Tracing
 pub mod Resaved
 pub mod Standing
 pub mod EditorLaws

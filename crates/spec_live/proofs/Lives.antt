@@ -6,11 +6,11 @@ use Rattle.muck_model.specs.declared.tune.Tune.{Tune}
 use Rattle.spec_live.specs.Objects.{Entry}
 use Rattle.spec_live.specs.Saving.{Marked}
 use Rattle.spec_live.specs.Output.{no_output}
-use Rattle.spec_live.specs.Connections.{Connection, has_number, changed_in, left_where}
-use Rattle.spec_live.specs.Boards.{Board, on_connections, opened, closed, leaving_one, seated_one, tuned}
+use Rattle.spec_live.specs.Connections.{Connection, is_connection, changed_in, left_where}
+use Rattle.spec_live.specs.Boards.{Board, on_connections, connection_opened, connection_closed, leaving_one, seated_one, tuned}
 use Rattle.spec_live.specs.Lives.{Live, Change, unchanged}
 use Rattle.spec_live.proofs.Keeping.{Keeps, Order, Path, one, goes, stays, along, path_order, keeps_more, keeps_unchanged}
-use Rattle.spec_live.proofs.Steps.{Name, Begun, Shown, Heard, Came, Leaving, Seated, Tuned, May, Touch, sets, lines, makes, unties, vanishes, lists, dues, tells, resaves, begins, Touches, Part, each, at, grows, Step, parts, settles, Walk}
+use Rattle.spec_live.proofs.Steps.{Name, Begun, Shown, Heard, Came, Leaving, Seated, Tuned, May, Touch, sets, lines, makes, unties, vanishes, lists, dues, tells, resaves, begins, stills, Touches, Part, each, at, grows, Step, parts, settles, Walk}
 use Rattle.spec_live.proofs.Entries.{NoFewer, fewer_order, fewer_walk}
 use Rattle.spec_live.proofs.Marking.{marked_order, marked_walk}
 
@@ -19,7 +19,7 @@ use Rattle.spec_live.proofs.Marking.{marked_order, marked_walk}
 pub viewed_one : {X : Type 0} (view : Connection → X) (d : ℕ) (f : Connection → Connection) → ((c : Connection) → view (f c) ≡ view c) → (cs : List Connection) → map view (changed_in d f cs) ≡ map view cs
 viewed_one view d f keeps [] = refl
 viewed_one view d f keeps (c ∷ cs) =
-    elim (has_number d c) as (λ b. map view (cond b (f c ∷ cs) (c ∷ changed_in d f cs)) ≡ map view (c ∷ cs)) [
+    elim (is_connection d c) as (λ b. map view (cond b (f c ∷ cs) (c ∷ changed_in d f cs)) ≡ map view (c ∷ cs)) [
       | true ↦ ap (λ x. x ∷ map view cs) (keeps c)
       | false ↦ ap (λ xs. view c ∷ xs) (viewed_one view d f keeps cs)
     ]
@@ -92,8 +92,8 @@ pub loose_quiet : (f : Change) → Quiet f → Loose f
 loose_quiet f q = keeps_more f readies q
 
 pub data BoardStep (may : May) : Board → Board → Type 0 where
-  opens : (d : ℕ) (greeting : List ℕ) (b : Board) → may Came ≡ true → BoardStep may b (opened d greeting b)
-  closes : (d : ℕ) (b : Board) → may Came ≡ true → BoardStep may b (closed d b)
+  opens : (d : ℕ) (greeting : List ℕ) (b : Board) → may Came ≡ true → BoardStep may b (connection_opened d greeting b)
+  closes : (d : ℕ) (b : Board) → may Came ≡ true → BoardStep may b (connection_closed d b)
   leaves_one : (d : ℕ) (b : Board) → may Leaving ≡ true → BoardStep may b (leaving_one d b)
   leaves : (test : Connection → Bool) (b : Board) → may Leaving ≡ true → BoardStep may b (on_connections (left_where test) b)
   seats : (d : ℕ) (player : Dbref) (b : Board) → may Seated ≡ true → BoardStep may b (seated_one d player b)
@@ -154,6 +154,7 @@ module _ (m n : May) (up : (name : Name) → m name ≡ true → n name ≡ true
   wider_touch b _ _ (tells e h) = one (tells e (up _ h))
   wider_touch b _ _ (resaves f e h s) = one (resaves f e (up _ h) s)
   wider_touch b _ _ (begins e h) = one (begins e (up _ h))
+  wider_touch b _ _ (stills e h) = one (stills e (up _ h))
 
   wider_part : (b : Bool) (es fs : List Entry) → Part m b es fs → Path (Part n b) es fs
   wider_part b _ _ (each f es t) = one (each f es (λ e. along (path_order (Touch n b)) (wider_touch b) e (f e) (t e)))

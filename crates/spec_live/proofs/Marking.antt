@@ -5,14 +5,14 @@ use Rattle.std.specs.List.{slice_get}
 use Rattle.std.specs.Option.{option_map, option_map_or}
 use Rattle.spec_live.specs.declared.saving.Saving.{Saving}
 use Rattle.spec_live.specs.declared.saving.Saving.TheVariants.{Due}
-use Rattle.spec_live.specs.Objects.{Entry, dbref_of, same, object_in, list_of, list_in}
+use Rattle.spec_live.specs.Objects.{Entry, dbref_of, same, object_in, entry_list, list_in}
 use Rattle.spec_live.specs.Saving.{saving_in, is_due, Links, links_in, same_links, IsAsBefore, Marked}
 use Rattle.spec_live.specs.Making.{blank_entry}
-use Rattle.spec_live.specs.Recycling.{without_ties, is_tied, gone_entry}
+use Rattle.spec_live.specs.Recycling.{without_ties, is_tied_to_number, gone_entry}
 use Rattle.spec_live.proofs.Keeping.{Order, along}
 use Rattle.spec_live.proofs.Savings.{object_relinked, saving_relinked}
 use Rattle.spec_live.proofs.Dues.{links_alike, links_relinked, same_equal}
-use Rattle.spec_live.proofs.Steps.{Begun, May, Touch, unties, vanishes, lists, tells, resaves, begins, Step, parts, settles, Walk}
+use Rattle.spec_live.proofs.Steps.{Begun, May, Touch, unties, vanishes, lists, tells, resaves, begins, stills, Step, parts, settles, Walk}
 use Rattle.spec_live.proofs.Entries.{seen, Each, Holds, each_parts}
 
 pub marked_itself : (es : List Entry) → Marked es es
@@ -45,22 +45,23 @@ entry_order = record {
   both = λ e f g p q early. let b : HasEntry f g = q early in let a : HasEntry e f = p b.early in record { early = a.early; object = b.object ∙ a.object };
 }
 
-untied_by : (d : ℕ) (e : Entry) (b : Bool) → is_tied d e.object ≡ b → is_due (cond b Due e.saving) ≡ false → (is_due e.saving ≡ false) × (without_ties d e.object ≡ e.object)
+untied_by : (d : ℕ) (e : Entry) (b : Bool) → is_tied_to_number d e.object ≡ b → is_due (cond b Due e.saving) ≡ false → (is_due e.saving ≡ false) × (without_ties d e.object ≡ e.object)
 untied_by d e true h early = absurd (false≢true (sym early))
 untied_by d e false h early = let both : (same e.object.home (dbref_of d) ≡ false) × (same e.object.link (dbref_of d) ≡ false) = or_parts _ _ h in (early, rw (both.0, both.1) refl)
 
 entry_touch : (may : May) → may Begun ≡ false → Holds may KeepsEntry
 unfolding gone_entry
-entry_touch may n b _ _ (unties d e h) early = let u = untied_by d e (is_tied d e.object) refl early in record { early = u.0; object = u.1 }
+entry_touch may n b _ _ (unties d e h) early = let u = untied_by d e (is_tied_to_number d e.object) refl early in record { early = u.0; object = u.1 }
 entry_touch may n b _ _ (lists cs xs e h) early = record { early = early; object = refl }
 entry_touch may n b _ _ (tells e h) early = record { early = early; object = refl }
 entry_touch may n b _ _ (resaves f e h s) early = record { early = s e.saving early; object = refl }
 entry_touch may n b _ _ (begins e h) early = absurd (false≢true (sym n ∙ h))
+entry_touch may n b _ _ (stills e h) early = record { early = early; object = refl }
 entry_touch may n b _ _ touch early = absurd (false≢true (sym early))
 
 -- its lists, where none is written
 abbrev SameLists : Entry → Entry → Type 0
-SameLists e g = (v : Bool) → list_of v g ≡ list_of v e
+SameLists e g = (v : Bool) → entry_list v g ≡ entry_list v e
 
 lists_order : Order SameLists
 lists_order = record { itself = λ e v. refl; both = λ e f g p q v. q v ∙ p v }
@@ -81,7 +82,7 @@ unfolding blank_entry
 saving_seen None = refl
 saving_seen (Some e) = refl
 
-list_seen : (v : Bool) (o : Option Entry) → option_map_or (list_of v) o [] ≡ list_of v (seen o)
+list_seen : (v : Bool) (o : Option Entry) → option_map_or (entry_list v) o [] ≡ entry_list v (seen o)
 unfolding blank_entry
 list_seen true None = refl
 list_seen false None = refl

@@ -5,8 +5,8 @@ use Rattle.std.proofs.lemmas.Map.Steps.{length-le_from_distinct_below}
 use Rattle.muck_model.specs.declared.dbref.Kind.{Kind}
 use Rattle.muck_model.specs.declared.dbref.Kind.TheVariants.{Garbage}
 use Rattle.spec_live.specs.declared.object.Object.{Object}
-use Rattle.spec_live.specs.Chain.{walk, IsChain, Ends, Member, IsApart, without}
-use Rattle.spec_live.specs.Objects.{Entry, is_exit, may_stand, list_in, place_in, kind_in, is_vehicle_in, fits_in, path_in, changed_at, on_object}
+use Rattle.spec_live.specs.Chain.{walk, IsChain, Ends, Member, IsApart, without_number}
+use Rattle.spec_live.specs.Objects.{Entry, is_exit, may_stand, list_in, place_in, kind_in, is_vehicle_in, fits_in, places_from, changed_at, on_object}
 use Rattle.spec_live.specs.Moving.{moved}
 use Rattle.spec_live.specs.Consistent.{StandsIn, IsOrdered, IsPlaced, MayMove}
 use Rattle.spec_live.proofs.Chains.{chain_frame, ends_from, member_any, apart_distinct, without_gone, without_member, member_without}
@@ -107,7 +107,7 @@ chain_redirect n f g d t ts above free here others s (x ∷ xs) h = elim (cases_
 ]
 
 up_moved : (es : List Entry) (d to : ℕ) → MayMove es d to → IsOrdered es → (x : ℕ) → x < length (moved d to es) → Ends (length (moved d to es)) (place_in (moved d to es)) (Some x)
-unfolding Ends path_in
+unfolding Ends places_from
 up_moved es d to may c x lt =
     let n : ℕ = length es in
     let k : (ys : List ℕ) × IsChain n (place_in (moved d to es)) (Some x) ys =
@@ -122,13 +122,13 @@ ordered_moved es d to may c =
     let new : List Entry = moved d to es in
     record {
       stands = λ v p x m.
-          elim (put_member w to d v p x (without d (list_in v es p)) (rw (list_moved v es d to p may.place) at m)) [
+          elim (put_member w to d v p x (without_number d (list_in v es p)) (rw (list_moved v es d to p may.place) at m)) [
             | inl q ↦ record {
               place = ap (λ z. place_in new z) q.0 ∙ place_moved es d to may.known ∙ ap (λ z. Some z) (sym q.2);
               kind = ap (λ z. is_exit z) (kind_moved es d to x) ∙ ap (λ z. is_exit (kind_in es z)) q.0 ∙ sym q.1;
             }
             | inr q ↦
-                let other : x ≡ d → ⊥ = λ e. without_gone d (list_in v es p) (let M : ℕ → Type 0 = λ z. Member z (without d (list_in v es p)) in subst M e q) in
+                let other : x ≡ d → ⊥ = λ e. without_gone d (list_in v es p) (let M : ℕ → Type 0 = λ z. Member z (without_number d (list_in v es p)) in subst M e q) in
                 let s : StandsIn es v p x = c.stands v p x (without_member d x (list_in v es p) q) in
                 record { place = place_unmoved es d to x other ∙ s.place; kind = ap (λ z. is_exit z) (kind_moved es d to x) ∙ s.kind }
           ];
@@ -136,12 +136,12 @@ ordered_moved es d to may c =
         | inl e ↦
             let at_to : p ≡ to = cc (s.place, ap (λ z. place_in new z) e, place_moved es d to may.known) in
             let kind : v ≡ w = sym s.kind ∙ ap (λ z. is_exit z) (kind_moved es d to x) ∙ ap (λ z. is_exit (kind_in es z)) e in
-            rw e (front_member w to d v p (without d (list_in v es p)) kind at_to)
+            rw e (front_member w to d v p (without_number d (list_in v es p)) kind at_to)
         | inr e ↦
-            member_put w to d v p x (without d (list_in v es p)) (member_without d x (list_in v es p) e
+            member_put w to d v p x (without_number d (list_in v es p)) (member_without d x (list_in v es p) e
             (c.listed v p x (record { place = sym (place_unmoved es d to x e) ∙ s.place; kind = ap (λ z. is_exit z) (sym (kind_moved es d to x)) ∙ s.kind })))
       ]);
-      once = λ v p. rw (list_moved v es d to p may.place) (apart_put w to d v p (without d (list_in v es p)) (without_gone d (list_in v es p)) (apart_without d (list_in v es p) (c.once v p)));
+      once = λ v p. rw (list_moved v es d to p may.place) (apart_put w to d v p (without_number d (list_in v es p)) (without_gone d (list_in v es p)) (apart_without d (list_in v es p) (c.once v p)));
       up = up_moved es d to may c;
       kinds = λ x p h. rw (fits_moved es d to x p) (elim (cases_eq x d) [
         | inl e ↦

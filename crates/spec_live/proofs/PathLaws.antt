@@ -7,6 +7,7 @@ use Rattle.std.proofs.lemmas.Bool.{le-leb, ne_eqb}
 use Rattle.std.proofs.lemmas.Bool.Decides.{nat_tests}
 use Rattle.std.proofs.lemmas.List.{length-map}
 use Rattle.std.proofs.lemmas.List.Recursion.{is_count_by}
+use Rattle.muck_laws.proofs.Texts.{behind_onto}
 use Rattle.muck_prop.specs.declared.path.PropFault.TheVariants.{BadPath, TooDeep}
 use Rattle.muck_prop.specs.Paths.{is_slash, is_filled, segments_of, path_text, path_fault}
 use Rattle.muck_lock.specs.Paths.{segments_from, segments_in, is_in_segment, is_barred, is_path}
@@ -15,10 +16,6 @@ abbrev parts : List ℕ → List (List ℕ)
 parts bytes = slice_split is_slash bytes
 
 -- How many segments there are.
-
-rest_same : (b : ℕ) (ps : List (List ℕ)) → drop 1 (onto_first b ps) ≡ drop 1 ps
-rest_same b [] = refl
-rest_same b (p ∷ ps) = refl
 
 first_counts : (b : ℕ) (ps : List (List ℕ)) → length (filter is_filled (onto_first b ps)) ≡ 1 + length (filter is_filled (drop 1 ps))
 first_counts b [] = refl
@@ -32,7 +29,7 @@ counted (b ∷ bytes) = at (b == 47) (counted bytes)
         (cond t (segments_from false bytes) (1 + segments_from true bytes) ≡ length (filter is_filled (cond t ([] ∷ parts bytes) (onto_first b (parts bytes)))))
         × (cond t (segments_from false bytes) (0 + segments_from true bytes) ≡ length (filter is_filled (drop 1 (cond t ([] ∷ parts bytes) (onto_first b (parts bytes))))))
     at true h = (h.0, h.0)
-    at false h = (omega (arith, h.1, first_counts b (parts bytes)), omega (arith, h.1, ap (λ ps. length (filter is_filled ps)) (rest_same b (parts bytes))))
+    at false h = (omega (arith, h.1, first_counts b (parts bytes)), omega (arith, h.1, ap (λ ps. length (filter is_filled ps)) (behind_onto b (parts bytes))))
 
 -- How many bytes they have.
 

@@ -4,6 +4,10 @@ use Rattle.std.proofs.lemmas.Bool.{cases_eq, cases_lt, false≢true}
 use Rattle.std.proofs.lemmas.Option.{slice_get-map, slice_get_past}
 use Rattle.std.specs.List.{slice_get}
 use Rattle.std.specs.Option.{option_map, option_and_then, option_map_or}
+use Rattle.muck_laws.proofs.Mapped.{length_map}
+use Rattle.muck_laws.proofs.Numbers.{same_place}
+use Rattle.muck_laws.proofs.Places.{read_mapped, some_at}
+use Rattle.muck_model.specs.declared.dbref.Dbref.{Dbref}
 use Rattle.muck_model.specs.declared.dbref.Flags.{Flags}
 use Rattle.muck_model.specs.declared.dbref.Kind.{Kind}
 use Rattle.muck_model.specs.declared.dbref.Kind.TheVariants.{Garbage}
@@ -11,38 +15,40 @@ use Rattle.spec_live.specs.declared.object.Object.{Object}
 use Rattle.spec_live.specs.declared.mark.Mark.{Mark}
 use Rattle.spec_live.specs.declared.saving.Saving.{Saving}
 use Rattle.spec_live.specs.declared.saving.Saving.TheVariants.{Due}
-use Rattle.spec_live.specs.Chain.{without, put_at}
+use Rattle.spec_live.specs.Chain.{without_number, put_at}
 use Rattle.spec_live.specs.Flags.{no_flags}
-use Rattle.spec_live.specs.Objects.{Entry, index_of, object_in, list_of, list_in, mark_in, kind_in, flags_in, place_in, fits_in, is_vehicle_in, is_exit, changed_at, on_object, with_object}
+use Rattle.spec_live.specs.Objects.{Entry, index_of, object_in, entry_list, list_in, mark_in, kind_in, flags_in, place_in, fits_in, is_vehicle_in, is_exit, changed_at, on_object, with_object}
 use Rattle.spec_live.specs.Moving.{left_out, put_first, with_place, set_down, moved}
 use Rattle.spec_live.specs.Saving.{saving_in}
-use Rattle.spec_live.proofs.Lists.{length_map, read_mapped, get_changed_same, get_changed_other, length_changed, some_at, same_place, put_same, put_other}
+use Rattle.spec_live.specs.Stood.{stood_in}
+use Rattle.spec_live.proofs.Lists.{get_changed_same, get_changed_other, length_changed, put_same, put_other}
 use Rattle.spec_live.proofs.Savings.{length_relinked, object_relinked, list_relinked, mark_relinked}
 
 -- Two lists of entries that every reader sees alike.
 
-entry_same : (a b : Entry) → a.object ≡ b.object → a.contents ≡ b.contents → a.exits ≡ b.exits → a.mark ≡ b.mark → a.saving ≡ b.saving → a ≡ b
-entry_same a b o c x m s =
-    let make : Object → List ℕ → List ℕ → Option Mark → Saving → Entry = λ o c x m s. record { object = o; contents = c; exits = x; mark = m; saving = s } in
-    ap (λ t. make t a.contents a.exits a.mark a.saving) o ∙ ap (λ t. make b.object t a.exits a.mark a.saving) c ∙ ap (λ t. make b.object b.contents t a.mark a.saving) x
-    ∙ ap (λ t. make b.object b.contents b.exits t a.saving) m ∙ ap (λ t. make b.object b.contents b.exits b.mark t) s
+entry_same : (a b : Entry) → a.object ≡ b.object → a.contents ≡ b.contents → a.exits ≡ b.exits → a.mark ≡ b.mark → a.saving ≡ b.saving → a.stood ≡ b.stood → a ≡ b
+entry_same a b o c x m s t =
+    let make : Object → List ℕ → List ℕ → Option Mark → Saving → Option Dbref → Entry = λ o c x m s t. record { object = o; contents = c; exits = x; mark = m; saving = s; stood = t } in
+    ap (λ z. make z a.contents a.exits a.mark a.saving a.stood) o ∙ ap (λ z. make b.object z a.exits a.mark a.saving a.stood) c ∙ ap (λ z. make b.object b.contents z a.mark a.saving a.stood) x
+    ∙ ap (λ z. make b.object b.contents b.exits z a.saving a.stood) m ∙ ap (λ z. make b.object b.contents b.exits b.mark z a.stood) s ∙ ap (λ z. make b.object b.contents b.exits b.mark b.saving z) t
 
 list_ext : (es fs : List Entry) → length es ≡ length fs → ((k : ℕ) → option_map (λ (e : Entry). e.object) (slice_get es k) ≡ option_map (λ (e : Entry). e.object) (slice_get fs k))
-    → ((v : Bool) (k : ℕ) → option_map_or (list_of v) (slice_get es k) [] ≡ option_map_or (list_of v) (slice_get fs k) [])
+    → ((v : Bool) (k : ℕ) → option_map_or (entry_list v) (slice_get es k) [] ≡ option_map_or (entry_list v) (slice_get fs k) [])
     → ((k : ℕ) → option_and_then (λ (e : Entry). e.mark) (slice_get es k) ≡ option_and_then (λ (e : Entry). e.mark) (slice_get fs k))
-    → ((k : ℕ) → option_map_or (λ (e : Entry). e.saving) (slice_get es k) Due ≡ option_map_or (λ (e : Entry). e.saving) (slice_get fs k) Due) → es ≡ fs
-list_ext [] [] n o l m s = refl
-list_ext [] (f ∷ fs) n o l m s = absurd (omega arith)
-list_ext (e ∷ es) [] n o l m s = absurd (omega arith)
-list_ext (e ∷ es) (f ∷ fs) n o l m s =
-    let head : e ≡ f = entry_same e f (cc (o 0)) (l false 0) (l true 0) (m 0) (s 0) in
-    let rest : es ≡ fs = list_ext es fs (omega arith) (λ k. o (suc k)) (λ v k. l v (suc k)) (λ k. m (suc k)) (λ k. s (suc k)) in
+    → ((k : ℕ) → option_map_or (λ (e : Entry). e.saving) (slice_get es k) Due ≡ option_map_or (λ (e : Entry). e.saving) (slice_get fs k) Due)
+    → ((k : ℕ) → option_and_then (λ (e : Entry). e.stood) (slice_get es k) ≡ option_and_then (λ (e : Entry). e.stood) (slice_get fs k)) → es ≡ fs
+list_ext [] [] n o l m s t = refl
+list_ext [] (f ∷ fs) n o l m s t = absurd (omega arith)
+list_ext (e ∷ es) [] n o l m s t = absurd (omega arith)
+list_ext (e ∷ es) (f ∷ fs) n o l m s t =
+    let head : e ≡ f = entry_same e f (cc (o 0)) (l false 0) (l true 0) (m 0) (s 0) (t 0) in
+    let rest : es ≡ fs = list_ext es fs (omega arith) (λ k. o (suc k)) (λ v k. l v (suc k)) (λ k. m (suc k)) (λ k. s (suc k)) (λ k. t (suc k)) in
     cc
 
 pub entries_ext : (es fs : List Entry) → length es ≡ length fs → ((k : ℕ) → object_in es k ≡ object_in fs k) → ((v : Bool) (k : ℕ) → list_in v es k ≡ list_in v fs k)
-    → ((k : ℕ) → mark_in es k ≡ mark_in fs k) → ((k : ℕ) → saving_in es k ≡ saving_in fs k) → es ≡ fs
-unfolding object_in list_in mark_in saving_in
-entries_ext es fs n o l m s = list_ext es fs n o l m s
+    → ((k : ℕ) → mark_in es k ≡ mark_in fs k) → ((k : ℕ) → saving_in es k ≡ saving_in fs k) → ((k : ℕ) → stood_in es k ≡ stood_in fs k) → es ≡ fs
+unfolding object_in list_in mark_in saving_in stood_in
+entries_ext es fs n o l m s t = list_ext es fs n o l m s t
 
 -- What isn't there.
 
@@ -117,9 +123,9 @@ pub object_change : (n k : ℕ) (f : Entry → Entry) (es : List Entry) → ((e 
 unfolding object_in
 object_change n k f es h = entry_change (λ o. option_map (λ (e : Entry). e.object) o) n k f es (λ e. ap Some (h e))
 
-pub list_change : (v : Bool) (n k : ℕ) (f : Entry → Entry) (es : List Entry) → ((e : Entry) → list_of v (f e) ≡ list_of v e) → list_in v (changed_at n f es) k ≡ list_in v es k
+pub list_change : (v : Bool) (n k : ℕ) (f : Entry → Entry) (es : List Entry) → ((e : Entry) → entry_list v (f e) ≡ entry_list v e) → list_in v (changed_at n f es) k ≡ list_in v es k
 unfolding list_in
-list_change v n k f es h = entry_change (λ o. option_map_or (list_of v) o []) n k f es h
+list_change v n k f es h = entry_change (λ o. option_map_or (entry_list v) o []) n k f es h
 
 pub mark_change : (n k : ℕ) (f : Entry → Entry) (es : List Entry) → ((e : Entry) → (f e).mark ≡ e.mark) → mark_in (changed_at n f es) k ≡ mark_in es k
 unfolding mark_in
@@ -150,7 +156,7 @@ object_changed n f es = rw (get_changed_same es n (on_object f)) (by_cases (slic
 pub object_unchanged : (n k : ℕ) (f : Object → Object) (es : List Entry) → (k ≡ n → ⊥) → object_in (changed_at n (on_object f) es) k ≡ object_in es k
 object_unchanged n k f es ne = object_elsewhere n k (on_object f) es ne
 
-on_object_list : (v : Bool) (f : Object → Object) (e : Entry) → list_of v (on_object f e) ≡ list_of v e
+on_object_list : (v : Bool) (f : Object → Object) (e : Entry) → entry_list v (on_object f e) ≡ entry_list v e
 on_object_list true f e = refl
 on_object_list false f e = refl
 
@@ -201,7 +207,7 @@ object_named n o es lt = let s : (x : Entry) × (slice_get es n ≡ Some x) = so
 pub object_unnamed : (n k : ℕ) (o : Object) (es : List Entry) → (k ≡ n → ⊥) → object_in (changed_at n (with_object o) es) k ≡ object_in es k
 object_unnamed n k o es ne = object_elsewhere n k (with_object o) es ne
 
-with_object_list : (v : Bool) (o : Object) (e : Entry) → list_of v (with_object o e) ≡ list_of v e
+with_object_list : (v : Bool) (o : Object) (e : Entry) → entry_list v (with_object o e) ≡ entry_list v e
 with_object_list true o e = refl
 with_object_list false o e = refl
 
@@ -217,11 +223,11 @@ pub object_left : (d k : ℕ) (es : List Entry) → object_in (map (left_out d) 
 unfolding object_in
 object_left d k es = read_mapped (λ o. option_map (λ (e : Entry). e.object) o) (left_out d) es k (λ e. refl)
 
-pub list_left : (v : Bool) (d k : ℕ) (es : List Entry) → list_in v (map (left_out d) es) k ≡ without d (list_in v es k)
-unfolding list_in without
+pub list_left : (v : Bool) (d k : ℕ) (es : List Entry) → list_in v (map (left_out d) es) k ≡ without_number d (list_in v es k)
+unfolding list_in without_number
 list_left v d k es = rw (slice_get-map (left_out d) es k) (by_cases v (slice_get es k))
   where
-    by_cases : (v : Bool) (o : Option Entry) → option_map_or (list_of v) (option_map (left_out d) o) [] ≡ without d (option_map_or (list_of v) o [])
+    by_cases : (v : Bool) (o : Option Entry) → option_map_or (entry_list v) (option_map (left_out d) o) [] ≡ without_number d (option_map_or (entry_list v) o [])
     by_cases v None = refl
     by_cases true (Some e) = refl
     by_cases false (Some e) = refl
@@ -240,13 +246,13 @@ put_mark : (w : Bool) (d : ℕ) (e : Entry) → (put_first w d e).mark ≡ e.mar
 put_mark true d e = refl
 put_mark false d e = refl
 
-put_list_same : (w v : Bool) (d : ℕ) (e : Entry) → v ≡ w → list_of v (put_first w d e) ≡ d ∷ list_of v e
+put_list_same : (w v : Bool) (d : ℕ) (e : Entry) → v ≡ w → entry_list v (put_first w d e) ≡ d ∷ entry_list v e
 put_list_same true true d e h = refl
 put_list_same false false d e h = refl
 put_list_same true false d e h = absurd (false≢true h)
 put_list_same false true d e h = absurd (false≢true (sym h))
 
-put_list_other : (w v : Bool) (d : ℕ) (e : Entry) → (v ≡ w → ⊥) → list_of v (put_first w d e) ≡ list_of v e
+put_list_other : (w v : Bool) (d : ℕ) (e : Entry) → (v ≡ w → ⊥) → entry_list v (put_first w d e) ≡ entry_list v e
 put_list_other true true d e h = absurd (h refl)
 put_list_other false false d e h = absurd (h refl)
 put_list_other true false d e h = refl
@@ -257,14 +263,14 @@ unfolding list_in
 list_put w v d to k es lt = elim (same_place v w k to) [
   | inl q ↦
       let s : (x : Entry) × (slice_get es to ≡ Some x) = some_at es to lt in
-      rw (put_same w to d v k (option_map_or (list_of v) (slice_get es k) []) q.0 q.1, q.1, get_changed_same es to (put_first w d), s.1) (put_list_same w v d s.0 q.0)
-  | inr q ↦ rw (put_other w to d v k (option_map_or (list_of v) (slice_get es k) []) q) (elim (cases_eq k to) [
+      rw (put_same w to d v k (option_map_or (entry_list v) (slice_get es k) []) q.0 q.1, q.1, get_changed_same es to (put_first w d), s.1) (put_list_same w v d s.0 q.0)
+  | inr q ↦ rw (put_other w to d v k (option_map_or (entry_list v) (slice_get es k) []) q) (elim (cases_eq k to) [
     | inl e ↦ rw (e, get_changed_same es to (put_first w d)) (by_cases (λ s. q s e) (slice_get es to))
     | inr e ↦ rw (get_changed_other es to k (put_first w d) e) refl
   ])
 ]
   where
-    by_cases : (v ≡ w → ⊥) → (o : Option Entry) → option_map_or (list_of v) (option_map (put_first w d) o) [] ≡ option_map_or (list_of v) o []
+    by_cases : (v ≡ w → ⊥) → (o : Option Entry) → option_map_or (entry_list v) (option_map (put_first w d) o) [] ≡ option_map_or (entry_list v) o []
     by_cases h None = refl
     by_cases h (Some e) = put_list_other w v d e h
 
@@ -274,7 +280,7 @@ pub length_down : (es : List Entry) (d to : ℕ) → length (set_down d to es) �
 unfolding set_down
 length_down es d to = length_changed (changed_at to (put_first (is_exit (kind_in es d)) d) (map (left_out d) es)) d (on_object (with_place to)) ∙ length_changed (map (left_out d) es) to (put_first (is_exit (kind_in es d)) d) ∙ length_map (left_out d) es
 
-pub list_down : (v : Bool) (es : List Entry) (d to k : ℕ) → to < length es → list_in v (set_down d to es) k ≡ put_at (is_exit (kind_in es d)) to d v k (without d (list_in v es k))
+pub list_down : (v : Bool) (es : List Entry) (d to k : ℕ) → to < length es → list_in v (set_down d to es) k ≡ put_at (is_exit (kind_in es d)) to d v k (without_number d (list_in v es k))
 unfolding set_down
 list_down v es d to k lt =
     let m : List Entry = map (left_out d) es in
@@ -307,7 +313,7 @@ pub length_moved : (es : List Entry) (d to : ℕ) → length (moved d to es) ≡
 unfolding moved
 length_moved es d to = length_relinked es (set_down d to es) ∙ length_down es d to
 
-pub list_moved : (v : Bool) (es : List Entry) (d to k : ℕ) → to < length es → list_in v (moved d to es) k ≡ put_at (is_exit (kind_in es d)) to d v k (without d (list_in v es k))
+pub list_moved : (v : Bool) (es : List Entry) (d to k : ℕ) → to < length es → list_in v (moved d to es) k ≡ put_at (is_exit (kind_in es d)) to d v k (without_number d (list_in v es k))
 unfolding moved
 list_moved v es d to k lt = list_relinked v es (set_down d to es) k ∙ list_down v es d to k lt
 

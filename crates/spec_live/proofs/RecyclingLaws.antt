@@ -1,27 +1,29 @@
 -- Recycling keeps a world consistent.
 use Rattle.std.proofs.Common.{◌≡◌, ℕ, List, [], Option, Some, None, Ok, inl, inr, refl, sym, ◌∙◌, ap, subst, length, Bool, true, false, cond, eqb, not, ◌||◌, map}
+use Rattle.muck_laws.proofs.Mapped.{length_map}
+use Rattle.muck_laws.proofs.Numbers.{same_place}
 use Rattle.muck_model.proofs.Dbrefs.{eq_same, same_eq}
-use Rattle.std.proofs.lemmas.Bool.{cases_eq, eqb-true, eqb-false, ne_eqb, false≢true, and_from, and_parts, or_parts, not-true}
+use Rattle.std.proofs.lemmas.Bool.{cases_eq, eqb-true, eqb-false, ne_eqb, false≢true, and_from, and_parts, or_parts, not-true, cases_Bool}
 use Rattle.std.proofs.lemmas.Option.{slice_get-map}
 use Rattle.std.specs.List.{slice_get}
 use Rattle.std.specs.Option.{option_map, option_map_or}
 use Rattle.muck_model.specs.declared.dbref.Dbref.{Dbref}
 use Rattle.muck_model.specs.declared.dbref.Kind.{Kind}
 use Rattle.spec_live.specs.declared.object.Object.{Object}
-use Rattle.spec_live.specs.Chain.{Member, IsApart, without}
-use Rattle.spec_live.specs.Objects.{Entry, dbref_of, same, index_of, is_exit, is_player, may_stand, garbage, object_in, list_of, list_in, mark_in, kind_in, place_in, fits_in, is_vehicle_in}
+use Rattle.spec_live.specs.Chain.{Member, IsApart, without_number}
+use Rattle.spec_live.specs.Objects.{Entry, dbref_of, same, index_of, is_exit, is_player, may_stand, garbage, object_in, entry_list, list_in, mark_in, kind_in, place_in, fits_in, is_vehicle_in}
 use Rattle.spec_live.specs.Moving.{left_out}
 use Rattle.spec_live.specs.Recycling.{untied, sent_home, gone_entry, is_exit_of, exit_gone, without_exits, exits_gone, vanished, taken_away, recycled, recycle_check}
 use Rattle.spec_live.specs.Saving.{relinked}
 use Rattle.spec_live.specs.Consistent.{StandsIn, IsOrdered, IsConsistent}
 use Rattle.spec_live.proofs.Chains.{without_gone, without_member, member_without}
-use Rattle.spec_live.proofs.Lists.{length_map, length_changed, get_changed_same, same_place, apart_without}
+use Rattle.spec_live.proofs.Lists.{length_changed, get_changed_same, apart_without}
 use Rattle.spec_live.proofs.KindLaws.{none_in_exit, only_exit, player_no_exit, linked_no_exit, home_no_exit}
 use Rattle.spec_live.proofs.Readers.{object_change, list_change, object_elsewhere, list_elsewhere, object_left, list_left, kind_is, place_is, kind_alike}
 use Rattle.spec_live.proofs.Savings.{length_relinked, object_relinked, list_relinked, mark_relinked}
 use Rattle.spec_live.proofs.Ties.{consistent_seen}
 use Rattle.spec_live.proofs.Checks.{Passed, checked_ok, index_only}
-use Rattle.spec_live.proofs.Fewer.{IsFewer, IsUnspoken, whether, consistent_fewer}
+use Rattle.spec_live.proofs.Fewer.{IsFewer, IsUnspoken, consistent_fewer}
 use Rattle.spec_live.proofs.HomeLaws.{IsUntied, is_untied, not_nothing, ordered_untied, IsSent, is_sent, consistent_untied, consistent_sent_home, list_untied, kind_untied, kind_sent_home}
 
 -- The exits of an object.
@@ -97,7 +99,7 @@ exits_left d k es o h e = by_cases (object_in es k) h (sym (exits_object d k es)
     by_cases None q r = absurd (false≢true q)
     by_cases (Some a) q r = let same : (cond (is_exit_of d a) garbage a) ≡ o = cc (r) in sym same ∙ ap (λ z. cond z garbage a) q
 
-gone_list : (v : Bool) (d : ℕ) (e : Entry) (b : Bool) → is_exit_of d e.object ≡ b → list_of v (exit_gone d e) ≡ cond b [] (list_of v e)
+gone_list : (v : Bool) (d : ℕ) (e : Entry) (b : Bool) → is_exit_of d e.object ≡ b → entry_list v (exit_gone d e) ≡ cond b [] (entry_list v e)
 unfolding gone_entry
 gone_list true d e true h = rw h refl
 gone_list false d e true h = rw h refl
@@ -108,7 +110,7 @@ exits_list_under : (v : Bool) (d k : ℕ) (es : List Entry) → list_in v (map (
 unfolding list_in is_exit_at object_in
 exits_list_under v d k es = rw (slice_get-map (exit_gone d) es k) (by_cases (slice_get es k))
   where
-    by_cases : (o : Option Entry) → option_map_or (list_of v) (option_map (exit_gone d) o) [] ≡ cond (option_map_or (is_exit_of d) (option_map (λ (e : Entry). e.object) o) false) [] (option_map_or (list_of v) o [])
+    by_cases : (o : Option Entry) → option_map_or (entry_list v) (option_map (exit_gone d) o) [] ≡ cond (option_map_or (is_exit_of d) (option_map (λ (e : Entry). e.object) o) false) [] (option_map_or (entry_list v) o [])
     by_cases None = refl
     by_cases (Some e) = gone_list v d e (is_exit_of d e.object) refl
 
@@ -116,7 +118,7 @@ pub exits_list_here : (d : ℕ) (es : List Entry) → list_in true (exits_gone d
 unfolding list_in exits_gone
 exits_list_here d es = rw (get_changed_same (map (exit_gone d) es) d without_exits) (by_cases (slice_get (map (exit_gone d) es) d))
   where
-    by_cases : (o : Option Entry) → option_map_or (list_of true) (option_map without_exits o) [] ≡ []
+    by_cases : (o : Option Entry) → option_map_or (entry_list true) (option_map without_exits o) [] ≡ []
     by_cases None = refl
     by_cases (Some e) = refl
 
@@ -134,7 +136,7 @@ unfolding IsApart
 nil_apart xs e = let P : List ℕ → Type 0 = λ l. IsApart l in subst P (sym e) tt
 
 exits_members : (d : ℕ) (es : List Entry) → IsOrdered es → (v : Bool) (p x : ℕ) → (v ≡ true → p ≡ d → ⊥) → Member x (list_in v es p) → is_exit_at d es x ≡ false
-exits_members d es c v p x ne m = elim (whether (is_exit_at d es x)) [
+exits_members d es c v p x ne m = elim (cases_Bool (is_exit_at d es x)) [
   | inl g ↦
       let s : StandsIn es v p x = c.stands v p x m in
       let t : StandsIn es true d x = exit_stands d es x g in
@@ -143,7 +145,7 @@ exits_members d es c v p x ne m = elim (whether (is_exit_at d es x)) [
 ]
 
 exits_place : (d : ℕ) (es : List Entry) → IsOrdered es → (v : Bool) (p x : ℕ) → Member x (list_in v es p) → is_exit_at d es p ≡ false
-exits_place d es c v p x m = elim (whether (is_exit_at d es p)) [ inl g ↦ absurd (in_exit es c x p (c.stands v p x m).place (exit_stands d es p g).kind) | inr g ↦ g ]
+exits_place d es c v p x m = elim (cases_Bool (is_exit_at d es p)) [ inl g ↦ absurd (in_exit es c x p (c.stands v p x m).place (exit_stands d es p g).kind) | inr g ↦ g ]
 
 member_cond : (b : Bool) (x : ℕ) (xs : List ℕ) → Member x (cond b [] xs) → Member x xs
 unfolding Member
@@ -175,7 +177,7 @@ fewer_exits es d c = record {
     | inl e ↦ nil_apart (list_in v (exits_gone d es) p) (rw (e.0, e.1) (exits_list_here d es))
     | inr e ↦ rw (exits_list v d p es e) (once_by (is_exit_at d es p) (list_in v es p) (c.once v p))
   ];
-  room = elim (whether (is_exit_at d es 0)) [ inl g ↦ absurd (cc (c.top, (exit_stands d es 0 g).place)) | inr g ↦ g ];
+  room = elim (cases_Bool (is_exit_at d es 0)) [ inl g ↦ absurd (cc (c.top, (exit_stands d es 0 g).place)) | inr g ↦ g ];
 }
   where
     once_by : (b : Bool) (xs : List ℕ) → IsApart xs → IsApart (cond b [] xs)
@@ -190,14 +192,14 @@ unspoken_exits es d = record {
 }
   where
     by_kind : (n : ℕ) → is_exit (kind_in es n) ≡ false → is_exit_at d es n ≡ false
-    by_kind n h = elim (whether (is_exit_at d es n)) [ inl g ↦ absurd (false≢true (sym h ∙ (exit_stands d es n g).kind)) | inr g ↦ g ]
+    by_kind n h = elim (cases_Bool (is_exit_at d es n)) [ inl g ↦ absurd (false≢true (sym h ∙ (exit_stands d es n g).kind)) | inr g ↦ g ]
 
 pub consistent_exits_gone : (es : List Entry) (d : ℕ) → IsConsistent es → IsConsistent (exits_gone d es)
 consistent_exits_gone es d c = consistent_fewer es (exits_gone d es) (is_exit_at d es) (fewer_exits es d c.ordered) (unspoken_exits es d) c
 
 -- d itself isn't an exit of d
 not_own_exit : (es : List Entry) (d : ℕ) → IsOrdered es → is_exit_at d es d ≡ false
-not_own_exit es d c = elim (whether (is_exit_at d es d)) [ inl g ↦ absurd (in_exit es c d d (exit_stands d es d g).place (exit_stands d es d g).kind) | inr g ↦ g ]
+not_own_exit es d c = elim (cases_Bool (is_exit_at d es d)) [ inl g ↦ absurd (in_exit es c d d (exit_stands d es d g).place (exit_stands d es d g).kind) | inr g ↦ g ]
 
 pub kind_exits_gone : (es : List Entry) (d : ℕ) → IsOrdered es → kind_in (exits_gone d es) d ≡ kind_in es d
 kind_exits_gone es d c = kind_alike es (exits_gone d es) d (exits_kept d d es (not_own_exit es d c))
@@ -217,40 +219,40 @@ blank_untied d o e = ((λ h. not_nothing d (sym (ap (λ z. z.home) e) ∙ h)), (
 
 pub untied_exits_gone : (es : List Entry) (d x : ℕ) → IsUntied d es → IsUntied d (exits_gone x es)
 untied_exits_gone es d x u = record {
-  home = λ k o h. elim (whether (is_exit_at x es k)) [ inl g ↦ (blank_untied d o (exits_left x k es o g h)).0 | inr g ↦ u.home k o (sym (exits_kept x k es g) ∙ h) ];
-  link = λ k o h. elim (whether (is_exit_at x es k)) [ inl g ↦ (blank_untied d o (exits_left x k es o g h)).1 | inr g ↦ u.link k o (sym (exits_kept x k es g) ∙ h) ];
+  home = λ k o h. elim (cases_Bool (is_exit_at x es k)) [ inl g ↦ (blank_untied d o (exits_left x k es o g h)).0 | inr g ↦ u.home k o (sym (exits_kept x k es g) ∙ h) ];
+  link = λ k o h. elim (cases_Bool (is_exit_at x es k)) [ inl g ↦ (blank_untied d o (exits_left x k es o g h)).1 | inr g ↦ u.link k o (sym (exits_kept x k es g) ∙ h) ];
 }
 
 -- An object that holds nothing vanishes.
 
 vanished_left : (es : List Entry) (d : ℕ) (o : Object) → object_in (vanished d es) d ≡ Some o → o ≡ garbage
 unfolding vanished object_in gone_entry
-vanished_left es d o h = by_cases (slice_get (map (left_out d) es) d) (sym (ap (λ z. option_map (λ (e : Entry). e.object) z) (get_changed_same (map (left_out d) es) d (λ e. gone_entry))) ∙ h)
+vanished_left es d o h = by_cases (slice_get (map (left_out d) es) d) (sym (ap (λ z. option_map (λ (e : Entry). e.object) z) (get_changed_same (map (left_out d) es) d gone_entry)) ∙ h)
   where
-    by_cases : (a : Option Entry) → option_map (λ (e : Entry). e.object) (option_map (λ e. gone_entry) a) ≡ Some o → o ≡ garbage
+    by_cases : (a : Option Entry) → option_map (λ (e : Entry). e.object) (option_map gone_entry a) ≡ Some o → o ≡ garbage
     by_cases None q = absurd (cc (q))
     by_cases (Some e) q = cc (q)
 
 vanished_kept : (es : List Entry) (d k : ℕ) → (k ≡ d → ⊥) → object_in (vanished d es) k ≡ object_in es k
 unfolding vanished
-vanished_kept es d k ne = object_elsewhere d k (λ e. gone_entry) (map (left_out d) es) ne ∙ object_left d k es
+vanished_kept es d k ne = object_elsewhere d k gone_entry (map (left_out d) es) ne ∙ object_left d k es
 
 vanished_list_here : (es : List Entry) (d : ℕ) (v : Bool) → list_in v (vanished d es) d ≡ []
 unfolding vanished list_in gone_entry
-vanished_list_here es d v = rw (get_changed_same (map (left_out d) es) d (λ e. gone_entry)) (by_cases v (slice_get (map (left_out d) es) d))
+vanished_list_here es d v = rw (get_changed_same (map (left_out d) es) d gone_entry) (by_cases v (slice_get (map (left_out d) es) d))
   where
-    by_cases : (v : Bool) (a : Option Entry) → option_map_or (list_of v) (option_map (λ e. gone_entry) a) [] ≡ []
+    by_cases : (v : Bool) (a : Option Entry) → option_map_or (entry_list v) (option_map gone_entry a) [] ≡ []
     by_cases v None = refl
     by_cases true (Some e) = refl
     by_cases false (Some e) = refl
 
-vanished_list : (es : List Entry) (d : ℕ) (v : Bool) (k : ℕ) → (k ≡ d → ⊥) → list_in v (vanished d es) k ≡ without d (list_in v es k)
+vanished_list : (es : List Entry) (d : ℕ) (v : Bool) (k : ℕ) → (k ≡ d → ⊥) → list_in v (vanished d es) k ≡ without_number d (list_in v es k)
 unfolding vanished
-vanished_list es d v k ne = list_elsewhere v d k (λ e. gone_entry) (map (left_out d) es) ne ∙ list_left v d k es
+vanished_list es d v k ne = list_elsewhere v d k gone_entry (map (left_out d) es) ne ∙ list_left v d k es
 
 pub length_vanished : (es : List Entry) (d : ℕ) → length (vanished d es) ≡ length es
 unfolding vanished
-length_vanished es d = length_changed (map (left_out d) es) d (λ e. gone_entry) ∙ length_map (left_out d) es
+length_vanished es d = length_changed (map (left_out d) es) d gone_entry ∙ length_map (left_out d) es
 
 pub fewer_vanished : (es : List Entry) (d : ℕ) → (d ≡ 0 → ⊥) → ((v : Bool) → list_in v es d ≡ []) → IsOrdered es → IsFewer es (vanished d es) (λ k. eqb k d)
 fewer_vanished es d low empty c = record {
@@ -264,8 +266,8 @@ fewer_vanished es d low empty c = record {
     | inl e ↦ let B : ℕ → Type 0 = λ q. Member x (list_in v (vanished d es) q) in absurd (nil_member (list_in v (vanished d es) d) x (vanished_list_here es d v) (subst B e m))
     | inr e ↦
         let L : List ℕ → Type 0 = λ l. Member x l in
-        let was : Member x (without d (list_in v es p)) = subst L (vanished_list es d v p e) m in
-        let M : ℕ → Type 0 = λ z. Member z (without d (list_in v es p)) in
+        let was : Member x (without_number d (list_in v es p)) = subst L (vanished_list es d v p e) m in
+        let M : ℕ → Type 0 = λ z. Member z (without_number d (list_in v es p)) in
         (without_member d x (list_in v es p) was, ne_eqb x d (λ q. without_gone d (list_in v es p) (subst M q was)))
   ];
   stays = λ v p x m g. elim (cases_eq p d) [

@@ -2,11 +2,12 @@
 use Rattle.std.proofs.Common.{◌≡◌, ℕ, ◌+◌, zero, suc, List, [], ◌∷◌, Option, Some, None, refl, ◌∙◌, ap, length, arith, Bool, true, false, cond, not}
 use Rattle.std.specs.List.{slice_get}
 use Rattle.std.specs.Option.{option_map, option_and_then, option_map_or}
+use Rattle.muck_laws.proofs.Mapped.{length_map}
+use Rattle.muck_laws.proofs.Places.{read_mapped}
 use Rattle.spec_live.specs.declared.saving.Saving.{Saving}
 use Rattle.spec_live.specs.declared.saving.Saving.TheVariants.{Due}
-use Rattle.spec_live.specs.Objects.{Entry, object_in, list_of, list_in, mark_in, kind_in, due}
+use Rattle.spec_live.specs.Objects.{Entry, object_in, entry_list, list_in, mark_in, kind_in, due}
 use Rattle.spec_live.specs.Saving.{saving_in, links_in, due_from, same_links, relinked, on_saving, all_saving}
-use Rattle.spec_live.proofs.Lists.{length_map, read_mapped}
 
 -- What is due where a test holds.
 
@@ -53,8 +54,8 @@ object_relinked before es k = read_relinked (λ o. option_map (λ (e : Entry). e
 
 pub list_relinked : (v : Bool) (before es : List Entry) (k : ℕ) → list_in v (relinked before es) k ≡ list_in v es k
 unfolding list_in
-list_relinked true before es k = read_relinked (λ o. option_map_or (list_of true) o []) before es k (λ e. refl)
-list_relinked false before es k = read_relinked (λ o. option_map_or (list_of false) o []) before es k (λ e. refl)
+list_relinked true before es k = read_relinked (λ o. option_map_or (entry_list true) o []) before es k (λ e. refl)
+list_relinked false before es k = read_relinked (λ o. option_map_or (entry_list false) o []) before es k (λ e. refl)
 
 pub mark_relinked : (before es : List Entry) (k : ℕ) → mark_in (relinked before es) k ≡ mark_in es k
 unfolding mark_in
@@ -82,8 +83,8 @@ object_resaved f k es = read_mapped (λ o. option_map (λ (e : Entry). e.object)
 
 pub list_resaved : (v : Bool) (f : Saving → Saving) (k : ℕ) (es : List Entry) → list_in v (all_saving f es) k ≡ list_in v es k
 unfolding list_in all_saving
-list_resaved true f k es = read_mapped (λ o. option_map_or (list_of true) o []) (on_saving f) es k (λ e. refl)
-list_resaved false f k es = read_mapped (λ o. option_map_or (list_of false) o []) (on_saving f) es k (λ e. refl)
+list_resaved true f k es = read_mapped (λ o. option_map_or (entry_list true) o []) (on_saving f) es k (λ e. refl)
+list_resaved false f k es = read_mapped (λ o. option_map_or (entry_list false) o []) (on_saving f) es k (λ e. refl)
 
 pub mark_resaved : (f : Saving → Saving) (k : ℕ) (es : List Entry) → mark_in (all_saving f es) k ≡ mark_in es k
 unfolding mark_in all_saving

@@ -1,5 +1,6 @@
 -- Every setter keeps a world consistent.
 use Rattle.std.proofs.Common.{◌≡◌, ℕ, ◌<◌, List, [], ◌∷◌, Option, Some, None, Result, Ok, inl, inr, refl, sym, ◌∙◌, ap, subst, length, Bool, true, false, cond, not, ◌&&◌, ◌||◌}
+use Rattle.muck_laws.proofs.Truths.{seats_by}
 use Rattle.muck_model.proofs.Dbrefs.{eq_same}
 use Rattle.std.proofs.lemmas.Bool.{cases_eq, false≢true, and_parts}
 use Rattle.std.specs.List.{list_any, slice_get}
@@ -13,8 +14,8 @@ use Rattle.spec_live.specs.declared.object.Object.{Object}
 use Rattle.spec_live.specs.declared.fault.DbFault.{DbFault}
 use Rattle.spec_live.specs.Chain.{Member}
 use Rattle.spec_live.specs.Flags.{has_flag, vehicle}
-use Rattle.spec_live.specs.Objects.{Entry, dbref_of, nothing, home, same, list_of, is_thing, is_exit, is_player, is_garbage, object_in, list_in, kind_in, flags_in, place_in, is_vehicle_in, fits_in, changed_at, on_object}
-use Rattle.spec_live.specs.Setting.{checked, checked_both, any, set_at, with_name, owner_check, with_owner, may_link, has_link, link_check, with_link, may_live, home_check, with_home, holds_player, keeps_seats, flags_check, with_flags, level_check, with_level, lines_check, with_lines, lines_set, password_check, with_password, with_prop, without_prop}
+use Rattle.spec_live.specs.Objects.{Entry, dbref_of, nothing, home, same, entry_list, is_thing, is_exit, is_player, is_garbage, object_in, list_in, kind_in, flags_in, place_in, is_vehicle_in, fits_in, changed_at, on_object}
+use Rattle.spec_live.specs.Setting.{checked, checked_both, every_number, set_at, with_name, owner_check, with_owner, may_link, has_link, link_check, with_link, may_live, home_check, with_home, holds_player, keeps_seats, flags_check, with_flags, level_check, with_level, lines_check, with_lines, lines_set, password_check, with_password, with_prop, without_prop}
 use Rattle.spec_live.specs.Consistent.{HasLink, HasHome, IsOrdered, IsConsistent}
 use Rattle.spec_live.proofs.Lists.{length_changed, get_changed_same}
 use Rattle.spec_live.proofs.KindLaws.{stands_still, only_exit}
@@ -43,14 +44,14 @@ pub consistent_checked : (test : ℕ → Bool) (d : Dbref) (es : List Entry) (n 
     → IsConsistent es → IsConsistent (changed_at n (on_object f) es)
 consistent_checked test d es n f h ties place flags c = consistent_same es n f ties place flags (checked_ok test d es n h).there.alive c
 
-pub consistent_named : (d : Dbref) (name : List ℕ) (es : List Entry) (n : ℕ) → checked any d es ≡ Ok n → IsConsistent es → IsConsistent (set_at (with_name name) n es)
-consistent_named d name es n h c = consistent_checked any d es n (with_name name) h (λ o. record { kind = refl; owner = refl; link = refl; home = refl }) (λ o. refl) (λ o. refl) c
+pub consistent_named : (d : Dbref) (name : List ℕ) (es : List Entry) (n : ℕ) → checked every_number d es ≡ Ok n → IsConsistent es → IsConsistent (set_at (with_name name) n es)
+consistent_named d name es n h c = consistent_checked every_number d es n (with_name name) h (λ o. record { kind = refl; owner = refl; link = refl; home = refl }) (λ o. refl) (λ o. refl) c
 
-pub consistent_stored : (d : Dbref) (path : List (List ℕ)) (value : PropValue) (es : List Entry) (n : ℕ) → checked any d es ≡ Ok n → IsConsistent es → IsConsistent (set_at (with_prop path value) n es)
-consistent_stored d path value es n h c = consistent_checked any d es n (with_prop path value) h (λ o. record { kind = refl; owner = refl; link = refl; home = refl }) (λ o. refl) (λ o. refl) c
+pub consistent_stored : (d : Dbref) (path : List (List ℕ)) (value : PropValue) (es : List Entry) (n : ℕ) → checked every_number d es ≡ Ok n → IsConsistent es → IsConsistent (set_at (with_prop path value) n es)
+consistent_stored d path value es n h c = consistent_checked every_number d es n (with_prop path value) h (λ o. record { kind = refl; owner = refl; link = refl; home = refl }) (λ o. refl) (λ o. refl) c
 
-pub consistent_removed : (d : Dbref) (path : List (List ℕ)) (es : List Entry) (n : ℕ) → checked any d es ≡ Ok n → IsConsistent es → IsConsistent (set_at (without_prop path) n es)
-consistent_removed d path es n h c = consistent_checked any d es n (without_prop path) h (λ o. record { kind = refl; owner = refl; link = refl; home = refl }) (λ o. refl) (λ o. refl) c
+pub consistent_removed : (d : Dbref) (path : List (List ℕ)) (es : List Entry) (n : ℕ) → checked every_number d es ≡ Ok n → IsConsistent es → IsConsistent (set_at (without_prop path) n es)
+consistent_removed d path es n h c = consistent_checked every_number d es n (without_prop path) h (λ o. record { kind = refl; owner = refl; link = refl; home = refl }) (λ o. refl) (λ o. refl) c
 
 pub consistent_leveled : (d : Dbref) (level : ℕ) (es : List Entry) (n : ℕ) → level_check d level es ≡ Ok n → IsConsistent es → IsConsistent (set_at (with_level level) n es)
 unfolding level_check
@@ -65,7 +66,7 @@ consistent_password d salt word es n h c = consistent_checked _ d es n (with_pas
 source : List (List ℕ) → Object → Object
 source lines o = record o { lines = lines }
 
-lined_list : (v : Bool) (lines : List (List ℕ)) (e : Entry) → list_of v (with_lines lines e) ≡ list_of v e
+lined_list : (v : Bool) (lines : List (List ℕ)) (e : Entry) → entry_list v (with_lines lines e) ≡ entry_list v e
 lined_list true lines e = refl
 lined_list false lines e = refl
 
@@ -146,13 +147,6 @@ consistent_homed d to es n h c =
     }) c
 
 -- The flags: players keep their seats.
-
-seats_by : (a b h c : Bool) → not (a && b && not h && c) ≡ true → a ≡ true → b ≡ true → c ≡ true → h ≡ true
-seats_by a b true c q x y z = refl
-seats_by true true false true q x y z = absurd (false≢true q)
-seats_by false b false c q x y z = absurd (false≢true x)
-seats_by true false false c q x y z = absurd (false≢true y)
-seats_by true true false false q x y z = absurd (false≢true z)
 
 seats_kept : (es : List Entry) (flags : Flags) (n x : ℕ) → keeps_seats es flags n ≡ true → IsOrdered es → place_in es x ≡ Some n → kind_in es x ≡ Player → kind_in es n ≡ Thing → is_vehicle_in es n ≡ true → has_flag vehicle flags ≡ true
 unfolding keeps_seats holds_player

@@ -1,9 +1,9 @@
 -- What a consistent world is, in plain words: where each object stands, and that places lead up to `#0`.
 use Rattle.std.proofs.Common.{◌≡◌, ℕ, List, [], ◌∷◌, Option, Some, None, inl, inr, refl, sym, ◌∙◌, ap, Bool, true, false, not, length, ◌⊎◌}
-use Rattle.std.proofs.lemmas.Bool.{false≢true}
+use Rattle.std.proofs.lemmas.Bool.{false≢true, not-true}
 use Rattle.muck_model.specs.declared.dbref.Kind.TheVariants.{Garbage}
 use Rattle.spec_live.specs.Chain.{walk, IsChain, Ends, Member}
-use Rattle.spec_live.specs.Objects.{Entry, is_exit, is_garbage, list_in, place_in, kind_in, fits_in, path_in, is_vehicle_in}
+use Rattle.spec_live.specs.Objects.{Entry, is_exit, is_garbage, list_in, place_in, kind_in, fits_in, places_from, is_vehicle_in}
 use Rattle.spec_live.specs.Consistent.{StandsIn, IsConsistent}
 use Rattle.spec_live.proofs.KindLaws.{place_alive}
 use Rattle.spec_live.proofs.Checks.{alive_known}
@@ -51,14 +51,10 @@ chain_top n f good top step last s (y ∷ xs) h x e g =
     next None q r rest = inl (last y r q)
     next (Some z) q r rest = inr (rest z q (step y z r q))
 
-is_alive : (b : Bool) → not b ≡ true → b ≡ false
-is_alive true h = absurd (false≢true h)
-is_alive false h = refl
-
 -- places lead up to `#0`
-pub leads_up : (es : List Entry) (k : ℕ) → IsConsistent es → is_garbage (kind_in es k) ≡ false → Member 0 (path_in es k)
-unfolding path_in Ends fits_in
+pub leads_up : (es : List Entry) (k : ℕ) → IsConsistent es → is_garbage (kind_in es k) ≡ false → Member 0 (places_from es k)
+unfolding places_from Ends fits_in
 leads_up es k c alive = chain_top (length es) (place_in es) (λ y. not (is_garbage (kind_in es y))) 0
     (λ y z g e. ap (λ b. not b) (place_alive (kind_in es y) (kind_in es z) (is_vehicle_in es z) (c.ordered.kinds y z e)))
-    (λ y g e. elim (c.placed y e) [ inl q ↦ sym q | inr q ↦ absurd (false≢true (sym (is_alive (is_garbage (kind_in es y)) g) ∙ ap (λ z. is_garbage z) q)) ])
+    (λ y g e. elim (c.placed y e) [ inl q ↦ sym q | inr q ↦ absurd (false≢true (sym (not-true (is_garbage (kind_in es y)) g) ∙ ap (λ z. is_garbage z) q)) ])
     (Some k) (walk (length es) (place_in es) (Some k)) (c.ordered.up k (alive_known es k alive)) k refl (ap (λ b. not b) alive)

@@ -6,8 +6,8 @@ use Rattle.muck_model.specs.declared.dbref.Kind.TheVariants.{Garbage}
 use Rattle.spec_live.specs.declared.object.Object.{Object}
 use Rattle.spec_live.specs.declared.mark.Mark.{Mark}
 use Rattle.spec_live.specs.Chain.{IsChain, Ends, Member, IsApart}
-use Rattle.spec_live.specs.Objects.{Entry, garbage, list_of, is_garbage, object_in, list_in, kind_in, place_in, fits_in, is_vehicle_in, flags_in, changed_at}
-use Rattle.spec_live.specs.Marks.{unmarked, marked_from, change_told}
+use Rattle.spec_live.specs.Objects.{Entry, garbage, entry_list, is_garbage, object_in, list_in, kind_in, place_in, fits_in, is_vehicle_in, flags_in, changed_at}
+use Rattle.spec_live.specs.Marks.{entry_unmarked, marked_from, change_told}
 use Rattle.spec_live.specs.Start.{room_zero, player_one, first_objects}
 use Rattle.spec_live.specs.Consistent.{IsTied, StandsIn, IsConsistent}
 use Rattle.spec_live.proofs.Chains.{ends_from}
@@ -113,13 +113,13 @@ consistent_first = record {
 }
 
 -- what was told of
-unmarked_list : (v : Bool) (e : Entry) → list_of v (unmarked e) ≡ list_of v e
+unmarked_list : (v : Bool) (e : Entry) → entry_list v (entry_unmarked e) ≡ entry_list v e
 unmarked_list true e = refl
 unmarked_list false e = refl
 
-told_by : (es : List Entry) (o : Option (ℕ × Mark)) → IsConsistent es → IsConsistent (option_map_or (λ p. changed_at p.0 unmarked es) o es)
+told_by : (es : List Entry) (o : Option (ℕ × Mark)) → IsConsistent es → IsConsistent (option_map_or (λ p. changed_at p.0 entry_unmarked es) o es)
 told_by es None c = c
-told_by es (Some p) c = consistent_seen es (changed_at p.0 unmarked es) (length_changed es p.0 unmarked) (λ k. object_change p.0 k unmarked es (λ e. refl)) (λ v k. list_change v p.0 k unmarked es (unmarked_list v)) c
+told_by es (Some p) c = consistent_seen es (changed_at p.0 entry_unmarked es) (length_changed es p.0 entry_unmarked) (λ k. object_change p.0 k entry_unmarked es (λ e. refl)) (λ v k. list_change v p.0 k entry_unmarked es (unmarked_list v)) c
 
 pub consistent_told : (es : List Entry) → IsConsistent es → IsConsistent (change_told es)
 unfolding change_told

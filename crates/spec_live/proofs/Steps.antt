@@ -13,12 +13,13 @@ use Rattle.spec_live.specs.Moving.{with_place}
 use Rattle.spec_live.specs.Making.{blank_entry}
 use Rattle.spec_live.specs.Setting.{with_name, with_owner, with_link, with_home, with_flags, with_level, with_password, with_prop, without_prop, with_lines}
 use Rattle.spec_live.specs.Recycling.{untie, gone_entry}
-use Rattle.spec_live.specs.Marks.{unmarked}
+use Rattle.spec_live.specs.Marks.{entry_unmarked}
+use Rattle.spec_live.specs.Stood.{still}
 use Rattle.spec_live.proofs.Keeping.{Path}
 
 -- Of objects, and of the connections.
 pub data Name : Type 0 where
-  Called Owner Place Link Home Flagged Level Digest Props Lines Made Gone Lists Told Stored Begun : Name
+  Called Owner Place Link Home Flagged Level Digest Props Lines Made Gone Lists Told Stored Begun Stilled : Name
   Shown Heard Came Leaving Seated Tuned : Name
 
 abbrev pub May : Type 0
@@ -69,12 +70,13 @@ pub data Touch (may : May) (listing : Bool) : Entry → Entry → Type 0 where
   lines : (ls : List (List ℕ)) (e : Entry) → may Lines ≡ true → Touch may listing e (with_lines ls e)
   makes : (o : Object) (e : Entry) → may Made ≡ true → e.object.kind ≡ Garbage → o.lines ≡ [] → Touch may listing e (with_object o e)
   unties : (d : ℕ) (e : Entry) → may Gone ≡ true → Touch may listing e (untie d e)
-  vanishes : (e : Entry) → may Gone ≡ true → listing ≡ true → Touch may listing e gone_entry
+  vanishes : (e : Entry) → may Gone ≡ true → listing ≡ true → Touch may listing e (gone_entry e)
   lists : (cs xs : List ℕ) (e : Entry) → listing ≡ true → Touch may listing e (record e { contents = cs; exits = xs })
   dues : (e : Entry) → listing ≡ true → Touch may listing e (due e)
-  tells : (e : Entry) → may Told ≡ true → Touch may listing e (unmarked e)
+  tells : (e : Entry) → may Told ≡ true → Touch may listing e (entry_unmarked e)
   resaves : (f : Saving → Saving) (e : Entry) → may Stored ≡ true → ((s : Saving) → is_due (f s) ≡ false → is_due s ≡ false) → Touch may listing e (on_saving f e)
   begins : (e : Entry) → may Begun ≡ true → Touch may listing e (on_saving pending e)
+  stills : (e : Entry) → may Stilled ≡ true → Touch may listing e (still e)
 
 abbrev pub Touches : May → Bool → Entry → Entry → Type 0
 Touches may listing = Path (Touch may listing)

@@ -6,17 +6,18 @@ use Rattle.muck_model.specs.declared.dbref.Kind.{Kind}
 use Rattle.muck_model.specs.declared.dbref.Kind.TheVariants.{Garbage}
 use Rattle.spec_live.specs.declared.saving.Saving.{Saving}
 use Rattle.spec_live.specs.declared.saving.Saving.TheVariants.{Due}
-use Rattle.spec_live.specs.Chain.{without}
+use Rattle.spec_live.specs.Chain.{without_number}
 use Rattle.spec_live.specs.Objects.{Entry, is_exit, kind_in, object_in, list_in, changed_at, on_object, with_object}
-use Rattle.spec_live.specs.Saving.{is_due, on_saving, all_saving, done, due_again, pending}
+use Rattle.spec_live.specs.Saving.{is_due, on_saving, all_saving, saving_done, due_again, pending}
 use Rattle.spec_live.specs.Moving.{left_out, put_first, with_place, set_down, moved}
-use Rattle.spec_live.specs.Making.{blank_entry, grown, new_object, created}
+use Rattle.spec_live.specs.Making.{blank_entry, objects_grown, new_object, created}
 use Rattle.spec_live.specs.Setting.{set_at, with_lines, lines_set}
 use Rattle.spec_live.specs.Recycling.{untie, untied, way_home, sent_home, gone_entry, is_exit_of, exit_gone, without_exits, exits_gone, vanished, taken_away, recycled}
-use Rattle.spec_live.specs.Marks.{unmarked}
+use Rattle.spec_live.specs.Marks.{entry_unmarked}
+use Rattle.spec_live.specs.Stood.{still, stilled}
 use Rattle.spec_live.proofs.CreationLaws.{grown_kind}
 use Rattle.spec_live.proofs.Keeping.{stays, goes, one, join}
-use Rattle.spec_live.proofs.Steps.{Begun, Place, Lines, Made, Gone, Lists, Told, Stored, May, Field, placed, name_of, field_set, sets, lines, makes, unties, vanishes, lists, dues, tells, resaves, begins, Touches, each, at, grows, parts, settles, Walk}
+use Rattle.spec_live.proofs.Steps.{Begun, Stilled, Place, Lines, Made, Gone, Lists, Told, Stored, May, Field, placed, name_of, field_set, sets, lines, makes, unties, vanishes, lists, dues, tells, resaves, begins, stills, Touches, each, at, grows, parts, settles, Walk}
 
 -- it writes no list
 pub walk_at : (may : May) (n : ℕ) (f : Entry → Entry) (es : List Entry) → ((e : Entry) → slice_get es n ≡ Some e → Touches may false e (f e)) → Walk may es (changed_at n f es)
@@ -34,7 +35,7 @@ walk_lines may ls n es m = walk_at may n (with_lines ls) es (λ e h. one (lines 
 -- Moving.
 
 left_touches : (may : May) (d : ℕ) (e : Entry) → Touches may true e (left_out d e)
-left_touches may d e = one (lists (without d e.contents) (without d e.exits) e refl)
+left_touches may d e = one (lists (without_number d e.contents) (without_number d e.exits) e refl)
 
 put_touches : (may : May) (w : Bool) (d : ℕ) (e : Entry) → Touches may true e (put_first w d e)
 put_touches may true d e = goes (lists e.contents (d ∷ e.exits) e refl) (one (dues _ refl))
@@ -49,8 +50,8 @@ walk_moved may d to es p l = one (settles es _ l
 
 -- Making.
 
-grown_walk : (may : May) (n : ℕ) (es : List Entry) → may Made ≡ true → Walk may es (grown n es)
-unfolding grown
+grown_walk : (may : May) (n : ℕ) (es : List Entry) → may Made ≡ true → Walk may es (objects_grown n es)
+unfolding objects_grown
 grown_walk may n es m = by_cases (eqb n (length es))
   where
     by_cases : (b : Bool) → Walk may es (cond b (es ++ blank_entry ∷ []) es)
@@ -65,7 +66,7 @@ pub walk_created : (may : May) (n : ℕ) (kind : Kind) (name : List ℕ) (owner 
 unfolding created new_object
 walk_created may n kind name owner to es g m p l =
     join (grown_walk may n es m)
-    (join (walk_at may n (with_object (new_object n kind name owner)) (grown n es) (λ e h. one (makes _ e m (sym (kind_there (grown n es) n e h) ∙ grown_kind n n es ∙ g) refl)))
+    (join (walk_at may n (with_object (new_object n kind name owner)) (objects_grown n es) (λ e h. one (makes _ e m (sym (kind_there (objects_grown n es) n e h) ∙ grown_kind n n es ∙ g) refl)))
     (walk_moved may n to _ p l))
 
 -- Recycling.
@@ -73,7 +74,7 @@ walk_created may n kind name owner to es g m p l =
 exit_touches : (may : May) (d : ℕ) (e : Entry) → may Gone ≡ true → Touches may true e (exit_gone d e)
 exit_touches may d e g = by_cases (is_exit_of d e.object)
   where
-    by_cases : (b : Bool) → Touches may true e (cond b gone_entry e)
+    by_cases : (b : Bool) → Touches may true e (cond b (gone_entry e) e)
     by_cases true = one (vanishes e g refl)
     by_cases false = stays
 
@@ -82,13 +83,13 @@ unfolding sent_home
 sent_walk may [] es p l = stays
 sent_walk may (x ∷ xs) es p l = join (walk_moved may x (way_home x es) es p l) (sent_walk may xs _ p l)
 
-taken_walk : (may : May) (d : ℕ) (es : List Entry) → may Gone ≡ true → may Lists ≡ true → Walk may es (taken_away d es)
+pub taken_walk : (may : May) (d : ℕ) (es : List Entry) → may Gone ≡ true → may Lists ≡ true → Walk may es (taken_away d es)
 unfolding taken_away vanished exits_gone
 taken_walk may d es g l = one (settles es _ l
     (goes (each (exit_gone d) es (λ e. exit_touches may d e g))
     (goes (at d without_exits _ (λ e h. one (lists e.contents [] e refl)))
     (goes (each (left_out d) _ (left_touches may d))
-    (one (at d (λ e. gone_entry) _ (λ e h. one (vanishes e g refl))))))))
+    (one (at d gone_entry _ (λ e h. one (vanishes e g refl))))))))
 
 pub walk_recycled : (may : May) (d : ℕ) (es : List Entry) → may Gone ≡ true → may Place ≡ true → may Lists ≡ true → Walk may es (recycled d es)
 unfolding recycled untied
@@ -96,10 +97,10 @@ walk_recycled may d es g p l = join (walk_each may (untie d) es (λ e. one (unti
 
 -- What is to be told, and how objects stand to the dumps.
 
-pub walk_told : (may : May) (es : List Entry) → may Told ≡ true → Walk may es (map unmarked es)
-walk_told may es t = walk_each may unmarked es (λ e. one (tells e t))
+pub walk_told : (may : May) (es : List Entry) → may Told ≡ true → Walk may es (map entry_unmarked es)
+walk_told may es t = walk_each may entry_unmarked es (λ e. one (tells e t))
 
-done_early : (s : Saving) → is_due (done s) ≡ false → is_due s ≡ false
+done_early : (s : Saving) → is_due (saving_done s) ≡ false → is_due s ≡ false
 done_early Due h = h
 done_early s h = refl
 
@@ -107,9 +108,9 @@ again_early : (s : Saving) → is_due (due_again s) ≡ false → is_due s ≡ f
 again_early Due h = h
 again_early s h = refl
 
-pub walk_stored : (may : May) (es : List Entry) → may Stored ≡ true → Walk may es (all_saving done es)
+pub walk_stored : (may : May) (es : List Entry) → may Stored ≡ true → Walk may es (all_saving saving_done es)
 unfolding all_saving
-walk_stored may es s = walk_each may (on_saving done) es (λ e. one (resaves done e s done_early))
+walk_stored may es s = walk_each may (on_saving saving_done) es (λ e. one (resaves saving_done e s done_early))
 
 pub walk_failed : (may : May) (es : List Entry) → may Stored ≡ true → Walk may es (all_saving due_again es)
 unfolding all_saving
@@ -118,3 +119,9 @@ walk_failed may es s = walk_each may (on_saving due_again) es (λ e. one (resave
 pub walk_begun : (may : May) (es : List Entry) → may Begun ≡ true → Walk may es (all_saving pending es)
 unfolding all_saving
 walk_begun may es s = walk_each may (on_saving pending) es (λ e. one (begins e s))
+
+-- Another event begins.
+
+pub walk_stilled : (may : May) (es : List Entry) → may Stilled ≡ true → Walk may es (stilled es)
+unfolding stilled
+walk_stilled may es s = walk_each may still es (λ e. one (stills e s))

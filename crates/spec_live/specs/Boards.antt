@@ -7,25 +7,14 @@ use Rattle.rand_pcg.specs.Pcg.{pcg32, pcg32_of_seed}
 use Rattle.muck_model.specs.declared.dbref.Dbref.{Dbref}
 use Rattle.muck_model.specs.declared.edit.EditState.{EditState}
 use Rattle.muck_model.specs.declared.tune.Tune.{Tune}
-use Rattle.spec_live.specs.Output.{bytes_of, taken}
-use Rattle.spec_live.specs.Connections.{Connection, has_number, changed_in, placed, without, newcomer, told, left, seated, lined, edited, edits, edited_where, is_of, hears, told_where, left_where, has_player}
+unfoldable pub use Rattle.muck_model.specs.Parameters.{first_tune}
+use Rattle.spec_live.specs.Output.{bytes_of, output_taken}
+use Rattle.spec_live.specs.Connections.{Connection, is_connection, changed_in, connection_placed, without_connection, newcomer, text_told, left, player_seated, lined, editor_set, edits, edited_where, is_connection_of, hears, told_where, left_where, has_player}
 
 pub record Board : Type 0 where
   pub connections : List Connection
   pub random : Lcg
   pub tune : Tune
-
-unfoldable pub first_tune : Tune
-first_tune = record {
-  instr_slice = 2000;
-  preempt_units = 20000;
-  m1_units = 20000;
-  m2_units = 80000;
-  process_limit = 400;
-  player_processes = 32;
-  mpi_commands = 2048;
-  dump_interval = 900;
-}
 
 -- the random numbers that begin so
 unfoldable pub random_from : ℕ → Lcg
@@ -38,7 +27,7 @@ early_board start tune = record { connections = []; random = random_from start; 
 -- Readers.
 
 abbrev pub connection_in : ℕ → Board → Option Connection
-connection_in d b = find (has_number d) b.connections
+connection_in d b = find (is_connection d) b.connections
 
 -- the bytes that wait to be sent to it
 abbrev pub queue_in : ℕ → Board → List ℕ
@@ -65,25 +54,25 @@ on_connection d f b = with_connections (changed_in d f b.connections) b
 abbrev pub on_connections : (Connection → Connection) → Board → Board
 on_connections f b = with_connections (map f b.connections) b
 
-unfoldable pub opened : ℕ → List ℕ → Board → Board
-opened d greeting b = with_connections (placed (newcomer d greeting) b.connections) b
+unfoldable pub connection_opened : ℕ → List ℕ → Board → Board
+connection_opened d greeting b = with_connections (connection_placed (newcomer d greeting) b.connections) b
 
-unfoldable pub closed : ℕ → Board → Board
-closed d b = with_connections (without d b.connections) b
+unfoldable pub connection_closed : ℕ → Board → Board
+connection_closed d b = with_connections (without_connection d b.connections) b
 
 unfoldable pub line_added : ℕ → List ℕ → Board → Board
 line_added d line b = on_connection d (lined line) b
 
 unfoldable pub bytes_taken : ℕ → ℕ → Board → Board
-bytes_taken d n b = on_connection d (λ c. record c { output = taken n c.output }) b
+bytes_taken d n b = on_connection d (λ c. record c { output = output_taken n c.output }) b
 
 -- a text is sent to one connection
 unfoldable pub told_one : ℕ → List ℕ → Board → Board
-told_one d text b = on_connection d (told text) b
+told_one d text b = on_connection d (text_told text) b
 
 -- to all connections of a player
 unfoldable pub told_player : Dbref → List ℕ → Board → Board
-told_player player text b = on_connections (told_where (is_of player) text) b
+told_player player text b = on_connections (told_where (is_connection_of player) text) b
 
 -- to those of the players in a room but these
 unfoldable pub told_others : (Dbref → Option Dbref) → Dbref → List Dbref → List ℕ → Board → Board
@@ -97,14 +86,14 @@ unfoldable pub leaving_one : ℕ → Board → Board
 leaving_one d b = on_connection d left b
 
 unfoldable pub seated_one : ℕ → Dbref → Board → Board
-seated_one d player b = on_connection d (seated player) b
+seated_one d player b = on_connection d (player_seated player) b
 
 -- all connections of a player are leaving
 unfoldable pub left_player : Dbref → Board → Board
-left_player player b = on_connections (left_where (is_of player)) b
+left_player player b = on_connections (left_where (is_connection_of player)) b
 
 unfoldable pub edited_one : ℕ → Option EditState → Board → Board
-edited_one d editor b = on_connection d (edited editor) b
+edited_one d editor b = on_connection d (editor_set editor) b
 
 -- each editor that is open on that program is closed
 unfoldable pub editors_closed : Dbref → Board → Board

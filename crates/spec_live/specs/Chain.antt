@@ -29,9 +29,9 @@ unfoldable pub has : ℕ → List ℕ → Bool
 has d xs = list_any (λ x. d == x) xs
 
 -- the list with d left out
-unfoldable pub without : ℕ → List ℕ → List ℕ
-without d [] = []
-without d (x ∷ xs) = if x == d then without d xs else x ∷ without d xs
+unfoldable pub without_number : ℕ → List ℕ → List ℕ
+without_number d [] = []
+without_number d (x ∷ xs) = if x == d then without_number d xs else x ∷ without_number d xs
 
 -- what stands behind d
 unfoldable pub follower : ℕ → List ℕ → Option ℕ

@@ -5,7 +5,7 @@ use Rattle.std.specs.Option.{option_map_or}
 use Rattle.muck_model.specs.declared.dbref.Dbref.{Dbref}
 use Rattle.muck_model.specs.declared.edit.EditState.{EditState}
 use Rattle.spec_live.specs.Objects.{same}
-use Rattle.spec_live.specs.Output.{Output, no_output, sent, bytes_of}
+use Rattle.spec_live.specs.Output.{Output, no_output, text_sent, bytes_of}
 
 -- A connection: its player, once it has one; the lines that came and wait; the program that is edited on it; whether
 -- it is leaving; and what waits to be sent to it.
@@ -19,10 +19,10 @@ pub record Connection : Type 0 where
 
 -- a new connection, which is greeted with this text
 abbrev pub newcomer : ℕ → List ℕ → Connection
-newcomer d greeting = record { number = d; player = None; waiting = []; editor = None; leaving = false; output = sent greeting no_output }
+newcomer d greeting = record { number = d; player = None; waiting = []; editor = None; leaving = false; output = text_sent greeting no_output }
 
-abbrev pub has_number : ℕ → Connection → Bool
-has_number d c = c.number == d
+abbrev pub is_connection : ℕ → Connection → Bool
+is_connection d c = c.number == d
 
 -- a line waits that may be done
 abbrev pub is_ready : Connection → Bool
@@ -46,47 +46,47 @@ holds n c = nat_le n (length (bytes_of c.output))
 -- with the connection d changed by f
 abbrev pub changed_in : ℕ → (Connection → Connection) → List Connection → List Connection
 changed_in d f [] = []
-changed_in d f (c ∷ cs) = if has_number d c then f c ∷ cs else c ∷ changed_in d f cs
+changed_in d f (c ∷ cs) = if is_connection d c then f c ∷ cs else c ∷ changed_in d f cs
 
 -- with a connection more, before the first of a greater number
-abbrev pub placed : Connection → List Connection → List Connection
-placed new [] = new ∷ []
-placed new (c ∷ cs) = if nat_lt new.number c.number then new ∷ c ∷ cs else c ∷ placed new cs
+abbrev pub connection_placed : Connection → List Connection → List Connection
+connection_placed new [] = new ∷ []
+connection_placed new (c ∷ cs) = if nat_lt new.number c.number then new ∷ c ∷ cs else c ∷ connection_placed new cs
 
 -- without the connection d
-abbrev pub without : ℕ → List Connection → List Connection
-without d [] = []
-without d (c ∷ cs) = if has_number d c then cs else c ∷ without d cs
+abbrev pub without_connection : ℕ → List Connection → List Connection
+without_connection d [] = []
+without_connection d (c ∷ cs) = if is_connection d c then cs else c ∷ without_connection d cs
 
 -- Changes of a connection.
 
 -- a text is sent to it
-abbrev pub told : List ℕ → Connection → Connection
-told text c = record c { output = sent text c.output }
+abbrev pub text_told : List ℕ → Connection → Connection
+text_told text c = record c { output = text_sent text c.output }
 
 abbrev pub left : Connection → Connection
 left c = record c { leaving = true }
 
-abbrev pub seated : Dbref → Connection → Connection
-seated player c = record c { player = Some player }
+abbrev pub player_seated : Dbref → Connection → Connection
+player_seated player c = record c { player = Some player }
 
-abbrev pub edited : Option EditState → Connection → Connection
-edited editor c = record c { editor = editor }
+abbrev pub editor_set : Option EditState → Connection → Connection
+editor_set editor c = record c { editor = editor }
 
 abbrev pub lined : List ℕ → Connection → Connection
 lined line c = record c { waiting = c.waiting ++ line ∷ [] }
 
 -- Who hears.
 
-abbrev pub is_of : Dbref → Connection → Bool
-is_of player c = option_map_or (same player) c.player false
+abbrev pub is_connection_of : Dbref → Connection → Bool
+is_connection_of player c = option_map_or (same player) c.player false
 
 -- the connection of a player in that room, but of none of these
 abbrev pub hears : (Dbref → Option Dbref) → Dbref → List Dbref → Connection → Bool
 hears places room but c = option_map_or (λ p. not (list_any (same p) but) && option_map_or (same room) (places p) false) c.player false
 
 abbrev pub told_where : (Connection → Bool) → List ℕ → Connection → Connection
-told_where test text c = if test c then told text c else c
+told_where test text c = if test c then text_told text c else c
 
 abbrev pub left_where : (Connection → Bool) → Connection → Connection
 left_where test c = if test c then left c else c
@@ -96,7 +96,7 @@ abbrev pub edits : Dbref → Connection → Bool
 edits program c = option_map_or (λ e. same program e.program) c.editor false
 
 abbrev pub edited_where : (Connection → Bool) → Option EditState → Connection → Connection
-edited_where test editor c = if test c then edited editor c else c
+edited_where test editor c = if test c then editor_set editor c else c
 
 abbrev pub has_player : Connection → Bool
 has_player c = option_map_or (λ p. true) c.player false

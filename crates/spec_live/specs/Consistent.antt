@@ -4,7 +4,7 @@ use Rattle.muck_model.specs.declared.dbref.Kind.TheVariants.{Room, Thing, Exit, 
 use Rattle.muck_model.specs.declared.dbref.Kind.{Kind}
 use Rattle.spec_live.specs.declared.object.Object.{Object}
 use Rattle.spec_live.specs.Chain.{Ends, Member, IsApart}
-use Rattle.spec_live.specs.Objects.{Entry, dbref_of, nothing, home, is_exit, is_player, is_garbage, garbage, object_in, list_in, kind_in, place_in, fits_in, path_in}
+use Rattle.spec_live.specs.Objects.{Entry, dbref_of, nothing, home, is_exit, is_player, is_garbage, garbage, object_in, list_in, kind_in, place_in, fits_in, places_from}
 use Rattle.spec_live.specs.Setting.{may_link, may_live}
 
 -- d stands where its own fields say so
@@ -68,4 +68,4 @@ pub record MayMove (es : List Entry) (d to : ℕ) : Type 0 where
   pub place : to < length es
   pub lower : d ≡ 0 → ⊥
   pub fits : fits_in es d to ≡ true
-  pub free : Member d (path_in es to) → ⊥
+  pub free : Member d (places_from es to) → ⊥

@@ -3,6 +3,7 @@ pub mod Chain
 pub mod Flags
 pub mod Objects
 pub mod Saving
+pub mod Stood
 pub mod Password
 pub mod Moving
 pub mod Making
@@ -12,6 +13,7 @@ pub mod Marks
 pub mod Consistent
 pub mod Seen
 pub mod Worth
+pub mod Messages
 pub mod Start
 pub mod Output
 pub mod Connections

@@ -16,11 +16,11 @@ Change = Live → Live
 -- How changes are put together, of whatever world W.
 
 -- f, and then g, whose answer may be more than the world
-unfoldable pub followed : {W Y : Type 0} → (W → W) → (W → Y) → W → Y
-followed f g w = g (f w)
+unfoldable pub change_followed : {W Y : Type 0} → (W → W) → (W → Y) → W → Y
+change_followed f g w = g (f w)
 
 abbrev pub ◌▸◌ : {W Y : Type 0} → (W → W) → (W → Y) → W → Y
-◌▸◌ f g = followed f g
+◌▸◌ f g = change_followed f g
 
 infixr 4 ◌▸◌
 -- what is read is handed on

@@ -7,7 +7,7 @@ use Rattle.spec_live.specs.declared.object.Object.{Object}
 use Rattle.spec_live.specs.declared.saving.Saving.TheVariants.{Due}
 use Rattle.spec_live.specs.declared.fault.DbFault.{DbFault}
 use Rattle.spec_live.specs.declared.fault.DbFault.TheVariants.{NoSuchObject, WrongKind, WorldFull, NoMemory}
-use Rattle.spec_live.specs.Objects.{Entry, dbref_of, nothing, is_thing, is_player, is_garbage, may_stand, kind_in, is_vehicle_in, number_in, changed_at, with_object, plain, garbage}
+use Rattle.spec_live.specs.Objects.{Entry, dbref_of, nothing, is_thing, is_player, is_garbage, may_stand, kind_in, is_vehicle_in, number_in, changed_at, with_object, bare_object, garbage}
 use Rattle.spec_live.specs.Moving.{moved}
 
 -- the most objects
@@ -20,11 +20,11 @@ free_in [] = 0
 free_in (e ∷ es) = if is_garbage e.object.kind then 0 else suc (free_in es)
 
 unfoldable pub blank_entry : Entry
-blank_entry = record { object = garbage; contents = []; exits = []; mark = None; saving = Due }
+blank_entry = record { object = garbage; contents = []; exits = []; mark = None; saving = Due; stood = None }
 
 -- one more of garbage, where the number is the next
-unfoldable pub grown : ℕ → List Entry → List Entry
-grown n es = if n == length es then es ++ blank_entry ∷ [] else es
+unfoldable pub objects_grown : ℕ → List Entry → List Entry
+objects_grown n es = if n == length es then es ++ blank_entry ∷ [] else es
 
 abbrev pub has_home : Kind → Bool
 has_home kind = is_thing kind || is_player kind
@@ -32,11 +32,11 @@ has_home kind = is_thing kind || is_player kind
 -- a new object: a player owns itself, and `#0` is the first home of a thing or a player
 unfoldable pub new_object : ℕ → Kind → List ℕ → Dbref → Object
 new_object n kind name owner =
-    record (plain kind name (if is_player kind then dbref_of n else owner)) { home = if has_home kind then dbref_of 0 else nothing }
+    record (bare_object kind name (if is_player kind then dbref_of n else owner)) { home = if has_home kind then dbref_of 0 else nothing }
 
 -- an object at that number, in front of a list of `to`
 unfoldable pub created : ℕ → Kind → List ℕ → Dbref → ℕ → List Entry → List Entry
-created n kind name owner to es = moved n to (changed_at n (with_object (new_object n kind name owner)) (grown n es))
+created n kind name owner to es = moved n to (changed_at n (with_object (new_object n kind name owner)) (objects_grown n es))
 
 -- the kind may be there, and its owner is a player
 unfoldable pub may_make : Kind → Bool → ℕ → List Entry → Bool

@@ -7,8 +7,8 @@ use Rattle.spec_live.specs.declared.mark.Changed.{Changed}
 use Rattle.spec_live.specs.declared.mark.Changed.TheVariants.{Lines as ChangedLines, Gone as ChangedGone}
 use Rattle.spec_live.specs.Objects.{Entry, dbref_of, changed_at}
 
-abbrev pub unmarked : Entry → Entry
-unmarked e = record e { mark = None }
+abbrev pub entry_unmarked : Entry → Entry
+entry_unmarked e = record e { mark = None }
 
 -- the lowest number with a mark, where the first number is n
 unfoldable pub marked_from : ℕ → List Entry → Option (ℕ × Mark)
@@ -24,4 +24,4 @@ unfoldable pub next_change : List Entry → Option Changed
 next_change es = option_map told_of (marked_from 0 es)
 
 unfoldable pub change_told : List Entry → List Entry
-change_told es = option_map_or (λ p. changed_at p.0 unmarked es) (marked_from 0 es) es
+change_told es = option_map_or (λ p. changed_at p.0 entry_unmarked es) (marked_from 0 es) es

@@ -15,13 +15,15 @@ use Rattle.spec_live.specs.declared.saving.Saving.TheVariants.{Due}
 use Rattle.spec_live.specs.Flags.{has_flag, no_flags, vehicle}
 use Rattle.spec_live.specs.Chain.{walk}
 
--- An object with its contents and its exits, the newest first, what is to be told of it, and how it stands to the dumps.
+-- An object with its contents and its exits, the newest first, what is to be told of it, how it stands to the dumps, and where it stood when the event began,
+-- where it was a player then.
 pub record Entry : Type 0 where
   pub object : Object
   pub contents : List ℕ
   pub exits : List ℕ
   pub mark : Option Mark
   pub saving : Saving
+  pub stood : Option Dbref
 
 -- what may be in a room; in a thing, on which players may sit where it is a vehicle; and in a player
 abbrev pub may_stand : Kind → Kind → Bool → Bool
@@ -44,12 +46,12 @@ may_stand kind place seats = false
 unfoldable pub object_in : List Entry → ℕ → Option Object
 object_in es k = option_map (λ e. e.object) (slice_get es k)
 
-abbrev pub list_of : Bool → Entry → List ℕ
-list_of exits e = if exits then e.exits else e.contents
+abbrev pub entry_list : Bool → Entry → List ℕ
+entry_list exits e = if exits then e.exits else e.contents
 
 -- the list of exits, or of contents, of an object
 unfoldable pub list_in : Bool → List Entry → ℕ → List ℕ
-list_in exits es k = option_map_or (list_of exits) (slice_get es k) []
+list_in exits es k = option_map_or (entry_list exits) (slice_get es k) []
 
 unfoldable pub mark_in : List Entry → ℕ → Option Mark
 mark_in es k = option_and_then (λ e. e.mark) (slice_get es k)
@@ -77,8 +79,8 @@ unfoldable pub fits_in : List Entry → ℕ → ℕ → Bool
 fits_in es d p = may_stand (kind_in es d) (kind_in es p) (is_vehicle_in es p)
 
 -- the number itself, its place, the place of that, and so on
-unfoldable pub path_in : List Entry → ℕ → List ℕ
-path_in es k = walk (length es) (place_in es) (Some k)
+unfoldable pub places_from : List Entry → ℕ → List ℕ
+places_from es k = walk (length es) (place_in es) (Some k)
 
 -- Readers, by dbref.
 
@@ -106,8 +108,8 @@ abbrev pub on_object : (Object → Object) → Entry → Entry
 on_object f e = record e { object = f e.object; saving = Due }
 
 -- an object that has a kind, a name and an owner, and nothing else
-abbrev pub plain : Kind → List ℕ → Dbref → Object
-plain kind name owner = record {
+abbrev pub bare_object : Kind → List ℕ → Dbref → Object
+bare_object kind name owner = record {
   kind = kind;
   name = name;
   owner = owner;
@@ -123,4 +125,4 @@ plain kind name owner = record {
 
 -- What is left of an object that was recycled: `#1` owns it.
 unfoldable pub garbage : Object
-garbage = plain Garbage (codes "<garbage>") (dbref_of 1)
+garbage = bare_object Garbage (codes "<garbage>") (dbref_of 1)

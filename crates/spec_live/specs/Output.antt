@@ -23,12 +23,12 @@ abbrev pub notice_of : Bool → List ℕ
 notice_of flushed = if flushed then notice else []
 
 -- the bytes of whole lines
-unfoldable pub lines_bytes : List (List ℕ) → List ℕ
-lines_bytes lines = flat_map sent_form lines
+unfoldable pub sent_lines_bytes : List (List ℕ) → List ℕ
+sent_lines_bytes lines = flat_map sent_form lines
 
 -- the bytes that are sent, in order
 unfoldable pub bytes_of : Output → List ℕ
-bytes_of o = o.rest ++ (notice_of o.flushed ++ lines_bytes o.lines)
+bytes_of o = o.rest ++ (notice_of o.flushed ++ sent_lines_bytes o.lines)
 
 -- Sending.
 
@@ -46,7 +46,7 @@ queue_most = 131072
 -- the newest of the lines, as many as have at most so many bytes
 unfoldable pub newest : ℕ → List (List ℕ) → List (List ℕ)
 newest room [] = []
-newest room (line ∷ lines) = if nat_le (length (lines_bytes (line ∷ lines))) room then line ∷ lines else newest room lines
+newest room (line ∷ lines) = if nat_le (length (sent_lines_bytes (line ∷ lines))) room then line ∷ lines else newest room lines
 
 -- how many bytes of whole lines leave room for this line
 abbrev pub room_for : List ℕ → Output → ℕ
@@ -55,7 +55,7 @@ room_for line o = queue_most - (length o.rest + length (sent_form line))
 -- With a line more. Where it doesn't fit, the oldest whole lines go until it does, and the notice stands.
 unfoldable pub line_sent : List ℕ → Output → Output
 line_sent line o =
-    if nat_le (length (lines_bytes o.lines)) (room_for line o)
+    if nat_le (length (sent_lines_bytes o.lines)) (room_for line o)
     then record o { lines = o.lines ++ line ∷ [] }
     else record o { flushed = true; lines = newest (room_for line o) o.lines ++ line ∷ [] }
 
@@ -64,8 +64,8 @@ lines_sent [] o = o
 lines_sent (line ∷ lines) o = lines_sent lines (line_sent line o)
 
 -- with a text more
-unfoldable pub sent : List ℕ → Output → Output
-sent text o = lines_sent (sent_lines text) o
+unfoldable pub text_sent : List ℕ → Output → Output
+text_sent text o = lines_sent (sent_lines text) o
 
 -- Taking.
 
@@ -87,7 +87,7 @@ notice_taken n lines =
     else record { rest = drop n notice; flushed = false; lines = lines })
 
 -- without the first n bytes
-unfoldable pub taken : ℕ → Output → Output
-taken n o =
+unfoldable pub output_taken : ℕ → Output → Output
+output_taken n o =
     if nat_lt n (length o.rest) then record o { rest = drop n o.rest }
     else (if o.flushed then notice_taken (n - length o.rest) o.lines else lines_taken (n - length o.rest) o.lines)

@@ -9,7 +9,7 @@ use Rattle.spec_live.specs.declared.mark.Mark.TheVariants.{Gone}
 use Rattle.spec_live.specs.declared.saving.Saving.TheVariants.{Due}
 use Rattle.spec_live.specs.declared.fault.DbFault.{DbFault}
 use Rattle.spec_live.specs.Chain.{has}
-use Rattle.spec_live.specs.Objects.{Entry, dbref_of, nothing, same, is_exit, is_player, kind_in, owner_in, home_in, fits_in, path_in, list_in, changed_at, garbage}
+use Rattle.spec_live.specs.Objects.{Entry, dbref_of, nothing, same, is_exit, is_player, kind_in, owner_in, home_in, fits_in, places_from, list_in, changed_at, garbage}
 use Rattle.spec_live.specs.Moving.{left_out, moved}
 use Rattle.spec_live.specs.Saving.{relinked}
 use Rattle.spec_live.specs.Setting.{checked}
@@ -21,11 +21,11 @@ without_ties d o = record o {
   link = if same o.link (dbref_of d) then nothing else o.link;
 }
 
-abbrev pub is_tied : ℕ → Object → Bool
-is_tied d o = same o.home (dbref_of d) || same o.link (dbref_of d)
+abbrev pub is_tied_to_number : ℕ → Object → Bool
+is_tied_to_number d o = same o.home (dbref_of d) || same o.link (dbref_of d)
 
 abbrev pub untie : ℕ → Entry → Entry
-untie d e = record e { object = without_ties d e.object; saving = if is_tied d e.object then Due else e.saving }
+untie d e = record e { object = without_ties d e.object; saving = if is_tied_to_number d e.object then Due else e.saving }
 
 -- no object has its home in d or a link to it
 unfoldable pub untied : ℕ → List Entry → List Entry
@@ -40,7 +40,7 @@ wished_home x es kind = None
 
 -- x may go there, which isn't inside it
 unfoldable pub may_go : ℕ → ℕ → List Entry → Bool
-may_go x to es = fits_in es x to && not (has x (path_in es to))
+may_go x to es = fits_in es x to && not (has x (places_from es to))
 
 -- its home, or `#0` where it has none or may not be there
 unfoldable pub way_home : ℕ → List Entry → ℕ
@@ -52,15 +52,15 @@ sent_home [] es = es
 sent_home (x ∷ xs) es = sent_home xs (moved x (way_home x es) es)
 
 -- what is left of an object, of which is to be told
-unfoldable pub gone_entry : Entry
-gone_entry = record { object = garbage; contents = []; exits = []; mark = Some Gone; saving = Due }
+unfoldable pub gone_entry : Entry → Entry
+gone_entry e = record { object = garbage; contents = []; exits = []; mark = Some Gone; saving = Due; stood = e.stood }
 
 -- an exit of d
 abbrev pub is_exit_of : ℕ → Object → Bool
 is_exit_of d o = is_exit o.kind && same o.place (dbref_of d)
 
 abbrev pub exit_gone : ℕ → Entry → Entry
-exit_gone d e = if is_exit_of d e.object then gone_entry else e
+exit_gone d e = if is_exit_of d e.object then gone_entry e else e
 
 abbrev pub without_exits : Entry → Entry
 without_exits e = record e { exits = [] }
@@ -71,7 +71,7 @@ exits_gone d es = changed_at d without_exits (map (exit_gone d) es)
 
 -- d leaves its list and becomes garbage
 unfoldable pub vanished : ℕ → List Entry → List Entry
-vanished d es = changed_at d (λ e. gone_entry) (map (left_out d) es)
+vanished d es = changed_at d gone_entry (map (left_out d) es)
 
 unfoldable pub taken_away : ℕ → List Entry → List Entry
 taken_away d es = relinked es (vanished d (exits_gone d es))

@@ -22,16 +22,16 @@ pub record Links : Type 0 where
   pub exit : Option ℕ
   pub next : Option ℕ
 
-abbrev pub front : List ℕ → Option ℕ
-front [] = None
-front (x ∷ xs) = Some x
+abbrev pub first_of_list : List ℕ → Option ℕ
+first_of_list [] = None
+first_of_list (x ∷ xs) = Some x
 
 -- what stands behind an object in the list that it is in
 unfoldable pub next_in : List Entry → ℕ → Option ℕ
 next_in es k = option_and_then (λ p. follower k (list_in (is_exit (kind_in es k)) es p)) (place_in es k)
 
 unfoldable pub links_in : List Entry → ℕ → Links
-links_in es k = record { content = front (list_in false es k); exit = front (list_in true es k); next = next_in es k }
+links_in es k = record { content = first_of_list (list_in false es k); exit = first_of_list (list_in true es k); next = next_in es k }
 
 -- Changes.
 
@@ -60,9 +60,9 @@ pending Due = Pending
 pending s = s
 
 -- it was stored
-abbrev pub done : Saving → Saving
-done Pending = Done
-done s = s
+abbrev pub saving_done : Saving → Saving
+saving_done Pending = Done
+saving_done s = s
 
 -- it failed
 abbrev pub due_again : Saving → Saving

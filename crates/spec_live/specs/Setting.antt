@@ -8,7 +8,7 @@ use Rattle.muck_model.specs.declared.dbref.Flags.{Flags}
 use Rattle.muck_model.specs.declared.dbref.Kind.{Kind}
 use Rattle.muck_model.specs.declared.dbref.Kind.TheVariants.{Room, Thing, Exit, Player, Program}
 use Rattle.muck_prop.specs.declared.value.PropValue.{PropValue}
-use Rattle.muck_prop.specs.Store.{stored}
+use Rattle.muck_prop.specs.Store.{value_stored}
 use Rattle.spec_live.specs.declared.object.Object.{Object}
 use Rattle.spec_live.specs.declared.mark.Mark.{Mark}
 use Rattle.spec_live.specs.declared.saving.Saving.TheVariants.{Due}
@@ -38,8 +38,8 @@ Tries change (Err fault) old new result = MatchResult result (λ u. ⊥) (λ fou
 
 -- The name, which is free.
 
-abbrev pub any : ℕ → Bool
-any n = true
+abbrev pub every_number : ℕ → Bool
+every_number n = true
 
 abbrev pub with_name : List ℕ → Object → Object
 with_name name o = record o { name = name }
@@ -136,7 +136,7 @@ with_password salt word o = record o { digest = digest_of (salt_bytes salt) word
 -- Properties.
 
 abbrev pub with_prop : List (List ℕ) → PropValue → Object → Object
-with_prop path value o = record o { props = stored path value o.props }
+with_prop path value o = record o { props = value_stored path value o.props }
 
 abbrev pub without_prop : List (List ℕ) → Object → Object
 without_prop path o = record o { props = remove o.props path }

@@ -7,7 +7,7 @@ use Rattle.std.specs.Str.{bytes_eq}
 use Rattle.muck_model.specs.declared.dbref.Dbref.{Dbref}
 use Rattle.muck_prop.specs.declared.value.PropValue.{PropValue}
 use Rattle.muck_prop.specs.declared.value.PropValue.TheVariants.{Text, Number}
-use Rattle.muck_prop.specs.Store.{PropMap}
+use Rattle.muck_prop.specs.Store.{PropMap, kept_text}
 use Rattle.muck_prop.specs.Paths.{path_fault, segments_of}
 use Rattle.muck_lock.specs.Opens.{Holdings}
 use Rattle.muck_lock.specs.Answers.{text_opens}
@@ -27,12 +27,12 @@ abbrev pub value_is : List ℕ → PropValue → Bool
 value_is text value = bytes_eq (value_text value) text
 
 -- the value at the path that a text writes
-unfoldable pub value_at : List ℕ → PropMap → Option PropValue
-value_at text props = option_map_or (λ fault. None) (path_fault text) (get props (segments_of text))
+unfoldable pub value_at_path : List ℕ → PropMap → Option PropValue
+value_at_path text props = option_map_or (λ fault. None) (path_fault text) (get props (segments_of text))
 
 -- the property of that path of an object has that text, or that number in decimal
 unfoldable pub has_value : List Entry → Dbref → List ℕ → List ℕ → Bool
-has_value es d path text = option_map_or (λ o. option_map_or (value_is text) (value_at path o.props) false) (object_at d es) false
+has_value es d path text = option_map_or (λ o. option_map_or (value_is text) (value_at_path path o.props) false) (object_at d es) false
 
 unfoldable pub holdings_of : List Entry → Holdings
 holdings_of es = record {
@@ -45,8 +45,7 @@ holdings_of es = record {
 -- Messages. A text is one, and nothing else.
 
 abbrev pub message_of : PropValue → Option (List ℕ)
-message_of (Text text) = Some text
-message_of (Number n) = None
+message_of value = kept_text value
 
 -- the message that an object keeps at a path
 unfoldable pub message_at : List (List ℕ) → Dbref → List Entry → Option (List ℕ)
@@ -60,8 +59,7 @@ lock_of_object o = get o.props (codes "_" ∷ codes "lok" ∷ [])
 
 -- what is kept opens for x; what isn't the text of a lock opens for nobody
 abbrev pub kept_opens : List Entry → Dbref → PropValue → Bool
-kept_opens es x (Text text) = text_opens (holdings_of es) x text
-kept_opens es x (Number n) = false
+kept_opens es x value = option_map_or (text_opens (holdings_of es) x) (kept_text value) false
 
 -- the lock of an object opens for x; without a lock it does
 unfoldable pub opens_at : List Entry → Dbref → Dbref → Bool

@@ -7,6 +7,8 @@
 mod fault;
 mod flag;
 mod mark;
+mod message;
+mod moved;
 mod object;
 mod paths;
 mod rows;
@@ -17,6 +19,8 @@ pub use flag::{
     BUILDER, CHOWN, DARK, HAVEN, JUMP, LINK, QUELL, SETUID, VEHICLE, WIZARD, flag_of, has_flag,
 };
 pub use mark::{Changed, Mark};
+pub use message::{Message, MessageRow};
+pub use moved::Move;
 pub use object::Object;
 pub use paths::paths_agree;
 pub use rows::rows_hold;

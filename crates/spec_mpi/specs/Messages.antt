@@ -8,12 +8,12 @@ use Rattle.mpi.specs.declared.fault.MpiFault.{MpiFault}
 use Rattle.mpi.specs.declared.fault.MpiFault.TheVariants.{Unclosed, UnknownFunction, BadCount, BadValue, TooManyCommands, TooLong, Denied, NoMemory}
 use Rattle.mpi.specs.Variables.{Variables}
 use Rattle.mpi.specs.Meaning.{evaluated, scene_of}
-use Rattle.spec_mpi.specs.Telling.{Answer}
+use Rattle.spec_mpi.specs.Telling.{MpiAnswer}
 use Rattle.spec_mpi.specs.Doing.{powers}
 
 -- a text that an object carries is evaluated for who acts, where these variables are there: its value or its fault, and the world after it
-unfoldable pub heard : Actor → Dbref → List ℕ → Variables → Live → Answer × Live
-heard a this text vars w =
+unfoldable pub formula_heard : Actor → Dbref → List ℕ → Variables → Live → MpiAnswer × Live
+formula_heard a this text vars w =
     let done = evaluated (scene_of powers this) text (record { variables = vars; left = 0 }, record { actor = a; live = w }) in
     (done.0, done.1.1.live)
 
@@ -33,12 +33,12 @@ fault_number (Denied rule) = 66
 fault_number NoMemory = 0
 
 -- what is shown of it
-unfoldable pub shown : Answer → List ℕ
-shown (Ok text) = text
-shown (Err fault) = codes "MPI error " ++ (decimal (fault_number fault) ++ codes ".")
+unfoldable pub answer_shown : MpiAnswer → List ℕ
+answer_shown (Ok text) = text
+answer_shown (Err fault) = codes "MPI error " ++ (decimal (fault_number fault) ++ codes ".")
 
 -- what is shown of a message, and the world after it
-unfoldable pub spoken : Actor → Dbref → List ℕ → List ℕ → List ℕ → List ℕ → Live → List ℕ × Live
-spoken a this how cmd arg text w =
-    let done = heard a this text (variables_of how cmd arg) w in
-    (shown done.0, done.1)
+unfoldable pub message_spoken : Actor → Dbref → List ℕ → List ℕ → List ℕ → List ℕ → Live → List ℕ × Live
+message_spoken a this how cmd arg text w =
+    let done = formula_heard a this text (variables_of how cmd arg) w in
+    (answer_shown done.0, done.1)

@@ -8,9 +8,9 @@ pub struct Seen {
 }
 
 impl Model for Seen {
-    ghost use Rattle.spec_mpi.specs.Stages.{Stage, bare};
+    ghost use Rattle.spec_mpi.specs.Stages.{MpiStage, bare};
 
-    ghost Value = { Stage };
+    ghost Value = { MpiStage };
 
     ghost use Rattle.std.specs.Coded.{codes};
     ghost use Rattle.muck_prop.specs.contracts.props.Props as props;

@@ -3,6 +3,7 @@ use Rattle.std.proofs.Common.{◌≡◌, ℕ, ℤ, zero, suc, pos, negsuc, true,
 use Rattle.std.specs.Prelude.{slice_get, is_some, Result, Ok, Err}
 use Rattle.std.specs.Option.{option_map, option_map_or, option_and_then}
 use Rattle.std.proofs.lemmas.Bool.{and_parts}
+use Rattle.muck_laws.proofs.Truths.{never_both}
 use Rattle.muck_model.specs.declared.dbref.Dbref.{Dbref}
 use Rattle.muck_model.specs.declared.edit.EditState.{EditState}
 use Rattle.muck_model.specs.declared.event.Event.{Event}
@@ -12,11 +13,10 @@ use Rattle.spec_live.specs.Lives.{tell}
 use Rattle.spec_live.specs.Objects.{Entry, index_of, object_at, changed_at}
 use Rattle.spec_live.proofs.Lists.{get_changed_same}
 use Rattle.spec_rights.proofs.Lookups.{at_negative}
-use Rattle.spec_rights.proofs.Telling.{never_both}
-use Rattle.spec_prims.specs.Asking.{numbered}
+use Rattle.spec_prims.specs.Asking.{object_numbered}
 use Rattle.spec_commands.specs.declared.edit.EditStep.{EditStep}
 use Rattle.spec_commands.specs.declared.edit.EditStep.TheVariants.{Stay, Compile, Left}
-use Rattle.spec_commands.specs.Editing.{editor_exited, edited}
+use Rattle.spec_commands.specs.Editing.{editor_exited, edited_by_line}
 use Rattle.spec_commands.specs.Finding.{actor_of}
 use Rattle.spec_commands.specs.Talk.{waits}
 use Rattle.muf_model.specs.Tree.{Tree}
@@ -26,7 +26,7 @@ use Rattle.muck_library.specs.Programs.{built_tree}
 use Rattle.muck_queue.specs.Queues.{reader}
 use Rattle.spec_events.specs.World.{World, connection, on_live}
 use Rattle.spec_events.specs.Following.{settled}
-use Rattle.spec_events.specs.Lines.{with_editor, compiled_so, compiled, next_editor, after_edit, edited_line, in_editor, line_for, line_done, done}
+use Rattle.spec_events.specs.Lines.{with_editor, compiled_so, compiled, next_editor, after_edit, edited_line, in_editor, line_for, line_done, first_line_done}
 use Rattle.spec_events.specs.Steps.{happened}
 use Rattle.spec_origins.specs.Builds.{built_form, StepBuilds, EditorBuilds, LineBuilds, SeatBuilds, EventBuilds}
 use Rattle.spec_origins.proofs.Named.{Stands, so_there}
@@ -63,9 +63,9 @@ form_none d library = at (index_of d)
 place_there : (es : List Entry) (d : Dbref) → Stands es d → is_some (index_of d) ≡ true
 place_there es d = at d.0
   where
-    at : (z : ℤ) → Stands es (numbered z) → is_some (index_of (numbered z)) ≡ true
+    at : (z : ℤ) → Stands es (object_numbered z) → is_some (index_of (object_numbered z)) ≡ true
     at (pos n) h = refl
-    at (negsuc n) h = never_both (is_some (object_at (numbered (negsuc n)) es)) h (ap is_some (at_negative es n))
+    at (negsuc n) h = never_both (is_some (object_at (object_numbered (negsuc n)) es)) h (ap is_some (at_negative es n))
 
 -- Lines.
 
@@ -83,7 +83,7 @@ after_builds d program Left w h = tt
 editor_builds : (d : ℕ) (player : Dbref) (s : EditState) (line : List ℕ) (w : World) → EditorBuilds d player s line w (in_editor d player s line w)
 unfolding in_editor edited_line
 editor_builds d player s line w e =
-    let r = edited d (actor_of w.live.objects player) s line w.live in
+    let r = edited_by_line d (actor_of w.live.objects player) s line w.live in
     let x : World = record w { live = with_editor d (next_editor r.2 r.1) r.0 } in
     subst (λ b. StepBuilds r.2 s.program (cond b (after_edit d s.program r.2 (settled x)) (on_live (tell d editor_exited) w))) (sym e)
     (after_builds d s.program r.2 (settled x) (place_there w.live.objects s.program (so_there s.program w.live (and_parts _ _ e).0)))
@@ -117,11 +117,11 @@ nobody_builds : (pid : Option ℤ) (d : ℕ) (w v : World) → SeatBuilds pid No
 nobody_builds None d w v = tt
 nobody_builds (Some pid) d w v = tt
 
-done_builds : (d : ℕ) (w : World) → SeatBuilds (reader d w.queue) (connection d w) d w (done d (connection d w) w)
-unfolding done
+done_builds : (d : ℕ) (w : World) → SeatBuilds (reader d w.queue) (connection d w) d w (first_line_done d (connection d w) w)
+unfolding first_line_done
 done_builds d w = at (connection d w)
   where
-    at : (o : Option Connection) → SeatBuilds (reader d w.queue) o d w (done d o w)
+    at : (o : Option Connection) → SeatBuilds (reader d w.queue) o d w (first_line_done d o w)
     at None = nobody_builds (reader d w.queue) d w w
     at (Some c) = seat_builds (reader d w.queue) c d w (line_done d c.player c.editor c.waiting w) (lines_build d c.player c.editor c.waiting w)
 

@@ -7,12 +7,12 @@ use Rattle.muck_model.proofs.Dbrefs.{eq_same}
 use Rattle.spec_live.specs.declared.mark.Mark.{Mark}
 use Rattle.spec_live.specs.declared.mark.Mark.TheVariants.{Lines, Gone}
 use Rattle.spec_live.specs.Objects.{Entry, dbref_of, mark_in, nothing, same}
-use Rattle.spec_live.specs.Connections.{Connection, edits, edited, edited_where}
+use Rattle.spec_live.specs.Connections.{Connection, edits, editor_set, edited_where}
 use Rattle.spec_live.specs.Boards.{editors_closed}
 use Rattle.muck_queue.specs.declared.process.Process.{Process}
-use Rattle.muck_queue.specs.Queues.{has_trigger, runs, without_trigger, ended_running, trigger_cleared}
+use Rattle.muck_queue.specs.Queues.{has_trigger, runs_in, without_trigger, ended_running, trigger_cleared}
 use Rattle.spec_events.specs.World.{World}
-use Rattle.spec_events.specs.Following.{followed, swept, settled}
+use Rattle.spec_events.specs.Following.{mark_followed, swept, settled}
 use Rattle.spec_events.specs.Sourced.{Each}
 use Rattle.spec_events.proofs.Sourcing.{each_filter}
 use Rattle.spec_origins.specs.Clearing.{IsCleared}
@@ -49,27 +49,27 @@ module _ (n : ℕ) where
   none_now p = cond_both (has_trigger (dbref_of n) p) (without_trigger p) p NoTrigger (λ k. no_nothing n) (λ k. k)
 
   still_closed : (e : Dbref) (c : Connection) → NoEditor c → NoEditor (edited_where (edits e) None c)
-  still_closed e c h = cond_both (edits e c) (edited None c) c NoEditor (λ k. refl) (λ k. h)
+  still_closed e c h = cond_both (edits e c) (editor_set None c) c NoEditor (λ k. refl) (λ k. h)
 
   closed_now : (c : Connection) → NoEditor (edited_where (edits (dbref_of n)) None c)
-  closed_now c = cond_both (edits (dbref_of n) c) (edited None c) c NoEditor (λ k. refl) (λ k. k)
+  closed_now c = cond_both (edits (dbref_of n) c) (editor_set None c) c NoEditor (λ k. refl) (λ k. k)
 
-  followed_free : (m : Mark) (e : Dbref) (w : World) → IsCleared (dbref_of n) w → IsCleared (dbref_of n) (followed m e w)
+  followed_free : (m : Mark) (e : Dbref) (w : World) → IsCleared (dbref_of n) w → IsCleared (dbref_of n) (mark_followed m e w)
   unfolding ended_running trigger_cleared editors_closed
-  followed_free Lines e w h = record { triggers = each_filter NoTrigger (λ p. not (runs e p)) w.queue.processes h.triggers; editors = h.editors }
+  followed_free Lines e w h = record { triggers = each_filter NoTrigger (λ p. not (runs_in e p)) w.queue.processes h.triggers; editors = h.editors }
   followed_free Gone e w h = record {
-    triggers = each_map NoTrigger (λ p. cond (has_trigger e p) (without_trigger p) p) (still_none e) _ (each_filter NoTrigger (λ p. not (runs e p)) w.queue.processes h.triggers);
+    triggers = each_map NoTrigger (λ p. cond (has_trigger e p) (without_trigger p) p) (still_none e) _ (each_filter NoTrigger (λ p. not (runs_in e p)) w.queue.processes h.triggers);
     editors = each_map NoEditor (edited_where (edits e) None) (still_closed e) w.live.board.connections h.editors;
   }
 
-  gone_free : (w : World) → IsCleared (dbref_of n) (followed Gone (dbref_of n) w)
+  gone_free : (w : World) → IsCleared (dbref_of n) (mark_followed Gone (dbref_of n) w)
   unfolding ended_running trigger_cleared editors_closed
   gone_free w = record {
     triggers = each_made NoTrigger (λ p. cond (has_trigger (dbref_of n) p) (without_trigger p) p) none_now _;
     editors = each_made NoEditor (edited_where (edits (dbref_of n)) None) closed_now w.live.board.connections;
   }
 
-  marked_free : (o : Option Mark) (e : Dbref) (w : World) → IsCleared (dbref_of n) w → IsCleared (dbref_of n) (option_map_or (λ m. followed m e w) o w)
+  marked_free : (o : Option Mark) (e : Dbref) (w : World) → IsCleared (dbref_of n) w → IsCleared (dbref_of n) (option_map_or (λ m. mark_followed m e w) o w)
   marked_free None e w h = h
   marked_free (Some m) e w h = followed_free m e w h
 
@@ -84,11 +84,11 @@ swept_gone n zero [] w h = absurd cc
 swept_gone n (suc k) [] w h = absurd cc
 swept_gone n zero (e ∷ es) w h =
     let here : n + 0 ≡ n = omega arith in
-    let now : IsCleared (dbref_of n) (option_map_or (λ m. followed m (dbref_of n) w) e.mark w) = subst (λ (o : Option Mark). IsCleared (dbref_of n) (option_map_or (λ m. followed m (dbref_of n) w) o w)) (sym h) (gone_free n w) in
-    subst (λ m. IsCleared (dbref_of m) (swept (suc n) es (option_map_or (λ m. followed m (dbref_of n) w) e.mark w))) (sym here) (swept_free n (suc n) es _ now)
+    let now : IsCleared (dbref_of n) (option_map_or (λ m. mark_followed m (dbref_of n) w) e.mark w) = subst (λ (o : Option Mark). IsCleared (dbref_of n) (option_map_or (λ m. mark_followed m (dbref_of n) w) o w)) (sym h) (gone_free n w) in
+    subst (λ m. IsCleared (dbref_of m) (swept (suc n) es (option_map_or (λ m. mark_followed m (dbref_of n) w) e.mark w))) (sym here) (swept_free n (suc n) es _ now)
 swept_gone n (suc k) (e ∷ es) w h =
     let there : n + suc k ≡ suc n + k = omega arith in
-    subst (λ m. IsCleared (dbref_of m) (swept (suc n) es (option_map_or (λ m. followed m (dbref_of n) w) e.mark w))) (sym there) (swept_gone (suc n) k es _ h)
+    subst (λ m. IsCleared (dbref_of m) (swept (suc n) es (option_map_or (λ m. mark_followed m (dbref_of n) w) e.mark w))) (sym there) (swept_gone (suc n) k es _ h)
 
 -- behind all that follows
 pub settled_clears : (n : ℕ) (w : World) → mark_in w.live.objects n ≡ Some Gone → IsCleared (dbref_of n) (settled w)

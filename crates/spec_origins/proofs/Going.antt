@@ -20,12 +20,12 @@ use Rattle.muck_queue.specs.declared.mode.Mode.{Mode}
 use Rattle.muck_queue.specs.declared.mode.Wait.{Wait}
 use Rattle.muck_queue.specs.declared.mode.Wait.TheVariants.{Nothing, ForLine, ForEvent}
 use Rattle.muck_queue.specs.declared.process.Process.{Process}
-use Rattle.muck_queue.specs.Queues.{Queue, numbered, has_pid, has_trigger, runs, is_background, is_for_event, is_awaiting, without_trigger, in_mode, told_event, given_event, woken, changed_first, is_full, on_process, without, added, ended_running, trigger_cleared}
+use Rattle.muck_queue.specs.Queues.{Queue, process_numbered, has_pid, has_trigger, runs_in, is_background, is_for_event, is_awaiting, without_trigger, process_in_mode, told_event, given_event, woken, changed_first, is_queue_full, on_process, without_process, process_added, ended_running, trigger_cleared}
 use Rattle.spec_events.specs.declared.starting.Call.{Call as Started}
 use Rattle.spec_events.specs.declared.starting.Manner.{Manner}
 use Rattle.spec_events.specs.World.{World, with_library}
-use Rattle.spec_events.specs.Following.{followed, swept, settled}
-use Rattle.spec_events.specs.Starting.{beginning, new_process, joined, word_started, form_started, built_started, begun}
+use Rattle.spec_events.specs.Following.{mark_followed, swept, settled}
+use Rattle.spec_events.specs.Starting.{program_beginning, new_process, process_joined, word_started, form_started, built_started, program_begun}
 use Rattle.spec_events.specs.Sourced.{Each}
 use Rattle.spec_events.proofs.Sourcing.{each_more, each_filter, each_append, each_without}
 use Rattle.spec_origins.specs.Origins.{Among, SameOrigin, GoesOn, SameEvents, MoreEvents, StandsStill, From, was_there, is_new, Comes}
@@ -61,7 +61,7 @@ module _ (Lost : Dbref → Type 0) where
   pub goes_both : (p q r : Process) → GoesOn Lost p q → GoesOn Lost q r → GoesOn Lost p r
   goes_both p q r g h = record { number = h.number ∙ g.number; origin = origin_both p q r g.origin h.origin; tied = tied_both p.descr q.descr r.descr g.tied h.tied }
 
-  pub goes_in_mode : (mode : Mode) (p : Process) → GoesOn Lost p (in_mode mode p)
+  pub goes_in_mode : (mode : Mode) (p : Process) → GoesOn Lost p (process_in_mode mode p)
   goes_in_mode mode p = record {
     number = refl;
     origin = record { player = refl; program = refl; command = refl; trigger = inl refl };
@@ -182,14 +182,14 @@ module _ (own : ℤ → Bool) (sends : Bool) (Lost : Dbref → Type 0) (New : Pr
   unfolding on_process
   holds_changed pid f k r h = record { processes = each_first Since (has_pid pid) f (λ p e. k p ((Decides-int_eq p.number pid).0 e)) r.processes h.processes; last = h.last }
 
-  pub holds_without : (pid : ℤ) (r : Queue) → Holds r → Holds (without pid r)
-  unfolding without
+  pub holds_without : (pid : ℤ) (r : Queue) → Holds r → Holds (without_process pid r)
+  unfolding without_process
   holds_without pid r h = record { processes = each_without (λ (p : Process). Unit {0}) pid Since r.processes h.processes; last = h.last }
 
-  pub holds_added : (x : Process) → ((n : ℤ) → start.last <ℤ n → New (numbered n x)) → (r : Queue) → Holds r → Holds (added x r)
-  unfolding added
+  pub holds_added : (x : Process) → ((n : ℤ) → start.last <ℤ n → New (process_numbered n x)) → (r : Queue) → Holds r → Holds (process_added x r)
+  unfolding process_added
   holds_added x new r h = record {
-    processes = each_append Since r.processes (numbered (r.last +ℤ pos 1) x) h.processes (is_new (new (r.last +ℤ pos 1) (above start.last r.last h.last)));
+    processes = each_append Since r.processes (process_numbered (r.last +ℤ pos 1) x) h.processes (is_new (new (r.last +ℤ pos 1) (above start.last r.last h.last)));
     last = up start.last r.last h.last;
   }
     where
@@ -204,16 +204,16 @@ module _ (own : ℤ → Bool) (sends : Bool) (Lost : Dbref → Type 0) (New : Pr
   abbrev pub BegunHolds : World × Result ℤ MufFault → Type 0
   BegunHolds r = Holds r.0.queue
 
-  pub holds_joined : (p : Process) (w : World) → ((n : ℤ) → start.last <ℤ n → New (numbered n p)) → Holds w.queue → BegunHolds (joined p w)
-  holds_joined p w new h = cond_both (is_full p.player w.live.board.tune w.queue) _ _ BegunHolds (λ e. h) (λ e. holds_added p new w.queue h)
+  pub holds_joined : (p : Process) (w : World) → ((n : ℤ) → start.last <ℤ n → New (process_numbered n p)) → Holds w.queue → BegunHolds (process_joined p w)
+  holds_joined p w new h = cond_both (is_queue_full p.player w.live.board.tune w.queue) _ _ BegunHolds (λ e. h) (λ e. holds_added p new w.queue h)
 
   -- a process that is begun so is new
   abbrev pub Begins : Manner → Started → Type 0
-  Begins m c = (s : Source) (n : ℤ) → start.last <ℤ n → New (numbered n (new_process m c s))
+  Begins m c = (s : Source) (n : ℤ) → start.last <ℤ n → New (process_numbered n (new_process m c s))
 
   holds_word : (m : Manner) (c : Started) (tree : Tree) (o : Option Definition) (w : World) → Begins m c → Holds w.queue → BegunHolds (word_started m c tree o w)
   holds_word m c tree None w new h = h
-  holds_word m c tree (Some x) w new h = holds_joined (new_process m c (beginning c tree x w)) w (new (beginning c tree x w)) h
+  holds_word m c tree (Some x) w new h = holds_joined (new_process m c (program_beginning c tree x w)) w (new (program_beginning c tree x w)) h
 
   holds_form : (m : Manner) (c : Started) (o : Option Tree) (w : World) → Begins m c → Holds w.queue → BegunHolds (form_started m c o w)
   holds_form m c None w new h = h
@@ -222,8 +222,8 @@ module _ (own : ℤ → Bool) (sends : Bool) (Lost : Dbref → Type 0) (New : Pr
   holds_built : (m : Manner) (c : Started) (made : Option Tree × Library) (w : World) → Begins m c → Holds w.queue → BegunHolds (built_started m c made w)
   holds_built m c (form, library) w new h = holds_form m c form (with_library library w) new h
 
-  pub holds_begun : (m : Manner) (c : Started) (w : World) → Begins m c → Holds w.queue → BegunHolds (begun m c w)
-  unfolding begun
+  pub holds_begun : (m : Manner) (c : Started) (w : World) → Begins m c → Holds w.queue → BegunHolds (program_begun m c w)
+  unfolding program_begun
   holds_begun m c w new h = holds_built m c (formed w.live.objects c.program w.library) w new h
 
 -- where what is new goes on as new
@@ -259,12 +259,12 @@ module _ (own : ℤ → Bool) (sends : Bool) (Lost : Dbref → Type 0) (New : Pr
 
   -- What follows from a change of objects.
 
-  holds_followed : (m : Mark) (d : Dbref) → Lost d → (w : World) → Kept w.queue → Kept (followed m d w).queue
+  holds_followed : (m : Mark) (d : Dbref) → Lost d → (w : World) → Kept w.queue → Kept (mark_followed m d w).queue
   unfolding ended_running trigger_cleared
-  holds_followed Lines d l w h = record { processes = each_filter Later (λ p. not (runs d p)) w.queue.processes h.processes; last = h.last }
-  holds_followed Gone d l w h = record { processes = each_cleared Later d (since_cleared d l) _ (each_filter Later (λ p. not (runs d p)) w.queue.processes h.processes); last = h.last }
+  holds_followed Lines d l w h = record { processes = each_filter Later (λ p. not (runs_in d p)) w.queue.processes h.processes; last = h.last }
+  holds_followed Gone d l w h = record { processes = each_cleared Later d (since_cleared d l) _ (each_filter Later (λ p. not (runs_in d p)) w.queue.processes h.processes); last = h.last }
 
-  holds_marked : (o : Option Mark) (d : Dbref) → ((m : Mark) → o ≡ Some m → Lost d) → (w : World) → Kept w.queue → Kept (option_map_or (λ m. followed m d w) o w).queue
+  holds_marked : (o : Option Mark) (d : Dbref) → ((m : Mark) → o ≡ Some m → Lost d) → (w : World) → Kept w.queue → Kept (option_map_or (λ m. mark_followed m d w) o w).queue
   holds_marked None d l w h = h
   holds_marked (Some m) d l w h = holds_followed m d (l m refl) w h
 

@@ -1,5 +1,5 @@
 -- The laws of histories.
-use Rattle.std.proofs.Common.{◌≡◌, ℕ, ℤ, false, List, [], ◌∷◌, not, sym, subst, None}
+use Rattle.std.proofs.Common.{◌≡◌, ℕ, ℤ, false, List, [], ◌∷◌, not, None}
 use Rattle.muck_model.specs.declared.event.Entry.{Entry}
 use Rattle.muck_model.specs.declared.event.Event.{Event}
 use Rattle.muck_model.specs.declared.event.Event.TheVariants.{Closed, Exec, Claim, Slice, Lost}
@@ -7,15 +7,13 @@ use Rattle.muck_model.specs.declared.tune.Tune.{Tune}
 use Rattle.spec_live.specs.Objects.{Entry as Kept, mark_in}
 use Rattle.muck_queue.specs.inner.Numbered.{IsNumbered}
 use Rattle.muck_queue.specs.Queues.{Queue, empty_queue, is_tied_to, claimed, released, ended_tied}
-use Rattle.spec_events.specs.World.{World, booted, connection}
+use Rattle.spec_events.specs.World.{World, world_booted, connection}
 use Rattle.spec_events.specs.Steps.{effect, happened}
 use Rattle.spec_events.proofs.Endings.{IsTold}
-use Rattle.spec_events.proofs.Happening.{effect-is}
 use Rattle.spec_events.proofs.Numbers.{numbered_effect, rising_booted}
 use Rattle.spec_events.proofs.Sourcing.{each_filter}
 use Rattle.spec_events.proofs.Turns.{told_effect}
-use Rattle.spec_origins.specs.Builds.{EventBuilds}
-use Rattle.spec_origins.specs.Origins.{Comes, From, no_process, EventOrigins, AreTied, AreOwn, AllOrigins}
+use Rattle.spec_origins.specs.Origins.{Comes, From, no_own_process, EventOrigins, AreTied, AreOwn, AllOrigins}
 use Rattle.spec_origins.proofs.Builds.{event_builds}
 use Rattle.spec_origins.proofs.Going.{from_itself}
 use Rattle.spec_origins.proofs.Lines.{line_comes}
@@ -26,16 +24,16 @@ use Rattle.spec_origins.proofs.Units.{slice_comes}
 -- Where processes come from.
 
 abbrev Still : Queue → Queue → Type 0
-Still q r = Comes no_process false (λ x. ⊥) (λ p. ⊥) q r
+Still q r = Comes no_own_process false (λ x. ⊥) (λ p. ⊥) q r
 
 still_itself : (q : Queue) → Still q q
-still_itself q = from_itself no_process false (λ x. ⊥) (λ p. ⊥) q
+still_itself q = from_itself no_own_process false (λ x. ⊥) (λ p. ⊥) q
 
 still_tied : (d : ℕ) (q : Queue) → Still q (ended_tied d q)
 unfolding ended_tied
 still_tied d q =
     let h = still_itself q in
-    record { processes = each_filter (From no_process false (λ x. ⊥) (λ p. ⊥) q.processes) (λ p. not (is_tied_to d p)) q.processes h.processes; last = h.last }
+    record { processes = each_filter (From no_own_process false (λ x. ⊥) (λ p. ⊥) q.processes) (λ p. not (is_tied_to d p)) q.processes h.processes; last = h.last }
 
 still_claimed : (pid : ℤ) (party : ℕ) (q : Queue) → Still q (claimed pid party q)
 unfolding claimed
@@ -63,12 +61,10 @@ all_origins w [] told tied n own = tt
 all_origins w (entry ∷ entries) told tied n own =
     let c = event_comes entry.event w entry.party told in
     let t = tied_effect entry w c tied in
-    let r = effect_own w entry n own in (
-      record { processes = subst (EventOrigins entry.event w) (sym (effect-is w entry)) c; tied = t; runs = r; builds = subst (EventBuilds entry.event w) (sym (effect-is w entry)) (event_builds entry.event w entry.party) },
-      all_origins (effect w entry) entries (told_effect w entry told) t (numbered_effect w entry n) r,
-    )
+    let r = effect_own w entry n own in
+    (record { processes = c; builds = event_builds entry.event w entry.party; tied = t; runs = r }, all_origins (effect w entry) entries (told_effect w entry told) t (numbered_effect w entry n) r)
 
 -- from any world that was booted with objects of which nothing is to be told
-pub all_origins_booted : (objects : List Kept) (tune : Tune) (moment start : ℕ) → ((n : ℕ) → mark_in objects n ≡ None) → (es : List Entry) → AllOrigins (booted objects tune moment start) es
-unfolding booted empty_queue
-all_origins_booted objects tune moment start none es = all_origins (booted objects tune moment start) es none tt (rising_booted objects tune moment start) tt
+pub all_origins_booted : (objects : List Kept) (tune : Tune) (moment start : ℕ) → ((n : ℕ) → mark_in objects n ≡ None) → (es : List Entry) → AllOrigins (world_booted objects tune moment start) es
+unfolding world_booted empty_queue
+all_origins_booted objects tune moment start none es = all_origins (world_booted objects tune moment start) es none tt (rising_booted objects tune moment start) tt

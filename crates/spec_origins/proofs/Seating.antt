@@ -8,18 +8,18 @@ use Rattle.muck_model.specs.declared.edit.EditState.{EditState}
 use Rattle.spec_live.specs.declared.mark.Mark.{Mark}
 use Rattle.spec_live.specs.declared.mark.Mark.TheVariants.{Lines, Gone}
 use Rattle.spec_live.specs.Objects.{Entry, dbref_of, mark_in, same}
-use Rattle.spec_live.specs.Connections.{Connection, has_number, changed_in, edits, edited, edited_where}
+use Rattle.spec_live.specs.Connections.{Connection, is_connection, changed_in, edits, editor_set, edited_where}
 use Rattle.spec_live.specs.Boards.{editors_closed}
 use Rattle.muck_model.proofs.Dbrefs.{eq_same}
 use Rattle.spec_events.specs.World.{World}
-use Rattle.spec_events.specs.Following.{followed, swept, settled}
+use Rattle.spec_events.specs.Following.{mark_followed, swept, settled}
 use Rattle.spec_origins.specs.Seats.{SameEditor}
 use Rattle.spec_origins.proofs.Seats.{seat, seats}
 
 -- One connection by its number.
 
 abbrev pub found : ℕ → List Connection → Option Connection
-found d cs = find (has_number d) cs
+found d cs = find (is_connection d) cs
 
 abbrev pub lines_in : ℕ → List Connection → Option (List (List ℕ))
 lines_in d cs = option_map (λ (c : Connection). c.waiting) (found d cs)
@@ -129,19 +129,19 @@ module _ (Lost : Dbref → Type 0) where
   kept_sits own cs ds e = record { lines = λ d. lines_sit d cs ds e; editors = λ d. inr (inl (editor_sits d cs ds e)) }
 
   -- an editor is opened or closed on its own connection
-  pub own_editor : (own : ℕ → Bool) (n : ℕ) (editor : Option EditState) → own n ≡ true → (cs : List Connection) → Kept own cs (changed_in n (edited editor) cs)
-  own_editor own n editor o cs = record { lines = λ d. lines_so d (n == d) (found_changed d n (edited editor) (λ c. refl) cs); editors = λ d. editors_so d (n == d) refl (found_changed d n (edited editor) (λ c. refl) cs) }
+  pub own_editor : (own : ℕ → Bool) (n : ℕ) (editor : Option EditState) → own n ≡ true → (cs : List Connection) → Kept own cs (changed_in n (editor_set editor) cs)
+  own_editor own n editor o cs = record { lines = λ d. lines_so d (n == d) (found_changed d n (editor_set editor) (λ c. refl) cs); editors = λ d. editors_so d (n == d) refl (found_changed d n (editor_set editor) (λ c. refl) cs) }
     where
-      same_lines : (o : Option Connection) → option_map (λ (c : Connection). c.waiting) (option_map (edited editor) o) ≡ option_map (λ (c : Connection). c.waiting) o
+      same_lines : (o : Option Connection) → option_map (λ (c : Connection). c.waiting) (option_map (editor_set editor) o) ≡ option_map (λ (c : Connection). c.waiting) o
       same_lines None = refl
       same_lines (Some c) = refl
 
-      lines_so : (d : ℕ) (b : Bool) → found d (changed_in n (edited editor) cs) ≡ cond b (option_map (edited editor) (found d cs)) (found d cs) → lines_in d (changed_in n (edited editor) cs) ≡ lines_in d cs
+      lines_so : (d : ℕ) (b : Bool) → found d (changed_in n (editor_set editor) cs) ≡ cond b (option_map (editor_set editor) (found d cs)) (found d cs) → lines_in d (changed_in n (editor_set editor) cs) ≡ lines_in d cs
       lines_so d true e = ap (λ (o : Option Connection). option_map (λ (c : Connection). c.waiting) o) e ∙ same_lines (found d cs)
       lines_so d false e = ap (λ (o : Option Connection). option_map (λ (c : Connection). c.waiting) o) e
 
-      editors_so : (d : ℕ) (b : Bool) → (n == d) ≡ b → found d (changed_in n (edited editor) cs) ≡ cond b (option_map (edited editor) (found d cs)) (found d cs) →
-          (own d ≡ true) ⊎ SameEditor Lost (editor_in d cs) (editor_in d (changed_in n (edited editor) cs))
+      editors_so : (d : ℕ) (b : Bool) → (n == d) ≡ b → found d (changed_in n (editor_set editor) cs) ≡ cond b (option_map (editor_set editor) (found d cs)) (found d cs) →
+          (own d ≡ true) ⊎ SameEditor Lost (editor_in d cs) (editor_in d (changed_in n (editor_set editor) cs))
       editors_so d true is e = inl (ap own (sym (eqb-true n d is)) ∙ o)
       editors_so d false is e = inr (inl (ap (λ (o : Option Connection). option_and_then (λ (c : Connection). c.editor) o) e))
 
@@ -152,14 +152,14 @@ module _ (Lost : Dbref → Type 0) where
     editors = λ d. inr (subst (λ (o : Option Connection). SameEditor Lost (editor_in d cs) (option_and_then (λ (c : Connection). c.editor) o)) (sym (found_map d (edited_where (edits x) None) number cs)) (closed (found d cs)));
   }
     where
-      by_number : (b : Bool) (c : Connection) → (cond b (edited None c) c).number ≡ c.number
+      by_number : (b : Bool) (c : Connection) → (cond b (editor_set None c) c).number ≡ c.number
       by_number true c = refl
       by_number false c = refl
 
       number : (c : Connection) → (edited_where (edits x) None c).number ≡ c.number
       number c = by_number (edits x c) c
 
-      by_lines : (b : Bool) (c : Connection) → (cond b (edited None c) c).waiting ≡ c.waiting
+      by_lines : (b : Bool) (c : Connection) → (cond b (editor_set None c) c).waiting ≡ c.waiting
       by_lines true c = refl
       by_lines false c = refl
 
@@ -171,7 +171,7 @@ module _ (Lost : Dbref → Type 0) where
       one None e = absurd cc
       one (Some s) e = (s, refl, subst Lost (eq_same x s.program e) l)
 
-      by_edits : (c : Connection) (b : Bool) → edits x c ≡ b → SameEditor Lost c.editor (cond b (edited None c) c).editor
+      by_edits : (c : Connection) (b : Bool) → edits x c ≡ b → SameEditor Lost c.editor (cond b (editor_set None c) c).editor
       by_edits c true e = inr (refl, one c.editor e)
       by_edits c false e = inl refl
 
@@ -184,12 +184,12 @@ module _ (Lost : Dbref → Type 0) where
   abbrev pub Keeps : (ℕ → Bool) → World → World → Type 0
   Keeps own w v = Kept own w.live.board.connections v.live.board.connections
 
-  keeps_followed : (own : ℕ → Bool) (m : Mark) (x : Dbref) → Lost x → (w : World) → Keeps own w (followed m x w)
+  keeps_followed : (own : ℕ → Bool) (m : Mark) (x : Dbref) → Lost x → (w : World) → Keeps own w (mark_followed m x w)
   unfolding editors_closed
   keeps_followed own Lines x l w = kept_sits own w.live.board.connections w.live.board.connections refl
   keeps_followed own Gone x l w = closed_kept own x l w.live.board.connections
 
-  keeps_marked : (own : ℕ → Bool) (o : Option Mark) (x : Dbref) → ((m : Mark) → o ≡ Some m → Lost x) → (w : World) → Keeps own w (option_map_or (λ m. followed m x w) o w)
+  keeps_marked : (own : ℕ → Bool) (o : Option Mark) (x : Dbref) → ((m : Mark) → o ≡ Some m → Lost x) → (w : World) → Keeps own w (option_map_or (λ m. mark_followed m x w) o w)
   keeps_marked own None x l w = kept_sits own w.live.board.connections w.live.board.connections refl
   keeps_marked own (Some m) x l w = keeps_followed own m x (l m refl) w
 
@@ -214,7 +214,7 @@ module _ (Lost : Dbref → Type 0) where
   unfolding swept
   keeps_swept own n [] w t = kept_sits own w.live.board.connections w.live.board.connections refl
   keeps_swept own n (e ∷ es) w t =
-      let u : World = option_map_or (λ m. followed m (dbref_of n) w) e.mark w in
+      let u : World = option_map_or (λ m. mark_followed m (dbref_of n) w) e.mark w in
       kept_both own w.live.board.connections u.live.board.connections (swept (suc n) es u).live.board.connections (keeps_marked own e.mark (dbref_of n) (told_first e es n t) w) (keeps_swept own (suc n) es u (told_rest e es n t))
 
   pub keeps_settled : (own : ℕ → Bool) (w : World) → ((k : ℕ) (m : Mark) → mark_in w.live.objects k ≡ Some m → Lost (dbref_of k)) → Keeps own w (settled w)

@@ -5,7 +5,7 @@ use Rattle.std.proofs.lemmas.Bool.{false≢true}
 use Rattle.muck_model.specs.declared.dbref.Dbref.{Dbref}
 use Rattle.muck_model.specs.declared.dbref.Denial.{Denial}
 use Rattle.muck_model.specs.declared.edit.EditState.{EditState}
-use Rattle.spec_live.specs.Connections.{Connection, left, seated}
+use Rattle.spec_live.specs.Connections.{Connection, left, player_seated}
 use Rattle.spec_live.specs.Boards.{Board, on_connection, leaving_one, seated_one}
 use Rattle.spec_live.specs.Lives.{Live, Change, on_board, tell, tell_player, leave, draw}
 use Rattle.spec_live.proofs.Keeping.{Keeps, Order, along, keeps_more}
@@ -16,8 +16,8 @@ use Rattle.spec_rights.proofs.Walking.{acts}
 use Rattle.spec_rights.proofs.Shown.{quiet_tell, quiet_tell_player, quiet_draw, quiet_refused}
 use Rattle.spec_commands.specs.declared.edit.EditStep.{EditStep}
 use Rattle.spec_commands.specs.declared.outcome.Outcome.{Outcome}
-use Rattle.spec_commands.specs.Editing.{edited}
-use Rattle.spec_commands.specs.Talk.{at_login, parted}
+use Rattle.spec_commands.specs.Editing.{edited_by_line}
+use Rattle.spec_commands.specs.Talk.{at_login, player_parted}
 use Rattle.spec_commands.proofs.Edited.{edited_proper}
 use Rattle.spec_commands.proofs.Lines.{seating_at_login, quiet_parted}
 use Rattle.muck_queue.specs.Queues.{Queue}
@@ -46,7 +46,7 @@ board_sits _ _ (opens d greeting b h) = absurd (false≢true h)
 board_sits _ _ (closes d b h) = absurd (false≢true h)
 board_sits _ _ (leaves_one d b h) = viewed_one seat d left (λ c. refl) b.connections
 board_sits _ _ (leaves test b h) = viewed_where seat test left (λ c. refl) b.connections
-board_sits _ _ (takes d player b h) = viewed_one seat d (seated player) (λ c. refl) b.connections
+board_sits _ _ (takes d player b h) = viewed_one seat d (player_seated player) (λ c. refl) b.connections
 board_sits _ _ (tunes tune b h) = absurd (false≢true h)
 
 step_sits : (w v : Live) → LiveStep acts w v → Sits w v
@@ -72,7 +72,7 @@ sits_tell_player player text = sits_quiet _ (quiet_tell_player player text)
 pub sits_refused : (d : ℕ) (denial : Denial) → Sitting (refused d denial)
 sits_refused d denial = sits_quiet _ (quiet_refused d denial)
 
-pub sits_parted : (player : Option Dbref) → Sitting (parted player)
+pub sits_parted : (player : Option Dbref) → Sitting (player_parted player)
 sits_parted player = sits_quiet _ (quiet_parted player)
 
 pub sits_draw : Sitting draw
@@ -90,7 +90,7 @@ sits_leave d = sits_one d left (λ c. refl)
 pub plays_typed : (q : Queue) (d : ℕ) (a : Actor) (line : List ℕ) → Keeps (λ (w : Live) (y : Live × Outcome). Sits w y.0) (typed q d a line)
 plays_typed q d a line = record { law = λ w. sits_along w _ (((typed_open a None q d line).law w).law tt tt).goes }
 
-pub sits_edited : (d : ℕ) (a : Actor) (s : EditState) (line : List ℕ) → Keeps (λ (w : Live) (y : Live × EditState × EditStep). Sits w y.0) (edited d a s line)
+pub sits_edited : (d : ℕ) (a : Actor) (s : EditState) (line : List ℕ) → Keeps (λ (w : Live) (y : Live × EditState × EditStep). Sits w y.0) (edited_by_line d a s line)
 sits_edited d a s line = record { law = λ w. sits_along w _ (edited_proper d a s line w).goes }
 
 pub sits_login : (d : ℕ) (line : List ℕ) → Sitting (at_login d line)

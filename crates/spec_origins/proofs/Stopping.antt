@@ -15,29 +15,29 @@ use Rattle.spec_rights.specs.declared.act.Actor.{Actor}
 use Rattle.spec_rights.specs.declared.act.Act.TheVariants.{Start as StartAct}
 use Rattle.spec_rights.specs.Verdict.{is_master, verdict}
 use Rattle.spec_commands.specs.declared.outcome.Outcome.{Outcome as Line}
-use Rattle.spec_commands.specs.declared.outcome.Outcome.TheVariants.{Done, NotMine, Start, Edit, Leave, Dump, Stop, Retune}
+use Rattle.spec_commands.specs.declared.outcome.Outcome.TheVariants.{Done, Said, NotMine, Start, Edit, Leave, Dump, Stop, Retune}
 use Rattle.spec_commands.specs.declared.edit.EditStep.{EditStep}
 use Rattle.spec_commands.specs.declared.edit.EditStep.TheVariants.{Stay, Compile, Left}
 use Rattle.spec_commands.specs.Finding.{actor_of}
-use Rattle.spec_commands.specs.Editing.{editor_exited, is_open, edited}
+use Rattle.spec_commands.specs.Editing.{editor_exited, is_editor_open, edited_by_line}
 use Rattle.spec_commands.specs.Talk.{waits}
 use Rattle.muf_model.specs.declared.fault.MufFault.{MufFault}
 use Rattle.muf_model.specs.declared.fault.MufFault.TheVariants.{CallsFull}
 use Rattle.muf_model.specs.declared.prims.Primitive.{Primitive as Name}
 use Rattle.muf_model.specs.Datum.{Datum, int}
 use Rattle.muf_model.specs.Tree.{Definition, Tree}
-use Rattle.muf_model.specs.Source.{Program, Source, locked_of, calls_of, handed, entered}
-use Rattle.muf_model.specs.Unit.{Outcome, goes, faulted, asks, unit, fault, calls_most}
-use Rattle.spec_prims.specs.Asking.{numbered}
-use Rattle.spec_prims.specs.Row.{Row, gives as row_gives, refuses as row_refuses, breaks as row_breaks}
+use Rattle.muf_model.specs.Source.{Program, Source, locked_of, calls_running, handed, program_entered}
+use Rattle.muf_model.specs.Unit.{Outcome, goes, faulted, asks, unit, fault_met, calls_most}
+use Rattle.spec_prims.specs.Asking.{object_numbered}
+use Rattle.spec_prims.specs.Row.{WorldAnswer, gives as row_gives, refuses as row_refuses, breaks as row_breaks}
 use Rattle.spec_prims.specs.Shared.{shared}
 use Rattle.muck_library.specs.declared.flaw.Flaw.{Flaw}
 use Rattle.muck_library.specs.Programs.{built_tree}
 use Rattle.muck_library.specs.Library.{Library, formed}
 use Rattle.muck_queue.specs.declared.mode.Mode.TheVariants.{Background}
 use Rattle.muck_queue.specs.declared.process.Process.{Process}
-use Rattle.muck_queue.specs.Queues.{process, on_process, without, reader, ended_running, trigger_cleared, told_line}
-use Rattle.spec_processes.specs.ProcessRows.{Effect, gives, waits as pauses, forks, enters, starts, refuses, processed, is_process, later}
+use Rattle.muck_queue.specs.Queues.{process, on_process, without_process, reader, ended_running, trigger_cleared, told_line}
+use Rattle.spec_processes.specs.ProcessRows.{Effect, gives, waits as pauses, forks, enters, starts, refuses, processed, is_process, seconds_later}
 use Rattle.spec_events.specs.declared.starting.Agent.{Agent}
 use Rattle.spec_events.specs.declared.starting.Call.{Call as Started}
 use Rattle.spec_events.specs.declared.starting.Manner.{Manner}
@@ -48,16 +48,16 @@ use Rattle.spec_events.specs.World.{World, connection, on_live, on_queue, with_l
 use Rattle.spec_events.specs.Steps.{effect, happened}
 use Rattle.spec_origins.specs.Stops.{IsMasters, StopsBy, AllStops}
 use Rattle.spec_origins.proofs.Outcomes.{typed_stops}
-use Rattle.spec_events.specs.Following.{followed, swept, settled}
-use Rattle.spec_events.specs.Starting.{by_command, joined, begun, start_told, start_judged, launched}
-use Rattle.spec_events.specs.Lines.{with_editor, next_editor, compiled_so, compiled, after_edit, edited_line, in_editor, left_by, typed, followed_up, in_world, command, program_aborted, given_line, is_abort, line_for, line_done, done}
-use Rattle.spec_events.specs.Slices.{acting, Deed, does, rests, fails, behind, lifted, row_done, called_word, word_entered, form_entered, form_called, program_called, child_of, with_number, child_joined, forked, queued_command, with_process, queued, place_in, effected, process_done, deed, stands_at, out, one_counted, went, after_deed, unit_done, limit_fault, within_limit, turn, world_of, slice_most, run_of, last_world, awake, sliced}
+use Rattle.spec_events.specs.Following.{mark_followed, swept, settled}
+use Rattle.spec_events.specs.Starting.{by_command, process_joined, program_begun, start_told, start_judged, launched}
+use Rattle.spec_events.specs.Lines.{with_editor, next_editor, compiled_so, compiled, after_edit, edited_line, in_editor, processes_after_line, typed, followed_up, in_world, command, program_aborted, given_line, is_abort, line_for, line_done, first_line_done}
+use Rattle.spec_events.specs.Slices.{acting, SharedEffect, does, rests, fails, state_behind, lifted, row_done, called_word, word_entered, form_entered, form_called, program_called, child_of, with_number, child_joined, forked, queued_command, with_process, queued, place_of_use, effected, process_done, deed, process_stands_at, out, one_counted, unit_went, after_deed, unit_done, limit_fault, within_limit, unit_taken, world_of, slice_most, units_run, last_world, process_awake, sliced}
 use Rattle.spec_events.proofs.Happening.{effect-stopping}
 use Rattle.spec_events.proofs.Begun.{joined_keeps, begun_keeps}
 use Rattle.spec_events.proofs.Slicing.{run_holds}
 
 -- a deed leads to a world of which that is so
-abbrev Leads : (World → Type 0) → Deed World → Type 0
+abbrev Leads : (World → Type 0) → SharedEffect World → Type 0
 Leads P (does t v) = P v
 Leads P (rests t v) = P v
 Leads P (fails f v) = P v
@@ -68,12 +68,12 @@ Same w v = v.stopping ≡ w.stopping
 
 -- What follows from a change of objects.
 
-same_followed : (m : Mark) (d : Dbref) (w : World) → Same w (followed m d w)
+same_followed : (m : Mark) (d : Dbref) (w : World) → Same w (mark_followed m d w)
 unfolding ended_running trigger_cleared
 same_followed Lines d w = refl
 same_followed Gone d w = refl
 
-same_marked : (o : Option Mark) (d : Dbref) (w : World) → Same w (option_map_or (λ m. followed m d w) o w)
+same_marked : (o : Option Mark) (d : Dbref) (w : World) → Same w (option_map_or (λ m. mark_followed m d w) o w)
 same_marked None d w = refl
 same_marked (Some m) d w = same_followed m d w
 
@@ -91,10 +91,10 @@ same_settled w = same_swept 0 w.live.objects w
 abbrev Begun : World → World × Result ℤ MufFault → Type 0
 Begun w r = Same w r.0
 
-same_joined : (p : Process) (w : World) → Begun w (joined p w)
+same_joined : (p : Process) (w : World) → Begun w (process_joined p w)
 same_joined p w = joined_keeps (λ u. Same w u) p w refl refl
 
-same_begun : (m : Manner) (c : Started) (w : World) → Begun w (begun m c w)
+same_begun : (m : Manner) (c : Started) (w : World) → Begun w (program_begun m c w)
 same_begun m c w = begun_keeps (λ u. Same w u) m c (λ s u k. k) w refl
 
 same_told : (d : ℕ) (w : World) (r : World × Result ℤ MufFault) → Begun w r → Same w (start_told d r)
@@ -124,13 +124,13 @@ same_after_edit d program Left w = refl
 same_edited : (d : ℕ) (player : Dbref) (s : EditState) (line : List ℕ) (w : World) → Same w (edited_line d player s line w)
 unfolding edited_line
 same_edited d player s line w =
-    let r = edited d (actor_of w.live.objects player) s line w.live in
+    let r = edited_by_line d (actor_of w.live.objects player) s line w.live in
     let v : World = record w { live = with_editor d (next_editor r.2 r.1) r.0 } in
     same_after_edit d s.program r.2 (settled v) ∙ same_settled v
 
 same_in_editor : (d : ℕ) (player : Dbref) (s : EditState) (line : List ℕ) (w : World) → Same w (in_editor d player s line w)
 unfolding in_editor
-same_in_editor d player s line w = either (is_open s w.live)
+same_in_editor d player s line w = either (is_editor_open s w.live)
   where
     either : (b : Bool) → Same w (cond b (edited_line d player s line w) (on_live (tell d editor_exited) w))
     either true = same_edited d player s line w
@@ -143,6 +143,7 @@ up_stops M d player (Edit program) w k = inl refl
 up_stops M d player (Start program trigger line arg) w k =
     inl (same_launched d (actor_of w.live.objects player) (record { player = player; program = program; trigger = trigger; command = line; argument = arg }) w)
 up_stops M d player Done w k = inl refl
+up_stops M d player (Said pose text) w k = inl refl
 up_stops M d player NotMine w k = inl refl
 up_stops M d player Dump w k = inl refl
 up_stops M d player Stop w k = inr (k refl)
@@ -157,7 +158,7 @@ unfolding in_world
 world_stops d player line w =
     let a : Actor = actor_of w.live.objects player in
     let r = typed w.queue d a line w.live in
-    let x : World = record w { live = r.0; queue = left_by d a line w.live w.queue } in
+    let x : World = record w { live = r.0; queue = processes_after_line d a line w.live w.queue } in
     elim (up_stops (is_master a ≡ true) d player r.1 (settled x) (typed_stops w.queue d a line w.live)) [
       | inl same ↦ inl (same ∙ same_settled x)
       | inr m ↦ inr (player, refl, m)
@@ -172,7 +173,7 @@ same_given : (d : ℕ) (pid : ℤ) (line : List ℕ) (w : World) → Same w (giv
 unfolding given_line
 same_given d pid line w = either (is_abort line)
   where
-    either : (b : Bool) → Same w (cond b (on_live (tell d program_aborted) (on_queue (without pid) w)) (on_queue (on_process pid (told_line w.moment line)) w))
+    either : (b : Bool) → Same w (cond b (on_live (tell d program_aborted) (on_queue (without_process pid) w)) (on_queue (on_process pid (told_line w.moment line)) w))
     either true = refl
     either false = refl
 
@@ -185,8 +186,8 @@ unfolding waits
 lines_stop d player editor [] w = inl refl
 lines_stop d player editor (line ∷ lines) w = line_stops (reader d w.queue) player editor d line (on_live (waits d lines) w)
 
-exec_stops : (d : ℕ) (o : Option Connection) (w : World) → connection d w ≡ o → (done d o w).stopping ≡ w.stopping ⊎ IsMasters d w
-unfolding done
+exec_stops : (d : ℕ) (o : Option Connection) (w : World) → connection d w ≡ o → (first_line_done d o w).stopping ≡ w.stopping ⊎ IsMasters d w
+unfolding first_line_done
 exec_stops d None w at = inl refl
 exec_stops d (Some c) w at = elim (lines_stop d c.player c.editor c.waiting w) [
   | inl same ↦ inl same
@@ -196,7 +197,7 @@ exec_stops d (Some c) w at = elim (lines_stop d c.player c.editor c.waiting w) [
 -- Slices.
 
 module _ (w : World) where
-  abbrev LeadsSame : Deed World → Type 0
+  abbrev LeadsSame : SharedEffect World → Type 0
   LeadsSame d = Leads (Same w) d
 
   deed_number : (stack : List Datum) (s : Source) (r : World × Result ℤ MufFault) → Begun w r → LeadsSame (with_number stack s r)
@@ -205,7 +206,7 @@ module _ (w : World) where
 
   deed_child : (o : Option Process) (stack : List Datum) (s : Source) → LeadsSame (child_joined o stack s w)
   deed_child None stack s = refl
-  deed_child (Some p) stack s = deed_number stack s _ (same_joined (child_of w.moment (handed (int (pos 0)) (behind stack s)) p) w)
+  deed_child (Some p) stack s = deed_number stack s _ (same_joined (child_of w.moment (handed (int (pos 0)) (state_behind stack s)) p) w)
 
   deed_forked : (pid : ℤ) (stack : List Datum) (s : Source) → LeadsSame (forked pid stack s w)
   unfolding forked
@@ -218,14 +219,14 @@ module _ (w : World) where
   deed_queued : (x : Agent) (stack : List Datum) (d : ℤ) (seconds : ℕ) (argument : List ℕ) (s : Source) → LeadsSame (queued x stack d seconds argument s w)
   unfolding queued
   deed_queued x stack d seconds argument s =
-      deed_process stack s _ (same_begun (record { descr = None; mode = Background; due = later w.moment seconds })
-      (record { player = x.player; program = numbered d; trigger = nothing; command = queued_command; argument = argument }) w)
+      deed_process stack s _ (same_begun (record { descr = None; mode = Background; due = seconds_later w.moment seconds })
+      (record { player = x.player; program = object_numbered d; trigger = nothing; command = queued_command; argument = argument }) w)
 
   deed_word : (s : Source) (program : Program) (o : Option Definition) (v : World) → Same w v → LeadsSame (word_entered s program o v)
   deed_word s program None v h = h
-  deed_word s program (Some d) v h = either (nat_lt (calls_of s.marks) calls_most)
+  deed_word s program (Some d) v h = either (nat_lt (calls_running s.marks) calls_most)
     where
-      either : (b : Bool) → LeadsSame (cond b (does (entered program d s) v) (fails CallsFull v))
+      either : (b : Bool) → LeadsSame (cond b (does (program_entered program d s) v) (fails CallsFull v))
       either true = h
       either false = h
 
@@ -238,21 +239,21 @@ module _ (w : World) where
 
   deed_called : (a : Actor) (after : Source) (d : ℤ) (name : Option (List ℕ)) → LeadsSame (program_called a after d name w)
   unfolding program_called
-  deed_called a after d name = deed_made a after d name (formed w.live.objects (numbered d) w.library)
+  deed_called a after d name = deed_made a after d name (formed w.live.objects (object_numbered d) w.library)
 
   deed_effect : (pid : ℤ) (x : Agent) (s : Source) (e : Effect) → LeadsSame (effected pid x s w e)
   deed_effect pid x s (gives stack live queue) = refl
   deed_effect pid x s (pauses n stack queue) = refl
   deed_effect pid x s (forks stack) = deed_forked pid stack s
-  deed_effect pid x s (enters stack d name) = deed_called (acting x s w.live.objects) (behind stack s) d name
+  deed_effect pid x s (enters stack d name) = deed_called (acting x s w.live.objects) (state_behind stack s) d name
   deed_effect pid x s (starts stack d seconds argument) = deed_queued x stack d seconds argument s
   deed_effect pid x s (refuses f) = refl
 
   deed_processed : (pid : ℤ) (x : Agent) (p : Name) (s : Source) → LeadsSame (process_done pid x p s w)
   unfolding process_done
-  deed_processed pid x p s = deed_effect pid x s (processed p (place_in pid s w) (acting x s w.live.objects) (locked_of s.marks) s.stack w.live w.queue)
+  deed_processed pid x p s = deed_effect pid x s (processed p (place_of_use pid s w) (acting x s w.live.objects) (locked_of s.marks) s.stack w.live w.queue)
 
-  deed_lifted : (s : Source) (row : Row) → LeadsSame (lifted s w row)
+  deed_lifted : (s : Source) (row : WorldAnswer) → LeadsSame (lifted s w row)
   deed_lifted s (row_gives stack live) = refl
   deed_lifted s (row_refuses f) = refl
   deed_lifted s (row_breaks f live) = refl
@@ -265,20 +266,20 @@ module _ (w : World) where
       either true = deed_processed pid x p s
       either false = deed_lifted s (shared p (acting x s w.live.objects) x.descr (locked_of s.marks) s.stack w.live)
 
-same_went : (pid : ℤ) (player : Dbref) (program : ℤ) (o : Outcome) (w : World) → Same w (world_of (went pid player program o w))
-unfolding without on_process
+same_went : (pid : ℤ) (player : Dbref) (program : ℤ) (o : Outcome) (w : World) → Same w (world_of (unit_went pid player program o w))
+unfolding without_process on_process
 same_went pid player program (goes k t) w = refl
 same_went pid player program (faulted f) w = refl
 same_went pid player program _ w = refl
 
-same_stands : (pid : ℤ) (t : Source) (w : World) → Same w (stands_at pid t w)
+same_stands : (pid : ℤ) (t : Source) (w : World) → Same w (process_stands_at pid t w)
 unfolding on_process
 same_stands pid t w = refl
 
-same_after_deed : (pid : ℤ) (player : Dbref) (s : Source) (w : World) (d : Deed World) → Leads (Same w) d → Same w (world_of (after_deed pid player s d))
-same_after_deed pid player s w (does t v) h = same_settled (stands_at pid t v) ∙ same_stands pid t v ∙ h
-same_after_deed pid player s w (rests t v) h = same_settled (stands_at pid t v) ∙ same_stands pid t v ∙ h
-same_after_deed pid player s w (fails f v) h = same_went pid player s.program.number (fault f s) v ∙ h
+same_after_deed : (pid : ℤ) (player : Dbref) (s : Source) (w : World) (d : SharedEffect World) → Leads (Same w) d → Same w (world_of (after_deed pid player s d))
+same_after_deed pid player s w (does t v) h = same_settled (process_stands_at pid t v) ∙ same_stands pid t v ∙ h
+same_after_deed pid player s w (rests t v) h = same_settled (process_stands_at pid t v) ∙ same_stands pid t v ∙ h
+same_after_deed pid player s w (fails f v) h = same_went pid player s.program.number (fault_met f s) v ∙ h
 
 same_out : (pid : ℤ) (w : World) → Same w (out pid w)
 unfolding on_process
@@ -293,24 +294,24 @@ same_unit pid x program (asks p s) w = same_after_deed pid x.player s (out pid w
 same_unit pid x program o w = same_went pid x.player program o w
 
 same_limited : (pid : ℤ) (x : Agent) (s : Source) (o : Option MufFault) (w : World) → Same w (world_of (within_limit o pid x s w))
-unfolding without
+unfolding without_process
 same_limited pid x s (Some f) w = refl
 same_limited pid x s None w = same_unit pid x s.program.number (unit s) (one_counted pid w) ∙ same_counted pid w
 
-same_turn : (tune : Tune) (pid : ℤ) (x : Agent) (s : Source) (w : World) → Same w (world_of (turn tune pid x s w))
-unfolding turn
+same_turn : (tune : Tune) (pid : ℤ) (x : Agent) (s : Source) (w : World) → Same w (world_of (unit_taken tune pid x s w))
+unfolding unit_taken
 same_turn tune pid x s w = same_limited pid x s (limit_fault tune (acting x s w.live.objects).level x) w
 
-same_run : (tune : Tune) (pid : ℤ) (n : ℕ) (w : World) → Same w (last_world w (run_of tune n pid w))
+same_run : (tune : Tune) (pid : ℤ) (n : ℕ) (w : World) → Same w (last_world w (units_run tune n pid w))
 same_run tune pid n w = run_holds tune pid (λ v ts. Same v (last_world v ts)) (λ v. refl) (λ v x s ts e rest. rest ∙ same_turn tune pid x s v) n w
 
-same_awake : (pid : ℤ) (w : World) → Same w (awake pid w)
+same_awake : (pid : ℤ) (w : World) → Same w (process_awake pid w)
 unfolding on_process
 same_awake pid w = refl
 
 same_sliced : (pid : ℤ) (w : World) → Same w (sliced pid w)
 unfolding sliced
-same_sliced pid w = same_run w.live.board.tune pid (slice_most w.live.board.tune) (awake pid w) ∙ same_awake pid w
+same_sliced pid w = same_run w.live.board.tune pid (slice_most w.live.board.tune) (process_awake pid w) ∙ same_awake pid w
 
 -- Any entry.
 

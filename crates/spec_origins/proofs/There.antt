@@ -4,6 +4,7 @@ use Rattle.std.specs.Prelude.{slice_get, is_some}
 use Rattle.std.specs.Option.{option_map, option_map_or, option_and_then}
 use Rattle.std.proofs.lemmas.Bool.{cond_both}
 use Rattle.std.proofs.lemmas.Option.{none-some, slice_get-map}
+use Rattle.muck_laws.proofs.Truths.{never_both}
 use Rattle.muck_model.specs.declared.dbref.Dbref.{Dbref}
 use Rattle.muck_model.specs.declared.edit.EditState.{EditState}
 use Rattle.muck_model.proofs.Dbrefs.{same_eq}
@@ -12,19 +13,21 @@ use Rattle.spec_live.specs.declared.object.Object.{Object}
 use Rattle.spec_live.specs.declared.saving.Saving.{Saving}
 use Rattle.spec_live.specs.Objects.{Entry, dbref_of, nothing, same, is_garbage, object_in, object_at, mark_in}
 use Rattle.spec_live.specs.Saving.{all_saving}
-use Rattle.spec_live.specs.Connections.{Connection, has_number, changed_in, edited, edits}
+use Rattle.spec_live.specs.Connections.{Connection, is_connection, changed_in, editor_set, edits}
+use Rattle.spec_live.specs.Stood.{stilled}
+use Rattle.spec_live.proofs.Tracing.{object_stilled}
 use Rattle.spec_live.proofs.Savings.{object_resaved}
 use Rattle.spec_rights.proofs.Lookups.{alive, seen_at, at_negative}
-use Rattle.spec_rights.proofs.Telling.{Told, never_both}
+use Rattle.spec_rights.proofs.Telling.{Told}
 use Rattle.spec_mpi.specs.Touching.{without_props}
-use Rattle.spec_prims.specs.Asking.{numbered}
+use Rattle.spec_prims.specs.Asking.{object_numbered}
 use Rattle.muck_queue.specs.declared.process.Process.{Process}
 use Rattle.muck_queue.specs.Queues.{Queue, has_trigger}
 use Rattle.spec_events.specs.World.{World}
 use Rattle.spec_events.specs.Following.{settled}
 use Rattle.spec_events.specs.Sourced.{Each}
 use Rattle.spec_events.proofs.Sourcing.{each_more}
-use Rattle.spec_origins.specs.Origins.{From, was_there, is_new, Comes, no_process}
+use Rattle.spec_origins.specs.Origins.{From, was_there, is_new, Comes, no_own_process}
 use Rattle.spec_origins.specs.Seats.{SameEditor}
 use Rattle.spec_origins.proofs.Clearing.{settled_clears}
 use Rattle.spec_origins.proofs.Going.{each_among, from_itself, holds_settled}
@@ -46,12 +49,15 @@ none_same es fs e d h = ap (λ os. is_some (object_at d os)) e ∙ h
 none_by : (es fs : List Entry) → ((n : ℕ) → is_some (option_and_then alive (object_in fs n)) ≡ is_some (option_and_then alive (object_in es n))) → NoneGoes es fs
 none_by es fs k d = at d.0
   where
-    at : (z : ℤ) → Stands es (numbered z) → Stands fs (numbered z)
+    at : (z : ℤ) → Stands es (object_numbered z) → Stands fs (object_numbered z)
     at (pos n) h = ap is_some (seen_at fs n) ∙ k n ∙ sym (ap is_some (seen_at es n)) ∙ h
-    at (negsuc n) h = never_both (is_some (object_at (numbered (negsuc n)) es)) h (ap is_some (at_negative es n))
+    at (negsuc n) h = never_both (is_some (object_at (object_numbered (negsuc n)) es)) h (ap is_some (at_negative es n))
 
 pub none_resaved : (f : Saving → Saving) (es : List Entry) → NoneGoes es (all_saving f es)
 none_resaved f es = none_by es (all_saving f es) (λ n. ap (λ (o : Option Object). is_some (option_and_then alive o)) (object_resaved f n es))
+
+pub none_stilled : (es : List Entry) → NoneGoes es (stilled es)
+none_stilled es = none_by es (stilled es) (λ n. ap (λ (o : Option Object). is_some (option_and_then alive o)) (object_stilled es n))
 
 bare_there : (es : List Entry) (n : ℕ) → is_some (option_and_then alive (object_in (map without_props es) n)) ≡ is_some (option_and_then alive (object_in es n))
 unfolding object_in
@@ -110,12 +116,12 @@ pub editors_sit : (es : List Entry) (cs ds : List Connection) → seats ds ≡ s
 editors_sit es cs ds e h d s at = h d s (sym (editor_sits d cs ds e) ∙ at)
 
 -- one is opened or closed
-pub editors_put : (es : List Entry) (n : ℕ) (editor : Option EditState) → ((s : EditState) → editor ≡ Some s → Stands es s.program) → (cs : List Connection) → Editors es cs → Editors es (changed_in n (edited editor) cs)
+pub editors_put : (es : List Entry) (n : ℕ) (editor : Option EditState) → ((s : EditState) → editor ≡ Some s → Stands es s.program) → (cs : List Connection) → Editors es cs → Editors es (changed_in n (editor_set editor) cs)
 editors_put es n editor k cs h d s at =
-    by_number (n == d) (found d cs) (λ s e. h d s e) s (sym (ap (λ (o : Option Connection). option_and_then (λ (c : Connection). c.editor) o) (found_changed d n (edited editor) (λ c. refl) cs)) ∙ at)
+    by_number (n == d) (found d cs) (λ s e. h d s e) s (sym (ap (λ (o : Option Connection). option_and_then (λ (c : Connection). c.editor) o) (found_changed d n (editor_set editor) (λ c. refl) cs)) ∙ at)
   where
     by_number : (b : Bool) (o : Option Connection) → ((s : EditState) → option_and_then (λ (c : Connection). c.editor) o ≡ Some s → Stands es s.program) →
-        (s : EditState) → option_and_then (λ (c : Connection). c.editor) (cond b (option_map (edited editor) o) o) ≡ Some s → Stands es s.program
+        (s : EditState) → option_and_then (λ (c : Connection). c.editor) (cond b (option_map (editor_set editor) o) o) ≡ Some s → Stands es s.program
     by_number false o h s e = h s e
     by_number true None h s e = h s e
     by_number true (Some c) h s e = k s e
@@ -125,9 +131,9 @@ editors_put es n editor k cs h d s at =
 lost_number : (es fs : List Entry) → Told es fs → (d : Dbref) → Stands es d → is_some (object_at d fs) ≡ false → (n : ℕ) × (d ≡ dbref_of n) × (mark_in fs n ≡ Some Gone)
 lost_number es fs t d = at d.0
   where
-    at : (z : ℤ) → Stands es (numbered z) → is_some (object_at (numbered z) fs) ≡ false → (n : ℕ) × (numbered z ≡ dbref_of n) × (mark_in fs n ≡ Some Gone)
+    at : (z : ℤ) → Stands es (object_numbered z) → is_some (object_at (object_numbered z) fs) ≡ false → (n : ℕ) × (object_numbered z ≡ dbref_of n) × (mark_in fs n ≡ Some Gone)
     at (pos n) h k = (n, refl, t.gone n h k)
-    at (negsuc n) h k = never_both (is_some (object_at (numbered (negsuc n)) es)) h (ap is_some (at_negative es n))
+    at (negsuc n) h k = never_both (is_some (object_at (object_numbered (negsuc n)) es)) h (ap is_some (at_negative es n))
 
 -- so what no mark of that kind names is there still
 there_still : (es fs : List Entry) → Told es fs → (d : Dbref) → Stands es d → ((n : ℕ) → mark_in fs n ≡ Some Gone → d ≡ dbref_of n → ⊥) → Stands fs d
@@ -144,7 +150,7 @@ each_every M P R Q k (x ∷ xs) h g = (k x h.0 (λ n m. (g n m).0), each_every M
 closed_at : (n d : ℕ) (cs : List Connection) → Each (λ c. edits (dbref_of n) c ≡ false) cs → option_map_or (λ (s : EditState). same (dbref_of n) s.program) (editor_in d cs) false ≡ false
 closed_at n d [] h = refl
 closed_at n d (c ∷ cs) h =
-    cond_both (has_number d c) (Some c) (found d cs) (λ (o : Option Connection). option_map_or (λ (s : EditState). same (dbref_of n) s.program) (option_and_then (λ (c : Connection). c.editor) o) false ≡ false)
+    cond_both (is_connection d c) (Some c) (found d cs) (λ (o : Option Connection). option_map_or (λ (s : EditState). same (dbref_of n) s.program) (option_and_then (λ (c : Connection). c.editor) o) false ≡ false)
     (λ e. h.0) (λ e. closed_at n d cs h.1)
 
 -- once it was told
@@ -166,8 +172,8 @@ held_cleared es u t h = record {
 -- what is told only takes triggers and editors away
 held_swept : (es : List Entry) (u : World) → Held es u → Held es (settled u)
 held_swept es u h = record {
-  triggers = triggers_come es no_process false (λ x. Unit {0}) (λ p. ⊥) u.queue (settled u).queue (λ p n. absurd n) h.triggers
-      (holds_settled no_process false (λ x. Unit {0}) (λ p. ⊥) (λ q r n g. n) u.queue u (λ k m e. tt) (from_itself no_process false (λ x. Unit {0}) (λ p. ⊥) u.queue));
+  triggers = triggers_come es no_own_process false (λ x. Unit {0}) (λ p. ⊥) u.queue (settled u).queue (λ p n. absurd n) h.triggers
+      (holds_settled no_own_process false (λ x. Unit {0}) (λ p. ⊥) (λ q r n g. n) u.queue u (λ k m e. tt) (from_itself no_own_process false (λ x. Unit {0}) (λ p. ⊥) u.queue));
   editors = λ d. editor_as es (λ x. Unit {0}) _ _ (same_editor d ((keeps_settled (λ x. Unit {0}) (λ n. false) u (λ k m e. tt)).editors d)) (h.editors d);
 }
   where

@@ -8,20 +8,20 @@ use Rattle.muck_model.specs.declared.dbref.Dbref.{Dbref}
 use Rattle.muck_model.specs.declared.event.Entry.{Entry}
 use Rattle.muck_model.specs.declared.event.Event.{Event}
 use Rattle.muck_model.specs.declared.event.Event.TheVariants.{Opened, Input, Closed, Exec, Slice, Take, Cut, Stored, DumpFailed}
-use Rattle.spec_live.specs.Connections.{Connection, has_number, placed, without, newcomer, lined}
-use Rattle.spec_live.specs.Saving.{done, due_again}
-use Rattle.spec_live.specs.Boards.{player_in, opened, closed, line_added, bytes_taken}
-use Rattle.spec_live.specs.Lives.{Live, followed, reading, on_board}
+use Rattle.spec_live.specs.Connections.{Connection, is_connection, connection_placed, without_connection, newcomer, lined}
+use Rattle.spec_live.specs.Saving.{saving_done, due_again}
+use Rattle.spec_live.specs.Boards.{player_in, connection_opened, connection_closed, line_added, bytes_taken}
+use Rattle.spec_live.specs.Lives.{Live, change_followed, reading, on_board}
 use Rattle.muck_queue.specs.declared.process.Process.{Process}
 use Rattle.muck_queue.specs.Queues.{Queue, is_tied_to, ended_tied}
-use Rattle.spec_commands.specs.Talk.{welcome, parted, gone_away}
+use Rattle.spec_commands.specs.Talk.{welcome, player_parted, gone_away}
 use Rattle.spec_rights.proofs.Shown.{loose_one}
 use Rattle.spec_commands.proofs.Numbered.{numbers, seating_quiet}
 use Rattle.spec_commands.proofs.Lines.{quiet_parted}
 use Rattle.spec_events.specs.declared.starting.Call.{Call as Started}
 use Rattle.spec_events.specs.World.{World, connection, askers_of, on_live}
 use Rattle.spec_events.specs.Dumping.{resaved, dump_stored, dump_failed, told_each}
-use Rattle.spec_events.specs.Starting.{by_hook, new_process, begun}
+use Rattle.spec_events.specs.Starting.{by_hook, new_process, program_begun}
 use Rattle.spec_events.specs.Steps.{happened, effect}
 use Rattle.spec_events.specs.Slices.{units_of}
 use Rattle.spec_events.specs.Sourced.{Each}
@@ -31,20 +31,20 @@ use Rattle.spec_events.proofs.Happening.{effect-keeps}
 use Rattle.spec_events.proofs.Sourcing.{each_more}
 use Rattle.spec_events.proofs.Begun.{live_begun}
 use Rattle.spec_events.proofs.Taken.{sliced_going}
-use Rattle.spec_origins.specs.Origins.{From, was_there, is_new, Comes, LineOrigins, TurnOrigins, EventOrigins, no_process, StartedIn, LostIn, is_connected, AreTied}
+use Rattle.spec_origins.specs.Origins.{From, was_there, is_new, Comes, LineOrigins, TurnOrigins, EventOrigins, no_own_process, StartedIn, LostIn, is_connection_there, AreTied}
 use Rattle.spec_origins.proofs.Going.{each_among, from_itself, holds_begun}
 
 -- Which connections are there.
 
 abbrev is_in : ℕ → List Connection → Bool
-is_in d cs = is_some (find (has_number d) cs)
+is_in d cs = is_some (find (is_connection d) cs)
 
 in_numbers : (d : ℕ) (cs : List Connection) → is_in d cs ≡ list_any (λ n. n == d) (numbers cs)
 unfolding numbers
 in_numbers d [] = refl
-in_numbers d (c ∷ cs) = from (has_number d c) (in_numbers d cs)
+in_numbers d (c ∷ cs) = from (is_connection d c) (in_numbers d cs)
   where
-    from : (t : Bool) → is_in d cs ≡ list_any (λ n. n == d) (numbers cs) → is_some (cond t (Some c) (find (has_number d) cs)) ≡ (t || list_any (λ n. n == d) (numbers cs))
+    from : (t : Bool) → is_in d cs ≡ list_any (λ n. n == d) (numbers cs) → is_some (cond t (Some c) (find (is_connection d) cs)) ≡ (t || list_any (λ n. n == d) (numbers cs))
     from true e = refl
     from false e = e
 
@@ -52,21 +52,21 @@ in_numbers d (c ∷ cs) = from (has_number d c) (in_numbers d cs)
 in_by : (d : ℕ) (cs ds : List Connection) → numbers ds ≡ numbers cs → is_in d cs ≡ true → is_in d ds ≡ true
 in_by d cs ds e h = in_numbers d ds ∙ ap (list_any (λ n. n == d)) e ∙ sym (in_numbers d cs) ∙ h
 
-in_placed : (d : ℕ) (new : Connection) (cs : List Connection) → is_in d cs ≡ true → is_in d (placed new cs) ≡ true
+in_placed : (d : ℕ) (new : Connection) (cs : List Connection) → is_in d cs ≡ true → is_in d (connection_placed new cs) ≡ true
 in_placed d new [] h = absurd cc
 in_placed d new (c ∷ cs) h = by_place (nat_lt new.number c.number) h (in_placed d new cs)
   where
-    first : (t : Bool) → is_in d (c ∷ cs) ≡ true → is_some (cond t (Some new) (find (has_number d) (c ∷ cs))) ≡ true
+    first : (t : Bool) → is_in d (c ∷ cs) ≡ true → is_some (cond t (Some new) (find (is_connection d) (c ∷ cs))) ≡ true
     first true h = refl
     first false h = h
 
-    later : (u : Bool) → is_some (cond u (Some c) (find (has_number d) cs)) ≡ true → (is_in d cs ≡ true → is_in d (placed new cs) ≡ true) → is_some (cond u (Some c) (find (has_number d) (placed new cs))) ≡ true
+    later : (u : Bool) → is_some (cond u (Some c) (find (is_connection d) cs)) ≡ true → (is_in d cs ≡ true → is_in d (connection_placed new cs) ≡ true) → is_some (cond u (Some c) (find (is_connection d) (connection_placed new cs))) ≡ true
     later true h k = refl
     later false h k = k h
 
-    by_place : (before : Bool) → is_in d (c ∷ cs) ≡ true → (is_in d cs ≡ true → is_in d (placed new cs) ≡ true) → is_in d (cond before (new ∷ c ∷ cs) (c ∷ placed new cs)) ≡ true
+    by_place : (before : Bool) → is_in d (c ∷ cs) ≡ true → (is_in d cs ≡ true → is_in d (connection_placed new cs) ≡ true) → is_in d (cond before (new ∷ c ∷ cs) (c ∷ connection_placed new cs)) ≡ true
     by_place true h k = first (new.number == d) h
-    by_place false h k = later (has_number d c) h k
+    by_place false h k = later (is_connection d c) h k
 
 -- Processes.
 
@@ -91,38 +91,38 @@ module _ (was there : ℕ → Bool) (keeps : (d : ℕ) → was d ≡ true → th
 
 -- Lines.
 
-found_there : (d : ℕ) (w : World) (c : Connection) → connection d w ≡ Some c → is_connected w d ≡ true
+found_there : (d : ℕ) (w : World) (c : Connection) → connection d w ≡ Some c → is_connection_there w d ≡ true
 found_there d w c e = ap (λ (o : Option Connection). is_some o) e
 
-tied_line : (d : ℕ) (taker : Option ℤ) (player : Option Dbref) (w v : World) → is_connected w d ≡ true → ((e : ℕ) → is_connected w e ≡ true → is_connected v e ≡ true) → AreTied w → LineOrigins d taker player w v → AreTied v
-tied_line d (Some pid) player w v at keeps h c = tied_comes (is_connected w) (is_connected v) keeps _ false _ _ (λ q n. absurd n) w.queue v.queue h c
+tied_line : (d : ℕ) (taker : Option ℤ) (player : Option Dbref) (w v : World) → is_connection_there w d ≡ true → ((e : ℕ) → is_connection_there w e ≡ true → is_connection_there v e ≡ true) → AreTied w → LineOrigins d taker player w v → AreTied v
+tied_line d (Some pid) player w v at keeps h c = tied_comes (is_connection_there w) (is_connection_there v) keeps _ false _ _ (λ q n. absurd n) w.queue v.queue h c
 tied_line d None (Some player) w v at keeps h c =
-    tied_comes (is_connected w) (is_connected v) keeps _ false _ _ (λ q n. subst (IsTied (is_connected v)) (sym n.tied) (keeps d at)) w.queue v.queue h c
-tied_line d None None w v at keeps h c = tied_comes (is_connected w) (is_connected v) keeps _ false _ _ (λ q n. absurd n) w.queue v.queue h c
+    tied_comes (is_connection_there w) (is_connection_there v) keeps _ false _ _ (λ q n. subst (IsTied (is_connection_there v)) (sym n.tied) (keeps d at)) w.queue v.queue h c
+tied_line d None None w v at keeps h c = tied_comes (is_connection_there w) (is_connection_there v) keeps _ false _ _ (λ q n. absurd n) w.queue v.queue h c
 
-tied_turn : (d : ℕ) (o : Option Connection) (w v : World) → connection d w ≡ o → ((e : ℕ) → is_connected w e ≡ true → is_connected v e ≡ true) → AreTied w → TurnOrigins d o w v → AreTied v
-tied_turn d None w v at keeps h c = tied_comes (is_connected w) (is_connected v) keeps _ false _ _ (λ q n. absurd n) w.queue v.queue h c
+tied_turn : (d : ℕ) (o : Option Connection) (w v : World) → connection d w ≡ o → ((e : ℕ) → is_connection_there w e ≡ true → is_connection_there v e ≡ true) → AreTied w → TurnOrigins d o w v → AreTied v
+tied_turn d None w v at keeps h c = tied_comes (is_connection_there w) (is_connection_there v) keeps _ false _ _ (λ q n. absurd n) w.queue v.queue h c
 tied_turn d (Some s) w v at keeps h c = tied_line d _ s.player w v (found_there d w s at) keeps h c
 
 -- A connection that goes.
 
-in_without : (d gone : ℕ) (cs : List Connection) → (gone == d) ≡ false → is_in d cs ≡ true → is_in d (without gone cs) ≡ true
+in_without : (d gone : ℕ) (cs : List Connection) → (gone == d) ≡ false → is_in d cs ≡ true → is_in d (without_connection gone cs) ≡ true
 in_without d gone [] o h = h
 in_without d gone (c ∷ cs) o h = by_first (c.number == gone) refl (c.number == d) refl h (in_without d gone cs o)
   where
     never : (m n d : ℕ) → (n == d) ≡ false → (m == n) ≡ true → (m == d) ≡ true → ⊥
     never m n d other same at = grind (arith, nat_tests)
 
-    by_first : (t : Bool) → (c.number == gone) ≡ t → (u : Bool) → (c.number == d) ≡ u → is_some (cond u (Some c) (find (has_number d) cs)) ≡ true → (is_in d cs ≡ true → is_in d (without gone cs) ≡ true) →
-        is_in d (cond t cs (c ∷ without gone cs)) ≡ true
+    by_first : (t : Bool) → (c.number == gone) ≡ t → (u : Bool) → (c.number == d) ≡ u → is_some (cond u (Some c) (find (is_connection d) cs)) ≡ true → (is_in d cs ≡ true → is_in d (without_connection gone cs) ≡ true) →
+        is_in d (cond t cs (c ∷ without_connection gone cs)) ≡ true
     by_first true e true f h k = absurd (never c.number gone d o e f)
     by_first true e false f h k = h
-    by_first false e true f h k = ap (λ (t : Bool). is_some (cond t (Some c) (find (has_number d) (without gone cs)))) f
-    by_first false e false f h k = ap (λ (t : Bool). is_some (cond t (Some c) (find (has_number d) (without gone cs)))) f ∙ k h
+    by_first false e true f h k = ap (λ (t : Bool). is_some (cond t (Some c) (find (is_connection d) (without_connection gone cs)))) f
+    by_first false e false f h k = ap (λ (t : Bool). is_some (cond t (Some c) (find (is_connection d) (without_connection gone cs)))) f ∙ k h
 
-gone_numbers : (d : ℕ) (w : Live) → numbers (gone_away d w).board.connections ≡ numbers (without d w.board.connections)
-unfolding gone_away reading followed closed
-gone_numbers d w = ((seating_quiet d (parted (player_in d w.board)) (quiet_parted (player_in d w.board))).law (on_board (closed d) w)).numbers
+gone_numbers : (d : ℕ) (w : Live) → numbers (gone_away d w).board.connections ≡ numbers (without_connection d w.board.connections)
+unfolding gone_away reading change_followed connection_closed
+gone_numbers d w = ((seating_quiet d (player_parted (player_in d w.board)) (quiet_parted (player_in d w.board))).law (on_board (connection_closed d) w)).numbers
 
 tied_but : (was there : ℕ → Bool) (d : ℕ) → ((e : ℕ) → (d == e) ≡ false → was e ≡ true → there e ≡ true) → (o : Option ℕ) → option_map_or (λ c. c == d) o false ≡ false → IsTied was o → IsTied there o
 tied_but was there d k None n h = refl
@@ -143,8 +143,8 @@ left_tied was there d k (p ∷ ps) h =
 tied_closed : (d : ℕ) (w : World) (party : ℕ) → AreTied w → AreTied (happened w party (Closed d))
 unfolding ended_tied
 tied_closed d w party h =
-    left_tied (is_connected w) (is_connected (happened w party (Closed d))) d
-    (λ e o k. in_by e (without d w.live.board.connections) (gone_away d w.live).board.connections (gone_numbers d w.live) (in_without e d w.live.board.connections o k))
+    left_tied (is_connection_there w) (is_connection_there (happened w party (Closed d))) d
+    (λ e o k. in_by e (without_connection d w.live.board.connections) (gone_away d w.live).board.connections (gone_numbers d w.live) (in_without e d w.live.board.connections o k))
     w.queue.processes h
 
 -- Any event.
@@ -153,40 +153,40 @@ told_numbers : (ds : List ℕ) (text : List ℕ) (w : World) → numbers (told_e
 told_numbers ds text w = (going_quietly w _ (quietly_live (told_each ds text) (quiet_told_each ds text) w)).numbers
 
 abbrev Stay : World → World → Type 0
-Stay w v = (d : ℕ) → is_connected w d ≡ true → is_connected v d ≡ true
+Stay w v = (d : ℕ) → is_connection_there w d ≡ true → is_connection_there v d ≡ true
 
 by_numbers : (w v : World) → numbers v.live.board.connections ≡ numbers w.live.board.connections → Stay w v
 by_numbers w v e d h = in_by d w.live.board.connections v.live.board.connections e h
 
-tied_still : (w v : World) → Stay w v → AreTied w → Comes no_process false (λ x. ⊥) (λ q. ⊥) w.queue v.queue → AreTied v
-tied_still w v keeps h c = tied_comes (is_connected w) (is_connected v) keeps no_process false (λ x. ⊥) (λ q. ⊥) (λ q n. absurd n) w.queue v.queue h c
+tied_still : (w v : World) → Stay w v → AreTied w → Comes no_own_process false (λ x. ⊥) (λ q. ⊥) w.queue v.queue → AreTied v
+tied_still w v keeps h c = tied_comes (is_connection_there w) (is_connection_there v) keeps no_own_process false (λ x. ⊥) (λ q. ⊥) (λ q n. absurd n) w.queue v.queue h c
 
 tied_happened : (event : Event) (party : ℕ) (w : World) → EventOrigins event w (happened w party event) → AreTied w → AreTied (happened w party event)
-unfolding opened line_added bytes_taken
+unfolding connection_opened line_added bytes_taken
 tied_happened (Exec d) party w c h = tied_turn d (connection d w) w (happened w party (Exec d)) refl (by_numbers w (happened w party (Exec d)) (done_going d w (connection d w) refl).numbers) h c
 tied_happened (Slice pid) party w c h =
     let v : World = happened w party (Slice pid) in
     let ts = units_of pid w in
-    tied_comes (is_connected w) (is_connected v) (by_numbers w v (sliced_going pid w).numbers) _ true (LostIn ts) (StartedIn pid ts w.queue) (λ q n. subst (IsTied (is_connected v)) (sym n.tied) refl) w.queue v.queue h c
+    tied_comes (is_connection_there w) (is_connection_there v) (by_numbers w v (sliced_going pid w).numbers) _ true (LostIn ts) (StartedIn pid ts w.queue) (λ q n. subst (IsTied (is_connection_there v)) (sym n.tied) refl) w.queue v.queue h c
 tied_happened (Closed d) party w c h = tied_closed d w party h
 tied_happened (Opened d) party w c h = tied_still w (happened w party (Opened d)) (λ e k. in_placed e (newcomer d welcome) w.live.board.connections k) h c
 tied_happened (Input d line) party w c h =
     tied_still w (happened w party (Input d line)) (by_numbers w (happened w party (Input d line)) (going_quietly w _ (quietly_loose (on_board (line_added d line)) (loose_one d (lined line) (λ c. refl)) w)).numbers) h c
 tied_happened (Take d n) party w c h = tied_still w (happened w party (Take d n)) (by_numbers w (happened w party (Take d n)) (going_quietly w _ (quietly_loose (on_board (bytes_taken d n)) (loose_one d _ (λ c. refl)) w)).numbers) h c
-tied_happened (Stored k) party w c h = tied_still w (happened w party (Stored k)) (by_numbers w (happened w party (Stored k)) (told_numbers (askers_of w.dumps) (dump_stored k) (on_live (resaved done) w))) h c
+tied_happened (Stored k) party w c h = tied_still w (happened w party (Stored k)) (by_numbers w (happened w party (Stored k)) (told_numbers (askers_of w.dumps) (dump_stored k) (on_live (resaved saving_done) w))) h c
 tied_happened (DumpFailed k) party w c h = tied_still w (happened w party (DumpFailed k)) (by_numbers w (happened w party (DumpFailed k)) (told_numbers (askers_of w.dumps) dump_failed (on_live (resaved due_again) w))) h c
 tied_happened (Cut k) party w c h = tied_still w (happened w party (Cut k)) (λ e t. t) h c
 tied_happened event party w c h = tied_still w (happened w party event) (λ e t. t) h c
 
 -- a hook starts what is tied to nothing
-tied_hooked : (c : Started) (w : World) → AreTied w → AreTied (begun (by_hook w) c w).0
+tied_hooked : (c : Started) (w : World) → AreTied w → AreTied (program_begun (by_hook w) c w).0
 unfolding new_process
 tied_hooked c w h =
-    let v = (begun (by_hook w) c w).0 in
+    let v = (program_begun (by_hook w) c w).0 in
     let New : Process → Type 0 = λ p. p.descr ≡ None in
-    tied_comes (is_connected w) (is_connected v) (by_numbers w v (ap (λ (l : Live). numbers l.board.connections) (live_begun (by_hook w) c w))) no_process false (λ x. ⊥) New
-    (λ q n. subst (IsTied (is_connected v)) (sym n) refl) w.queue v.queue h
-    (holds_begun no_process false (λ x. ⊥) New w.queue (by_hook w) c w (λ s n l. refl) (from_itself no_process false (λ x. ⊥) New w.queue))
+    tied_comes (is_connection_there w) (is_connection_there v) (by_numbers w v (ap (λ (l : Live). numbers l.board.connections) (live_begun (by_hook w) c w))) no_own_process false (λ x. ⊥) New
+    (λ q n. subst (IsTied (is_connection_there v)) (sym n) refl) w.queue v.queue h
+    (holds_begun no_own_process false (λ x. ⊥) New w.queue (by_hook w) c w (λ s n l. refl) (from_itself no_own_process false (λ x. ⊥) New w.queue))
 
 pub tied_effect : (e : Entry) (w : World) → EventOrigins e.event w (happened w e.party e.event) → AreTied w → AreTied (effect w e)
-tied_effect e w c h = effect-keeps AreTied (λ call u there k. tied_hooked call u k) w e (tied_happened e.event e.party w c h)
+tied_effect e w c h = effect-keeps AreTied (λ call u there k. tied_hooked call u k) (λ u k. k) w e (tied_happened e.event e.party w c h)

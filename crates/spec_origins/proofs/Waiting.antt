@@ -1,34 +1,33 @@
 -- The lines that wait and the editors behind each entry.
 use Rattle.std.proofs.Common.{◌≡◌, ◌⊎◌, ◌<◌, ℕ, ◌==◌, Bool, true, false, not, cond, List, [], ◌∷◌, ◌++◌, drop, length, refl, sym, ◌∙◌, ap, subst, eqb-true, arith, Option, Some, None, inl, inr}
-use Rattle.std.specs.Prelude.{nat_lt, is_none, ◌&&◌}
+use Rattle.std.specs.Prelude.{nat_lt, is_none}
 use Rattle.std.specs.Option.{option_map, option_and_then}
 use Rattle.std.proofs.lemmas.Bool.Decides.{nat_tests}
+use Rattle.muck_laws.proofs.Options.{none_of}
+use Rattle.muck_laws.proofs.Truths.{second_of}
 use Rattle.muck_model.specs.declared.edit.EditState.{EditState}
 use Rattle.muck_model.specs.declared.event.Entry.{Entry}
 use Rattle.muck_model.specs.declared.event.Event.{Event}
 use Rattle.muck_model.specs.declared.event.Event.TheVariants.{Opened, Input, Closed, Exec, Slice, Take, Stored, DumpFailed, Died}
 use Rattle.muck_model.specs.declared.tune.Tune.{Tune}
 use Rattle.spec_live.specs.Objects.{Entry as Objects, mark_in}
-use Rattle.spec_live.specs.Connections.{Connection, connections_most, placed, without, newcomer, lined}
-use Rattle.spec_live.specs.Boards.{early_board, player_in, opened, closed, line_added, bytes_taken}
-use Rattle.spec_live.specs.Lives.{Live, followed, reading, on_board, tell}
-use Rattle.spec_live.specs.Saving.{done as saved, due_again}
+use Rattle.spec_live.specs.Connections.{Connection, connections_most, connection_placed, without_connection, newcomer, lined}
+use Rattle.spec_live.specs.Boards.{early_board, player_in, connection_opened, connection_closed, line_added, bytes_taken}
+use Rattle.spec_live.specs.Lives.{Live, change_followed, reading, on_board, tell}
+use Rattle.spec_live.specs.Saving.{saving_done as saved, due_again}
 use Rattle.muck_queue.specs.Queues.{reader}
 use Rattle.spec_commands.specs.Talk.{welcome, waits, gone_away}
 use Rattle.spec_commands.specs.inner.Rising.{IsAbove, IsRising}
-use Rattle.spec_events.specs.World.{World, booted, connection, askers_of, on_live}
+use Rattle.spec_events.specs.World.{World, world_booted, connection, askers_of, on_live}
 use Rattle.spec_events.specs.Dumping.{resaved, dump_stored, dump_failed, told_each}
 use Rattle.spec_events.specs.Histories.{AllLawful}
-use Rattle.spec_events.specs.Lines.{line_done, done}
-use Rattle.spec_events.specs.Slices.{units_of}
+use Rattle.spec_events.specs.Lines.{line_done, first_line_done}
 use Rattle.spec_events.specs.Steps.{is_allowed, is_died, is_lawful, effect, happened}
 use Rattle.spec_events.specs.Endings.{Lapsed}
 use Rattle.spec_events.proofs.Endings.{IsTold}
-use Rattle.spec_events.proofs.Happening.{effect-live}
 use Rattle.spec_events.proofs.Passwords.{rising_effect}
 use Rattle.spec_events.proofs.Turns.{told_effect}
-use Rattle.spec_origins.specs.Origins.{LostIn}
-use Rattle.spec_origins.specs.Seats.{editor_at, SameEditor, EditorKept, Seated, AllSeated}
+use Rattle.spec_origins.specs.Seats.{editor_at, SameEditor, Seated, AllSeated}
 use Rattle.spec_origins.proofs.Seats.{Sits, sits_order, sits_one, sits_tell, sits_parted}
 use Rattle.spec_origins.proofs.Seating.{found, lines_in, editor_in, lines_sit, editor_sits, found_changed}
 use Rattle.spec_origins.proofs.Seated.{LineStays, slice_seats, line_stays}
@@ -80,8 +79,8 @@ line_seated n c line lines w v at e k = record {
   editors = λ d. subst (λ (o : Option EditState). ((n == d) ≡ true) ⊎ SameEditor (λ x. Lapsed x w.live v.live) o (editor_at d v)) (waits_editor d n lines w.live) (k.editors d);
 }
 
-exec_seated : (n : ℕ) (w : World) (o : Option Connection) → connection n w ≡ o → IsTold w.live → Seated (Exec n) w (done n o w)
-unfolding done waits
+exec_seated : (n : ℕ) (w : World) (o : Option Connection) → connection n w ≡ o → IsTold w.live → Seated (Exec n) w (first_line_done n o w)
+unfolding first_line_done waits
 exec_seated n w None at told = same_seated n w None at refl
 exec_seated n w (Some c) at told = by_lines c.waiting refl
   where
@@ -91,15 +90,15 @@ exec_seated n w (Some c) at told = by_lines c.waiting refl
 
 -- A connection that opens, and one that goes.
 
-found_placed : (d : ℕ) (new : Connection) (cs : List Connection) → (new.number == d) ≡ false → found d (placed new cs) ≡ found d cs
+found_placed : (d : ℕ) (new : Connection) (cs : List Connection) → (new.number == d) ≡ false → found d (connection_placed new cs) ≡ found d cs
 found_placed d new [] o = ap (λ (b : Bool). cond b (Some new) None) o
 found_placed d new (c ∷ cs) o = by_place (nat_lt new.number c.number) (c.number == d) (found_placed d new cs o)
   where
-    by_place : (before t : Bool) → found d (placed new cs) ≡ found d cs → found d (cond before (new ∷ c ∷ cs) (c ∷ placed new cs)) ≡ found d (c ∷ cs)
+    by_place : (before t : Bool) → found d (connection_placed new cs) ≡ found d cs → found d (cond before (new ∷ c ∷ cs) (c ∷ connection_placed new cs)) ≡ found d (c ∷ cs)
     by_place true t e = ap (λ (b : Bool). cond b (Some new) (found d (c ∷ cs))) o
     by_place false t e = ap (λ (q : Option Connection). cond (c.number == d) (Some c) q) e
 
-found_new : (new : Connection) (cs : List Connection) → found new.number cs ≡ None → found new.number (placed new cs) ≡ Some new
+found_new : (new : Connection) (cs : List Connection) → found new.number cs ≡ None → found new.number (connection_placed new cs) ≡ Some new
 found_new new [] e = ap (λ (b : Bool). cond b (Some new) None) (own_is new.number)
   where
     own_is : (n : ℕ) → (n == n) ≡ true
@@ -109,22 +108,22 @@ found_new new (c ∷ cs) e = by_place (nat_lt new.number c.number) e (found_new 
     own_is : (n : ℕ) → (n == n) ≡ true
     own_is n = grind (arith, nat_tests)
 
-    later : (t : Bool) → cond t (Some c) (found new.number cs) ≡ None → (found new.number cs ≡ None → found new.number (placed new cs) ≡ Some new) → cond t (Some c) (found new.number (placed new cs)) ≡ Some new
+    later : (t : Bool) → cond t (Some c) (found new.number cs) ≡ None → (found new.number cs ≡ None → found new.number (connection_placed new cs) ≡ Some new) → cond t (Some c) (found new.number (connection_placed new cs)) ≡ Some new
     later true e k = absurd cc
     later false e k = k e
 
-    by_place : (before : Bool) → found new.number (c ∷ cs) ≡ None → (found new.number cs ≡ None → found new.number (placed new cs) ≡ Some new) → found new.number (cond before (new ∷ c ∷ cs) (c ∷ placed new cs)) ≡ Some new
+    by_place : (before : Bool) → found new.number (c ∷ cs) ≡ None → (found new.number cs ≡ None → found new.number (connection_placed new cs) ≡ Some new) → found new.number (cond before (new ∷ c ∷ cs) (c ∷ connection_placed new cs)) ≡ Some new
     by_place true e k = ap (λ (b : Bool). cond b (Some new) (found new.number (c ∷ cs))) (own_is new.number)
     by_place false e k = later (c.number == new.number) e k
 
-found_without : (d n : ℕ) (cs : List Connection) → (n == d) ≡ false → found d (without n cs) ≡ found d cs
+found_without : (d n : ℕ) (cs : List Connection) → (n == d) ≡ false → found d (without_connection n cs) ≡ found d cs
 found_without d n [] o = refl
 found_without d n (c ∷ cs) o = by_first (c.number == n) refl (c.number == d) refl (found_without d n cs o)
   where
     never : (m n d : ℕ) → (n == d) ≡ false → (m == n) ≡ true → (m == d) ≡ true → ⊥
     never m n d other same at = grind (arith, nat_tests)
 
-    by_first : (t : Bool) → (c.number == n) ≡ t → (u : Bool) → (c.number == d) ≡ u → found d (without n cs) ≡ found d cs → found d (cond t cs (c ∷ without n cs)) ≡ cond u (Some c) (found d cs)
+    by_first : (t : Bool) → (c.number == n) ≡ t → (u : Bool) → (c.number == d) ≡ u → found d (without_connection n cs) ≡ found d cs → found d (cond t cs (c ∷ without_connection n cs)) ≡ cond u (Some c) (found d cs)
     by_first true e true f k = absurd (never c.number n d o e f)
     by_first true e false f k = refl
     by_first false e u f k = ap (λ (q : Option Connection). cond (c.number == d) (Some c) q) k ∙ ap (λ (b : Bool). cond b (Some c) (found d cs)) f
@@ -136,22 +135,13 @@ above_none n (c ∷ cs) h = ap (λ (t : Bool). cond t (Some c) (found n cs)) (ap
     apart : (m n : ℕ) → n < m → (m == n) ≡ false
     apart m n less = grind (arith, nat_tests)
 
-found_gone : (n : ℕ) (cs : List Connection) → IsRising cs → found n (without n cs) ≡ None
+found_gone : (n : ℕ) (cs : List Connection) → IsRising cs → found n (without_connection n cs) ≡ None
 found_gone n [] h = refl
 found_gone n (c ∷ cs) h = by_first (c.number == n) refl (found_gone n cs h.1)
   where
-    by_first : (t : Bool) → (c.number == n) ≡ t → found n (without n cs) ≡ None → found n (cond t cs (c ∷ without n cs)) ≡ None
+    by_first : (t : Bool) → (c.number == n) ≡ t → found n (without_connection n cs) ≡ None → found n (cond t cs (c ∷ without_connection n cs)) ≡ None
     by_first true e k = above_none n cs (subst (λ (m : ℕ). IsAbove m cs) (eqb-true c.number n e) h.0)
-    by_first false e k = ap (λ (t : Bool). cond t (Some c) (found n (without n cs))) e ∙ k
-
-none_of : {X : Type 0} (o : Option X) → is_none o ≡ true → o ≡ None
-none_of None e = refl
-none_of (Some x) e = absurd cc
-
-second_of : (first b few stop : Bool) → (first && b && few && stop) ≡ true → b ≡ true
-second_of true true few stop e = refl
-second_of true false few stop e = absurd cc
-second_of false b few stop e = absurd cc
+    by_first false e k = ap (λ (t : Bool). cond t (Some c) (found n (without_connection n cs))) e ∙ k
 
 -- by the number of the connection
 by_number : {X : Type 0} (n d : ℕ) (read : Option Connection → X) (cs ds : List Connection) (here : X) → ((n == d) ≡ false → found d ds ≡ found d cs) → read (found n ds) ≡ here → (b : Bool) → (n == d) ≡ b → read (found d ds) ≡ cond b here (read (found d cs))
@@ -159,25 +149,25 @@ by_number n d read cs ds here other own true e = ap (λ (m : ℕ). read (found m
 by_number n d read cs ds here other own false e = ap read (other e)
 
 opened_seated : (n : ℕ) (w : World) (party : ℕ) → connection n w ≡ None → Seated (Opened n) w (happened w party (Opened n))
-unfolding opened
+unfolding connection_opened
 opened_seated n w party none =
     let cs : List Connection = w.live.board.connections in
     let new : Connection = newcomer n welcome in
-    let own : found n (placed new cs) ≡ Some new = found_new new cs none in
+    let own : found n (connection_placed new cs) ≡ Some new = found_new new cs none in
     record {
-      lines = λ d. by_number n d (λ o. option_map (λ (c : Connection). c.waiting) o) cs (placed new cs) (Some []) (found_placed d new cs) (ap (λ (o : Option Connection). option_map (λ (c : Connection). c.waiting) o) own) (n == d) refl;
-      editors = λ d. by_number n d (λ o. option_and_then (λ (c : Connection). c.editor) o) cs (placed new cs) None (found_placed d new cs) (ap (λ (o : Option Connection). option_and_then (λ (c : Connection). c.editor) o) own) (n == d) refl;
+      lines = λ d. by_number n d (λ o. option_map (λ (c : Connection). c.waiting) o) cs (connection_placed new cs) (Some []) (found_placed d new cs) (ap (λ (o : Option Connection). option_map (λ (c : Connection). c.waiting) o) own) (n == d) refl;
+      editors = λ d. by_number n d (λ o. option_and_then (λ (c : Connection). c.editor) o) cs (connection_placed new cs) None (found_placed d new cs) (ap (λ (o : Option Connection). option_and_then (λ (c : Connection). c.editor) o) own) (n == d) refl;
     }
 
-gone_sits : (n : ℕ) (w : Live) → Sits (on_board (closed n) w) (gone_away n w)
-unfolding gone_away reading followed
-gone_sits n w = (sits_parted (player_in n w.board)).law (on_board (closed n) w)
+gone_sits : (n : ℕ) (w : Live) → Sits (on_board (connection_closed n) w) (gone_away n w)
+unfolding gone_away reading change_followed
+gone_sits n w = (sits_parted (player_in n w.board)).law (on_board (connection_closed n) w)
 
 closed_seated : (n : ℕ) (w : World) (party : ℕ) → IsRising w.live.board.connections → Seated (Closed n) w (happened w party (Closed n))
-unfolding closed
+unfolding connection_closed
 closed_seated n w party rising =
     let cs : List Connection = w.live.board.connections in
-    let ds : List Connection = without n cs in
+    let ds : List Connection = without_connection n cs in
     let es : List Connection = (gone_away n w.live).board.connections in
     let s = (gone_sits n w.live).seats in
     let own : found n ds ≡ None = found_gone n cs rising in
@@ -241,21 +231,9 @@ dead_seated : (event : Event) (w : World) (party : ℕ) → is_died event ≡ tr
 dead_seated Died w party l = record { lines = λ d. refl; editors = λ d. refl }
 dead_seated event w party l = absurd cc
 
--- programs that start behind it change nothing of that
-pub seated_as : (event : Event) (w u v : World) → v.live ≡ u.live → Seated event w u → Seated event w v
-seated_as event w u v e s = record { lines = λ d. ap (λ (l : Live). lines_in d l.board.connections) e ∙ s.lines d; editors = λ d. kept event d (s.editors d) }
-  where
-    same : (d : ℕ) → editor_at d v ≡ editor_at d u
-    same d = ap (λ (l : Live). editor_in d l.board.connections) e
-
-    kept : (event : Event) (d : ℕ) → EditorKept event w u d → EditorKept event w v d
-    kept (Exec n) d k = subst (λ (l : Live). ((n == d) ≡ true) ⊎ SameEditor (λ x. Lapsed x w.live l) (editor_at d w) (editor_in d l.board.connections)) (sym e) k
-    kept (Slice pid) d k = subst (SameEditor (LostIn (units_of pid w)) (editor_at d w)) (sym (same d)) k
-    kept event d k = same d ∙ k
-
-entry_seated : (entry : Entry) (w : World) → is_lawful w entry ≡ true → IsTold w.live → IsRising w.live.board.connections → Seated entry.event w (effect w entry)
+entry_seated : (entry : Entry) (w : World) → is_lawful w entry ≡ true → IsTold w.live → IsRising w.live.board.connections → Seated entry.event w (happened w entry.party entry.event)
 unfolding is_lawful
-entry_seated entry w l told rising = seated_as entry.event w (happened w entry.party entry.event) (effect w entry) (effect-live w entry) (at w.dead l)
+entry_seated entry w l told rising = at w.dead l
   where
     at : (dead : Bool) → cond dead (is_died entry.event) (is_allowed w entry.party entry.event) ≡ true → Seated entry.event w (happened w entry.party entry.event)
     at true k = dead_seated entry.event w entry.party k
@@ -267,6 +245,6 @@ all_seated w [] told rising l = tt
 all_seated w (entry ∷ entries) told rising l =
     (entry_seated entry w l.0 told rising, all_seated (effect w entry) entries (told_effect w entry told) (rising_effect w entry l.0 rising) l.1)
 
-pub all_seated_booted : (objects : List Objects) (tune : Tune) (moment start : ℕ) → ((n : ℕ) → mark_in objects n ≡ None) → (es : List Entry) → AllLawful (booted objects tune moment start) es → AllSeated (booted objects tune moment start) es
-unfolding booted early_board
-all_seated_booted objects tune moment start none es l = all_seated (booted objects tune moment start) es none tt l
+pub all_seated_booted : (objects : List Objects) (tune : Tune) (moment start : ℕ) → ((n : ℕ) → mark_in objects n ≡ None) → (es : List Entry) → AllLawful (world_booted objects tune moment start) es → AllSeated (world_booted objects tune moment start) es
+unfolding world_booted early_board
+all_seated_booted objects tune moment start none es l = all_seated (world_booted objects tune moment start) es none tt l

@@ -7,7 +7,7 @@ use Rattle.muck_model.specs.declared.event.Event.TheVariants.{Exec}
 use Rattle.spec_live.specs.Connections.{Connection}
 use Rattle.spec_commands.specs.declared.edit.EditStep.{EditStep}
 use Rattle.spec_commands.specs.declared.edit.EditStep.TheVariants.{Compile}
-use Rattle.spec_commands.specs.Editing.{edited, is_open}
+use Rattle.spec_commands.specs.Editing.{edited_by_line, is_editor_open}
 use Rattle.spec_commands.specs.Finding.{actor_of}
 use Rattle.spec_commands.specs.Talk.{waits}
 use Rattle.muf_model.specs.Tree.{Tree}
@@ -29,7 +29,7 @@ StepBuilds step program v = Unit {0}
 
 -- so of a line in an editor that is open
 abbrev pub EditorBuilds : ℕ → Dbref → EditState → List ℕ → World → World → Type 0
-EditorBuilds d player s line w v = is_open s w.live ≡ true → StepBuilds (edited d (actor_of w.live.objects player) s line w.live).2 s.program v
+EditorBuilds d player s line w v = is_editor_open s w.live ≡ true → StepBuilds (edited_by_line d (actor_of w.live.objects player) s line w.live).2 s.program v
 
 -- so of a line of a player, once it waits no more, and its editor is taken for it
 abbrev pub LineBuilds : ℕ → Option Dbref → Option EditState → List (List ℕ) → World → World → Type 0

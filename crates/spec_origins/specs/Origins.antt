@@ -14,14 +14,14 @@ use Rattle.spec_commands.specs.Finding.{actor_of}
 use Rattle.muf_model.specs.Chains.{programs_of}
 use Rattle.muf_model.specs.Datum.{Datum}
 use Rattle.muf_model.specs.Source.{Program}
-use Rattle.spec_prims.specs.Asking.{numbered}
+use Rattle.spec_prims.specs.Asking.{object_numbered}
 use Rattle.muck_queue.specs.declared.process.Process.{Process}
 use Rattle.muck_queue.specs.Queues.{Queue, is_awaiting, reader}
 use Rattle.spec_events.specs.World.{World, connection}
 use Rattle.spec_events.specs.Slices.{Taken, queued_command, after_unit, units_of}
 use Rattle.spec_events.specs.Endings.{Lapsed}
 use Rattle.spec_events.specs.Sourced.{Each}
-use Rattle.spec_events.specs.Steps.{effect}
+use Rattle.spec_events.specs.Steps.{effect, happened}
 use Rattle.spec_origins.specs.Builds.{EventBuilds}
 
 abbrev pub Among : {X : Type 0} → X → List X → Type 0
@@ -73,8 +73,8 @@ pub record Comes (own : ℤ → Bool) (sends : Bool) (Lost : Dbref → Type 0) (
 -- What happens.
 
 -- no process is this step's own
-abbrev pub no_process : ℤ → Bool
-no_process n = false
+abbrev pub no_own_process : ℤ → Bool
+no_own_process n = false
 
 -- A process that is new behind a line of a player on the connection d: it is that player's, tied to that connection, with a number above all that were given, and of a program that
 -- the player may start.
@@ -87,12 +87,12 @@ pub record StartedBy (d : ℕ) (who : Dbref) (last : ℤ) (v : World) (q : Proce
 -- A line for a process that reads is that process's, and starts none. One of a player may start a process. At the login screen none starts.
 abbrev pub LineOrigins : ℕ → Option ℤ → Option Dbref → World → World → Type 0
 LineOrigins d (Some pid) player w v = Comes (λ n. int_eq n pid) false (λ x. ⊥) (λ q. ⊥) w.queue v.queue
-LineOrigins d None (Some player) w v = Comes no_process false (λ x. Lapsed x w.live v.live) (StartedBy d player w.queue.last v) w.queue v.queue
-LineOrigins d None None w v = Comes no_process false (λ x. ⊥) (λ q. ⊥) w.queue v.queue
+LineOrigins d None (Some player) w v = Comes no_own_process false (λ x. Lapsed x w.live v.live) (StartedBy d player w.queue.last v) w.queue v.queue
+LineOrigins d None None w v = Comes no_own_process false (λ x. ⊥) (λ q. ⊥) w.queue v.queue
 
 abbrev pub TurnOrigins : ℕ → Option Connection → World → World → Type 0
 TurnOrigins d (Some c) w v = LineOrigins d (reader d w.queue) c.player w v
-TurnOrigins d None w v = Comes no_process false (λ x. ⊥) (λ q. ⊥) w.queue v.queue
+TurnOrigins d None w v = Comes no_own_process false (λ x. ⊥) (λ q. ⊥) w.queue v.queue
 
 -- in one of these units it was gone, or got another source
 abbrev pub LostIn : List Taken → Dbref → Type 0
@@ -120,41 +120,42 @@ SliceOrigins pid ts w v = Comes (λ n. int_eq n pid) true (LostIn ts) (StartedIn
 abbrev pub EventOrigins : Event → World → World → Type 0
 EventOrigins (Exec d) w v = TurnOrigins d (connection d w) w v
 EventOrigins (Slice pid) w v = SliceOrigins pid (units_of pid w) w v
-EventOrigins event w v = Comes no_process false (λ x. ⊥) (λ q. ⊥) w.queue v.queue
+EventOrigins event w v = Comes no_own_process false (λ x. ⊥) (λ q. ⊥) w.queue v.queue
 
 -- Connections.
 
-abbrev pub is_connected : World → ℕ → Bool
-is_connected w d = is_some (connection d w)
+abbrev pub is_connection_there : World → ℕ → Bool
+is_connection_there w d = is_some (connection d w)
 
 -- each process that is tied to a connection has it
 abbrev pub AreTied : World → Type 0
-AreTied w = Each (λ p. option_map_or (is_connected w) p.descr true ≡ true) w.queue.processes
+AreTied w = Each (λ p. option_map_or (is_connection_there w) p.descr true ≡ true) w.queue.processes
 
 -- What runs.
 
 -- the lowest program on a call stack: the one with which its process began
-abbrev pub lowest : List Program → Option Dbref
-lowest [] = None
-lowest (p ∷ []) = Some (numbered p.number)
-lowest (p ∷ q ∷ ps) = lowest (q ∷ ps)
+abbrev pub lowest_program : List Program → Option Dbref
+lowest_program [] = None
+lowest_program (p ∷ []) = Some (object_numbered p.number)
+lowest_program (p ∷ q ∷ ps) = lowest_program (q ∷ ps)
 
 -- a process stands at a state, and began with the program for which it was started
 abbrev pub RunsOwn : Process → Type 0
-RunsOwn p = option_and_then (λ s. lowest (programs_of s)) p.running ≡ Some p.program
+RunsOwn p = option_and_then (λ s. lowest_program (programs_of s)) p.running ≡ Some p.program
 
 abbrev pub AreOwn : World → Type 0
 AreOwn w = Each RunsOwn w.queue.processes
 
 -- Histories.
 
-pub record Origins (event : Event) (w v : World) : Type 0 where
+-- from what happened; and then u, behind what is hooked to it, is so that each process has its connection, and runs its own program
+pub record Origins (event : Event) (w v u : World) : Type 0 where
   pub processes : EventOrigins event w v
-  pub tied : AreTied v
-  pub runs : AreOwn v
   pub builds : EventBuilds event w v
+  pub tied : AreTied u
+  pub runs : AreOwn u
 
 -- it is so of each entry where it stands
 abbrev pub AllOrigins : World → List Entry → Type 0
 AllOrigins w [] = Unit {0}
-AllOrigins w (entry ∷ entries) = Origins entry.event w (effect w entry) × AllOrigins (effect w entry) entries
+AllOrigins w (entry ∷ entries) = Origins entry.event w (happened w entry.party entry.event) (effect w entry) × AllOrigins (effect w entry) entries

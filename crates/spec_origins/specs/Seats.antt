@@ -9,12 +9,12 @@ use Rattle.muck_model.specs.declared.event.Event.TheVariants.{Opened, Input, Clo
 use Rattle.spec_events.specs.World.{World, connection}
 use Rattle.spec_events.specs.Endings.{Lapsed}
 use Rattle.spec_events.specs.Slices.{units_of}
-use Rattle.spec_events.specs.Steps.{effect}
+use Rattle.spec_events.specs.Steps.{effect, happened}
 use Rattle.spec_origins.specs.Origins.{LostIn}
 
 -- the lines that wait on a connection, where it is there
-abbrev pub lines_at : ℕ → World → Option (List (List ℕ))
-lines_at d w = option_map (λ c. c.waiting) (connection d w)
+abbrev pub lines_waiting_at : ℕ → World → Option (List (List ℕ))
+lines_waiting_at d w = option_map (λ c. c.waiting) (connection d w)
 
 -- None wait on a connection that opens. A line that comes waits behind the others, and the first one waits no more once it is done.
 abbrev pub lines_behind : Event → ℕ → Option (List (List ℕ)) → Option (List (List ℕ))
@@ -41,10 +41,10 @@ EditorKept event w v d = editor_at d v ≡ editor_at d w
 
 -- of every connection
 pub record Seated (event : Event) (w v : World) : Type 0 where
-  pub lines : (d : ℕ) → lines_at d v ≡ lines_behind event d (lines_at d w)
+  pub lines : (d : ℕ) → lines_waiting_at d v ≡ lines_behind event d (lines_waiting_at d w)
   pub editors : (d : ℕ) → EditorKept event w v d
 
--- it is so of each entry where it stands
+-- It is so of what happens by each entry where it stands; what is hooked to that changes no connection.
 abbrev pub AllSeated : World → List Entry → Type 0
 AllSeated w [] = Unit {0}
-AllSeated w (entry ∷ entries) = Seated entry.event w (effect w entry) × AllSeated (effect w entry) entries
+AllSeated w (entry ∷ entries) = Seated entry.event w (happened w entry.party entry.event) × AllSeated (effect w entry) entries

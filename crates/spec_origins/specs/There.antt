@@ -4,7 +4,7 @@ use Rattle.muck_model.specs.declared.dbref.Dbref.{Dbref}
 use Rattle.muck_model.specs.declared.edit.EditState.{EditState}
 use Rattle.muck_model.specs.declared.event.Entry.{Entry}
 use Rattle.spec_live.specs.Objects.{nothing, object_at}
-use Rattle.spec_prims.specs.Asking.{numbered}
+use Rattle.spec_prims.specs.Asking.{object_numbered}
 use Rattle.spec_events.specs.World.{World}
 use Rattle.spec_events.specs.Sourced.{Each, Standing}
 use Rattle.spec_events.specs.Steps.{effect}
@@ -18,7 +18,7 @@ IsThere w d = is_some (object_at d w.live.objects) ≡ true
 pub record AllThere (w : World) : Type 0 where
   pub starts : Each (λ p. IsThere w p.program) w.queue.processes
   pub triggers : Each (λ p. (p.trigger ≡ nothing) ⊎ IsThere w p.trigger) w.queue.processes
-  pub programs : Each (λ p. Standing (λ q. IsThere w (numbered q.number)) p.running) w.queue.processes
+  pub programs : Each (λ p. Standing (λ q. IsThere w (object_numbered q.number)) p.running) w.queue.processes
   pub editors : (d : ℕ) (s : EditState) → editor_at d w ≡ Some s → IsThere w s.program
 
 -- behind each entry

@@ -19,16 +19,16 @@ use Rattle.spec_live.specs.Objects.{object_at}
 use Rattle.spec_live.specs.Seen.{places_of}
 use Rattle.spec_rights.specs.declared.act.Act.TheVariants.{Read, Write, Shared}
 use Rattle.spec_rights.specs.Verdict.{verdict}
-use Rattle.spec_rights.specs.Changing.{stored, unstored}
+use Rattle.spec_rights.specs.Changing.{property_stored, unstored}
 use Rattle.muf_model.specs.declared.fault.MufFault.{MufFault}
-use Rattle.spec_prims.specs.Asking.{numbered, fault_of}
-use Rattle.spec_prims.specs.Row.{Row, gives, Doing}
-use Rattle.spec_prims.specs.PropRows.{at_path, value_of, as_item, as_text, as_number, has_below, seen_at, looked, first_holder, sought, name_fault, begins, next_read, walked, written_at, put_at, put, text_or, added, removed, property_row}
+use Rattle.spec_prims.specs.Asking.{object_numbered, fault_of_denial}
+use Rattle.spec_prims.specs.Row.{WorldAnswer, gives, WorldDoing}
+use Rattle.spec_prims.specs.PropRows.{row_at_path, value_of, as_item, value_as_text, as_number, has_below, property_seen_at, property_looked_at, first_holder, property_sought, directory_fault, listing_begins, next_read, properties_walked, written_at, property_put_at, property_put, text_or, property_added, removed, property_row}
 use Rattle.spec_commands.specs.Finding.{actor_of}
-use Rattle.spec_mpi.specs.Telling.{Answer}
-use Rattle.spec_mpi.specs.Messages.{heard, variables_of}
-use Rattle.spec_prims.specs.Formulas.{answered, parsed, parse_done}
-use Rattle.spec_prims.specs.Talk.{notified, told_but, object_in, notified_but, booted_seat, booted, seat_at, awake, connected_at, player_given, player_at, descriptors, talk_row}
+use Rattle.spec_mpi.specs.Telling.{MpiAnswer}
+use Rattle.spec_mpi.specs.Messages.{formula_heard, variables_of}
+use Rattle.spec_prims.specs.Formulas.{formula_answered, formula_parsed, parse_done}
+use Rattle.spec_prims.specs.Talk.{notified, told_but, item_object, notified_but, booted_seat, connection_booted, seat_at, connections_awake, connected_at, player_given, player_at, descriptors, talk_row}
 use Rattle.std.specs.Prelude.{option_map, Result, Ok, Err}
 use Rattle.muf_model.specs.declared.fault.MufFault.{MufFault}
 use Rattle.spec_prims.specs.ObjectRows.{Finding, finding_of, finds, given, object_row}
@@ -46,18 +46,18 @@ fits_told_but t but (object d ∷ []) items w = inl (omega arith)
 fits_told_but t but _ items w = tt
 
 fits_notified_but : (a : Actor) (items : List Datum) (w : Live) → Fits items w (notified_but a items w)
-fits_notified_but a (text t ∷ int (pos n) ∷ rest) w = fits_told_but t (filter_map object_in (take n rest)) (drop n rest) (text t ∷ int (pos n) ∷ rest) w
+fits_notified_but a (text t ∷ int (pos n) ∷ rest) w = fits_told_but t (filter_map item_object (take n rest)) (drop n rest) (text t ∷ int (pos n) ∷ rest) w
 fits_notified_but a _ w = tt
 
 fits_seat : (d : Option ℕ) (items : List Datum) (w : Live) → Fits items w (booted_seat d w)
 fits_seat (Some d) items w = inl (omega arith)
 fits_seat None items w = tt
 
-fits_booted : (a : Actor) (items : List Datum) (w : Live) → Fits items w (booted a items w)
-fits_booted a (int i ∷ []) w = fits_unless (fault_of (verdict w.objects a (Shared 4))) (int i ∷ []) w (booted_seat (seat_at i w) w) (fits_seat (seat_at i w) (int i ∷ []) w)
+fits_booted : (a : Actor) (items : List Datum) (w : Live) → Fits items w (connection_booted a items w)
+fits_booted a (int i ∷ []) w = fits_unless (fault_of_denial (verdict w.objects a (Shared 4))) (int i ∷ []) w (booted_seat (seat_at i w) w) (fits_seat (seat_at i w) (int i ∷ []) w)
 fits_booted a _ w = tt
 
-fits_awake : (a : Actor) (items : List Datum) (w : Live) → Fits items w (awake a items w)
+fits_awake : (a : Actor) (items : List Datum) (w : Live) → Fits items w (connections_awake a items w)
 fits_awake a (object d ∷ []) w = inr refl
 fits_awake a _ w = tt
 
@@ -77,7 +77,7 @@ fits_given : (items : List Datum) (w : Live) (found : Result Datum MufFault) →
 fits_given items w (Ok item) = inr refl
 fits_given items w (Err f) = tt
 
-fits_found : (p : Primitive) (o : Option Finding) (r : Option Doing) → IsFit r → IsFit (option_or (option_map (finds p) o) r)
+fits_found : (p : Primitive) (o : Option Finding) (r : Option WorldDoing) → IsFit r → IsFit (option_or (option_map (finds p) o) r)
 fits_found p None r h = h
 fits_found p (Some find) r h = λ a items w. fits_given items w (find a w.objects items)
 
@@ -100,78 +100,78 @@ fits_talk descr _ = tt
 
 -- what is asked before a row
 
-fits_at_path : (fault : Option PropFault) (items : List Datum) (w : Live) (row : Row) → Fits items w row → Fits items w (at_path fault row)
+fits_at_path : (fault : Option PropFault) (items : List Datum) (w : Live) (row : WorldAnswer) → Fits items w row → Fits items w (row_at_path fault row)
 fits_at_path None items w row h = h
 fits_at_path (Some f) items w row h = tt
 
 -- rows of properties
 
-fits_looked : (look : Option Object → List (List ℕ) → Datum) (a : Actor) (items : List Datum) (w : Live) → Fits items w (looked look a items w)
+fits_looked : (look : Option Object → List (List ℕ) → Datum) (a : Actor) (items : List Datum) (w : Live) → Fits items w (property_looked_at look a items w)
 fits_looked look a (text t ∷ object d ∷ []) w =
-    fits_at_path (path_fault t) (text t ∷ object d ∷ []) w (seen_at look a (segments_of t) (numbered d) w)
-    (fits_unless (fault_of (verdict w.objects a (Read (numbered d) (segments_of t)))) (text t ∷ object d ∷ []) w (gives (look (object_at (numbered d) w.objects) (segments_of t) ∷ []) w) (inr refl))
+    fits_at_path (path_fault t) (text t ∷ object d ∷ []) w (property_seen_at look a (segments_of t) (object_numbered d) w)
+    (fits_unless (fault_of_denial (verdict w.objects a (Read (object_numbered d) (segments_of t)))) (text t ∷ object d ∷ []) w (gives (look (object_at (object_numbered d) w.objects) (segments_of t) ∷ []) w) (inr refl))
 fits_looked look a _ w = tt
 
-fits_held : (shown : Option PropValue → Datum) (e : Dbref) (o : Option PropValue) (later : Row) (items : List Datum) (w : Live) → Fits items w later → Fits items w (option_map_or (λ value. gives (shown (Some value) ∷ object e.0 ∷ []) w) o later)
+fits_held : (shown : Option PropValue → Datum) (e : Dbref) (o : Option PropValue) (later : WorldAnswer) (items : List Datum) (w : Live) → Fits items w later → Fits items w (option_map_or (λ value. gives (shown (Some value) ∷ object e.0 ∷ []) w) o later)
 fits_held shown e None later items w h = h
 fits_held shown e (Some value) later items w h = inr refl
 
 fits_holder : (shown : Option PropValue → Datum) (a : Actor) (path : List (List ℕ)) (es : List Dbref) (items : List Datum) (w : Live) → Fits items w (first_holder shown a path es w)
 fits_holder shown a path [] items w = inr refl
 fits_holder shown a path (e ∷ es) items w =
-    fits_unless (fault_of (verdict w.objects a (Read e path))) items w _
+    fits_unless (fault_of_denial (verdict w.objects a (Read e path))) items w _
     (fits_held shown e (value_of (object_at e w.objects) path) (first_holder shown a path es w) items w (fits_holder shown a path es items w))
 
-fits_sought : (shown : Option PropValue → Datum) (a : Actor) (items : List Datum) (w : Live) → Fits items w (sought shown a items w)
+fits_sought : (shown : Option PropValue → Datum) (a : Actor) (items : List Datum) (w : Live) → Fits items w (property_sought shown a items w)
 fits_sought shown a (text t ∷ object d ∷ []) w =
-    fits_at_path (path_fault t) (text t ∷ object d ∷ []) w (first_holder shown a (segments_of t) (numbered d ∷ places_of w.objects (numbered d)) w)
-    (fits_holder shown a (segments_of t) (numbered d ∷ places_of w.objects (numbered d)) (text t ∷ object d ∷ []) w)
+    fits_at_path (path_fault t) (text t ∷ object d ∷ []) w (first_holder shown a (segments_of t) (object_numbered d ∷ places_of w.objects (object_numbered d)) w)
+    (fits_holder shown a (segments_of t) (object_numbered d ∷ places_of w.objects (object_numbered d)) (text t ∷ object d ∷ []) w)
 fits_sought shown a _ w = tt
 
-fits_walked : (a : Actor) (items : List Datum) (w : Live) → Fits items w (walked a items w)
+fits_walked : (a : Actor) (items : List Datum) (w : Live) → Fits items w (properties_walked a items w)
 fits_walked a (text t ∷ object d ∷ []) w =
-    fits_at_path (name_fault t) (text t ∷ object d ∷ []) w (gives (text (option_map_or path_text (next_read a (numbered d) (begins t) w) []) ∷ []) w) (inr refl)
+    fits_at_path (directory_fault t) (text t ∷ object d ∷ []) w (gives (text (option_map_or path_text (next_read a (object_numbered d) (listing_begins t) w) []) ∷ []) w) (inr refl)
 fits_walked a _ w = tt
 
-fits_written : (a : Actor) (t : List ℕ) (d : Dbref) (change : Change) (items : List Datum) (w : Live) → Fits items w (at_path (path_fault t) (written_at a (segments_of t) d change w))
+fits_written : (a : Actor) (t : List ℕ) (d : Dbref) (change : Change) (items : List Datum) (w : Live) → Fits items w (row_at_path (path_fault t) (written_at a (segments_of t) d change w))
 fits_written a t d change items w =
     fits_at_path (path_fault t) items w (written_at a (segments_of t) d change w)
-    (fits_unless (fault_of (verdict w.objects a (Write d (segments_of t)))) items w (gives [] (change w)) (inl (omega arith)))
+    (fits_unless (fault_of_denial (verdict w.objects a (Write d (segments_of t)))) items w (gives [] (change w)) (inl (omega arith)))
 
-fits_put_at : (a : Actor) (t : List ℕ) (d : ℤ) (value : PropValue) (items : List Datum) (w : Live) → Fits items w (put_at a t d value w)
-fits_put_at a t d value items w = fits_written a t (numbered d) (stored (numbered d) (segments_of t) value) items w
+fits_put_at : (a : Actor) (t : List ℕ) (d : ℤ) (value : PropValue) (items : List Datum) (w : Live) → Fits items w (property_put_at a t d value w)
+fits_put_at a t d value items w = fits_written a t (object_numbered d) (property_stored (object_numbered d) (segments_of t) value) items w
 
-fits_put : (a : Actor) (items : List Datum) (w : Live) → Fits items w (put a items w)
+fits_put : (a : Actor) (items : List Datum) (w : Live) → Fits items w (property_put a items w)
 fits_put a (int n ∷ text t ∷ object d ∷ []) w = fits_put_at a t d (Number n) (int n ∷ text t ∷ object d ∷ []) w
 fits_put a (text u ∷ text t ∷ object d ∷ []) w = fits_put_at a t d (Text u) (text u ∷ text t ∷ object d ∷ []) w
 fits_put a _ w = tt
 
-fits_added : (a : Actor) (items : List Datum) (w : Live) → Fits items w (added a items w)
+fits_added : (a : Actor) (items : List Datum) (w : Live) → Fits items w (property_added a items w)
 fits_added a (int n ∷ text u ∷ text t ∷ object d ∷ []) w = fits_put_at a t d (text_or u n) (int n ∷ text u ∷ text t ∷ object d ∷ []) w
 fits_added a _ w = tt
 
 fits_removed : (a : Actor) (items : List Datum) (w : Live) → Fits items w (removed a items w)
-fits_removed a (text t ∷ object d ∷ []) w = fits_written a t (numbered d) (unstored (numbered d) (segments_of t)) (text t ∷ object d ∷ []) w
+fits_removed a (text t ∷ object d ∷ []) w = fits_written a t (object_numbered d) (unstored (object_numbered d) (segments_of t)) (text t ∷ object d ∷ []) w
 fits_removed a _ w = tt
 
-fits_answered : (answer : Answer) (items : List Datum) (w v : Live) → length items ≡ 4 → Fits items w (answered answer v)
+fits_answered : (answer : MpiAnswer) (items : List Datum) (w v : Live) → length items ≡ 4 → Fits items w (formula_answered answer v)
 fits_answered (Ok value) items w v e = inl (omega (arith, e))
 fits_answered (Err fault) items w v e = tt
 
 fits_parse : (a : Actor) (items : List Datum) (w : Live) → Fits items w (parse_done a items w)
-unfolding parsed
+unfolding formula_parsed
 fits_parse a (int i ∷ text how ∷ text formula ∷ object this ∷ []) w =
-    let done = heard (actor_of w.objects a.player) (numbered this) formula (variables_of how [] []) w in
+    let done = formula_heard (actor_of w.objects a.player) (object_numbered this) formula (variables_of how [] []) w in
     fits_answered done.0 (int i ∷ text how ∷ text formula ∷ object this ∷ []) w done.1 refl
 fits_parse a _ w = tt
 
 pub fits_property : (p : Primitive) → IsFit (property_row p)
 fits_property GetProp = fits_looked (λ o path. as_item (value_of o path))
-fits_property GetPropStr = fits_looked (λ o path. as_text (value_of o path))
+fits_property GetPropStr = fits_looked (λ o path. value_as_text (value_of o path))
 fits_property GetPropVal = fits_looked (λ o path. as_number (value_of o path))
 fits_property IsPropDir = fits_looked has_below
 fits_property EnvProp = fits_sought as_item
-fits_property EnvPropStr = fits_sought as_text
+fits_property EnvPropStr = fits_sought value_as_text
 fits_property NextProp = fits_walked
 fits_property SetProp = fits_put
 fits_property AddProp = fits_added

@@ -10,10 +10,10 @@ use Rattle.spec_rights.proofs.Rights.{same_itself}
 use Rattle.muf_model.specs.Datum.{Datum}
 use Rattle.spec_prims.specs.Asking.{level_fault}
 use Rattle.spec_mpi.specs.Touching.{TouchesNotes}
-use Rattle.spec_prims.specs.Row.{Row, gives, refuses, breaks, Doing}
+use Rattle.spec_prims.specs.Row.{WorldAnswer, gives, refuses, breaks, WorldDoing}
 
 -- It is open to the actor, or nothing has changed; and what breaks off has touched notes alone.
-abbrev pub RowOpen : Actor → Live → Row → Type 0
+abbrev pub RowOpen : Actor → Live → WorldAnswer → Type 0
 RowOpen a w (gives items v) = Proper a nobody w v
 RowOpen a w (refuses f) = Unit {0}
 RowOpen a w (breaks f v) = Proper a nobody w v × TouchesNotes w v
@@ -35,9 +35,9 @@ shows_open a w v h =
     }) tt
 
 -- of a primitive whose level the actor has; where somebody else answers for what it changes, it is open to that one
-abbrev pub IsOpenTo : (Actor → List Entry → Actor) → ℕ → Option Doing → Type 0
+abbrev pub IsOpenTo : (Actor → List Entry → Actor) → ℕ → Option WorldDoing → Type 0
 IsOpenTo who level None = Unit {0}
 IsOpenTo who level (Some doing) = (a : Actor) (items : List Datum) (w : Live) → level_fault a w.objects level ≡ None → RowOpen (who a w.objects) w (doing.does a items w)
 
-abbrev pub IsOpen : ℕ → Option Doing → Type 0
+abbrev pub IsOpen : ℕ → Option WorldDoing → Type 0
 IsOpen level doing = IsOpenTo (λ a es. a) level doing

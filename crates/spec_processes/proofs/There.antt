@@ -3,10 +3,10 @@ use Rattle.std.proofs.Common.{◌≡◌, refl}
 use Rattle.std.specs.Prelude.{◌&&◌, is_some}
 use Rattle.muf_model.specs.declared.prims.Primitive.{Primitive}
 use Rattle.muf_model.specs.declared.prims.Primitive.TheVariants.{Call, Fork, Sleep, Read, Kill, Pid, IsPid, Queue, Mode, SetMode, Preempt, Foreground, Background, SysTime, Random, EventSend, EventWait, EventCount, Prog, Trig, Caller, Cmd}
-use Rattle.muf_model.specs.Prims.{is_there}
+use Rattle.muf_model.specs.Prims.{is_usable}
 use Rattle.spec_processes.specs.ProcessRows.{process_row, is_process}
 
-pub process_there : (p : Primitive) → is_some (process_row p) ≡ is_process p && is_there p
+pub process_there : (p : Primitive) → is_some (process_row p) ≡ is_process p && is_usable p
 process_there Call = refl
 process_there Fork = refl
 process_there Sleep = refl

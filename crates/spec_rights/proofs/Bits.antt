@@ -1,8 +1,8 @@
 -- Setting or clearing another flag than W leaves W.
 use Rattle.std.proofs.Common.{◌≡◌, ℕ, ◌+◌, ◌-◌, ◌/◌, ◌%◌, ◌==◌, Bool, true, false, cond, List, [], ◌∷◌, refl, ap, subst, arith, inl, inr}
 use Rattle.std.proofs.lemmas.Bool.{or_cases, eqb-true}
-use Rattle.std.proofs.lemmas.Bool.Decides.{nat_tests}
 use Rattle.std.specs.List.{list_any}
+use Rattle.muck_laws.proofs.Numbers.{even, odd}
 use Rattle.muck_model.specs.declared.dbref.Flags.{Flags}
 use Rattle.spec_live.specs.Flags.{has_flag, with_flag, without_flag, wizard}
 use Rattle.spec_rights.specs.Changing.{flag_values, is_flag}
@@ -71,12 +71,6 @@ picked P v (u ∷ us) h e = elim (or_cases (u == v) (list_any (λ t. t == v) us)
   | inl one ↦ subst P (eqb-true u v one) h.0
   | inr more ↦ picked P v us h.1 more
 ]
-
-pub even : (n : ℕ) → (n % 2 == 1) ≡ false → n % 2 ≡ 0
-even n e = grind (arith, nat_tests)
-
-pub odd : (n : ℕ) → (n % 2 == 1) ≡ true → n % 2 ≡ 1
-odd n e = grind (arith, nat_tests)
 
 pub wizard_stays_set : (flag flags : Flags) → is_flag flag ≡ true → has_flag wizard flag ≡ false → has_flag wizard (with_flag flag.0 flags) ≡ has_flag wizard flags
 wizard_stays_set flag flags k e = at (has_flag flag.0 flags) refl

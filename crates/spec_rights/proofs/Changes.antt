@@ -11,7 +11,7 @@ use Rattle.muck_model.specs.declared.dbref.Flags.{Flags}
 use Rattle.muck_prop.specs.declared.value.PropValue.{PropValue}
 use Rattle.muck_prop.specs.Order.{path_cmp, path_cmp_total}
 use Rattle.muck_prop.specs.Paths.{class_of}
-use Rattle.muck_prop.specs.Store.{PropMap, is_nothing, stored as put}
+use Rattle.muck_prop.specs.Store.{PropMap, is_nothing, value_stored as put}
 use Rattle.muck_prop.proofs.Maps.{path_cmp_same}
 use Rattle.spec_live.specs.declared.object.Object.{Object}
 use Rattle.spec_live.specs.Flags.{has_flag, with_flag, without_flag, wizard}
@@ -27,7 +27,7 @@ use Rattle.spec_live.proofs.Readers.{object_changed, object_unchanged, object_el
 use Rattle.spec_rights.specs.declared.act.Actor.{Actor}
 use Rattle.spec_rights.specs.declared.act.Act.TheVariants.{Write, Link, Edit, Change, Rename, Password, SetFlag, SetLevel, SetOwner}
 use Rattle.spec_rights.specs.Verdict.{is_master, controls, is_guarded}
-use Rattle.spec_rights.specs.Changing.{at_number, set_object, named, owned_by, linked, is_flag, flag_set, flag_cleared, leveled, lines_kept, password_kept, stored, unstored}
+use Rattle.spec_rights.specs.Changing.{at_number, set_object, name_given, object_owned_by, linked, is_flag, flag_set, flag_cleared, leveled, lines_kept, password_kept, property_stored, unstored}
 use Rattle.spec_rights.specs.Licence.{Freedom, Open, Judge, Changed, Differs, SameLists, SameTies, name_open, property_open, link_open, level_open, lines_open, owner_open}
 use Rattle.spec_rights.proofs.Lookups.{Row, row_same, rows_changed, number_is}
 use Rattle.spec_rights.proofs.Listing.{lists_alike, lists_itself}
@@ -116,8 +116,8 @@ kept_name j x name o h = record {
   same = refl;
 }
 
-pub stays_named : (a : Actor) (free : Freedom) (x : Dbref) (name : List ℕ) → Stays a free (Some (Rename x)) (named x name)
-unfolding named
+pub stays_named : (a : Actor) (free : Freedom) (x : Dbref) (name : List ℕ) → Stays a free (Some (Rename x)) (name_given x name)
+unfolding name_given
 stays_named a free x name = stays_by _ (λ start w s g. let j = judge a free start in stay_found j x (field.named name) (λ o. kept_name j x name o (rename_allowed a free start w.objects x s g)) w)
 
 -- Links.
@@ -168,22 +168,22 @@ kept_props j x props o h = record {
   same = refl;
 }
 
-stay_stored : (j : Judge) (x : Dbref) (path : List (List ℕ)) (value : PropValue) → property_open j x path ≡ true → (w : Live) → Stay j w (stored x path value w)
-unfolding stored
+stay_stored : (j : Judge) (x : Dbref) (path : List (List ℕ)) (value : PropValue) → property_open j x path ≡ true → (w : Live) → Stay j w (property_stored x path value w)
+unfolding property_stored
 stay_stored j x path value h = stay_found j x (field.stored path value) (λ o. kept_props j x _ o (stored_open j x path value o.props h))
 
 stay_unstored : (j : Judge) (x : Dbref) (path : List (List ℕ)) → property_open j x path ≡ true → (w : Live) → Stay j w (unstored x path w)
 unfolding unstored
 stay_unstored j x path h = stay_found j x (field.unstored path) (λ o. kept_props j x _ o (removed_open j x path o.props h))
 
-pub stays_stored : (a : Actor) (free : Freedom) (x : Dbref) (path : List (List ℕ)) (value : PropValue) → Stays a free (Some (Write x path)) (stored x path value)
+pub stays_stored : (a : Actor) (free : Freedom) (x : Dbref) (path : List (List ℕ)) (value : PropValue) → Stays a free (Some (Write x path)) (property_stored x path value)
 stays_stored a free x path value = stays_by _ (λ start w s g. stay_stored (judge a free start) x path value (write_allowed a free start w.objects x path s g) w)
 
 pub stays_unstored : (a : Actor) (free : Freedom) (x : Dbref) (path : List (List ℕ)) → Stays a free (Some (Write x path)) (unstored x path)
 stays_unstored a free x path = stays_by _ (λ start w s g. stay_unstored (judge a free start) x path (write_allowed a free start w.objects x path s g) w)
 
 -- a message or a lock, whose path is guarded
-pub stays_set : (a : Actor) (free : Freedom) (x : Dbref) (path : List (List ℕ)) (value : PropValue) → is_guarded (class_of path) ≡ true → Stays a free (Some (Change x)) (stored x path value)
+pub stays_set : (a : Actor) (free : Freedom) (x : Dbref) (path : List (List ℕ)) (value : PropValue) → is_guarded (class_of path) ≡ true → Stays a free (Some (Change x)) (property_stored x path value)
 stays_set a free x path value h = stays_by _ (λ start w s g. stay_stored (judge a free start) x path value (change_allowed a free start w.objects x path h s g) w)
 
 pub stays_unset : (a : Actor) (free : Freedom) (x : Dbref) (path : List (List ℕ)) → is_guarded (class_of path) ≡ true → Stays a free (Some (Change x)) (unstored x path)
@@ -236,8 +236,8 @@ stays_password a free x salt word = stays_by _ (λ start w s g. let j = judge a 
 changed_owner : (j : Judge) (x owner : Dbref) (o : Object) → owner_open j x owner ≡ true → Changed j x o (with_owner owner o)
 changed_owner j x owner o h = record { kind = refl; name = inl refl; owner = inr h; place = inl refl; link = inl refl; home = inl refl; flags = inl refl; wizard = inl refl; level = inl refl; props = λ path. inl refl; lines = inl refl; digest = inl refl }
 
-pub ends_owned : (a : Actor) (free : Freedom) (x owner : Dbref) → Ends itself a free (Some (SetOwner x owner)) (owned_by x owner)
-unfolding owned_by
+pub ends_owned : (a : Actor) (free : Freedom) (x owner : Dbref) → Ends itself a free (Some (SetOwner x owner)) (object_owned_by x owner)
+unfolding object_owned_by
 ends_owned a free x owner = ends_by _ (λ start w s g. let j = judge a free start in end_found j x (owned owner) (λ o. changed_owner j x owner o (owner_allowed a free start w.objects x owner s g)) w)
 
 -- Levels.

@@ -8,18 +8,19 @@ use Rattle.muck_model.specs.declared.dbref.Denial.{Denial}
 use Rattle.spec_live.specs.declared.mark.Mark.{Mark}
 use Rattle.spec_live.specs.declared.object.Object.{Object}
 use Rattle.spec_live.specs.Objects.{Entry, dbref_of, same, is_exit, mark_in, object_at}
-use Rattle.spec_live.specs.Connections.{Connection, has_number}
+use Rattle.spec_live.specs.Connections.{Connection, is_connection}
 use Rattle.spec_live.specs.Boards.{player_in}
-use Rattle.spec_live.specs.Lives.{Live, Change, followed, reading}
+use Rattle.spec_live.specs.Lives.{Live, Change, change_followed, reading}
 use Rattle.spec_live.proofs.Keeping.{Keeps, stays, one, join, keeps_after, keeps_more, keeps_told}
 pub use Rattle.spec_live.proofs.Lives.{tie, ties, Shows, Quiet, quiet_order, quiet_unchanged}
 use Rattle.spec_live.proofs.Lives.{Readies, readies}
-use Rattle.spec_live.proofs.Lives.{Goes, shows, fewer_along, marked_along}
+use Rattle.spec_live.proofs.Lives.{Goes, shows, fewer_along}
+use Rattle.spec_live.proofs.Tracing.{traced_along}
 use Rattle.spec_rights.specs.declared.act.Actor.{Actor}
 use Rattle.spec_rights.specs.declared.act.Act.{Act}
 use Rattle.spec_rights.specs.Verdict.{is_master, verdict}
 use Rattle.spec_rights.specs.Licence.{Freedom, Open, Judge, owned, name_open, property_open, place_open, link_open, home_open, level_open, lines_open, owner_open, Changed, Differs, SameLists, leave_open, SameTies, Licensed}
-use Rattle.spec_rights.specs.Asking.{answered, asked}
+use Rattle.spec_rights.specs.Asking.{denial_answered, asked}
 use Rattle.spec_rights.proofs.Lookups.{Row, row_same, row_both}
 use Rattle.spec_rights.proofs.Listing.{lists_itself, lists_both}
 use Rattle.spec_rights.proofs.Walking.{acts}
@@ -136,7 +137,7 @@ ties_both a (c ∷ cs) (d ∷ ds) [] r s = absurd s
 ties_both a (c ∷ cs) (d ∷ ds) (e ∷ es) r s = (s.0 ∙ r.0, s.1 ∙ r.1, leave_both a c d e r.1 r.2 s.2, ties_both a cs ds es r.3 s.3)
 
 -- a connection keeps its player
-player_kept : (d : ℕ) (cs ds : List Connection) → ties ds ≡ ties cs → option_and_then (λ (c : Connection). c.player) (find (has_number d) ds) ≡ option_and_then (λ (c : Connection). c.player) (find (has_number d) cs)
+player_kept : (d : ℕ) (cs ds : List Connection) → ties ds ≡ ties cs → option_and_then (λ (c : Connection). c.player) (find (is_connection d) ds) ≡ option_and_then (λ (c : Connection). c.player) (find (is_connection d) cs)
 player_kept d [] [] e = refl
 player_kept d [] (y ∷ ys) e = absurd (cc)
 player_kept d (x ∷ xs) [] e = absurd (cc)
@@ -146,8 +147,8 @@ player_kept d (x ∷ xs) (y ∷ ys) e =
     let number : y.number ≡ x.number = ap (λ (t : ℕ × Option Dbref × Bool). t.0) head in
     let player : y.player ≡ x.player = ap (λ (t : ℕ × Option Dbref × Bool). t.1) head in
     let next = player_kept d xs ys rest in
-    let P : ℕ → Type 0 = λ n. option_and_then (λ (c : Connection). c.player) (cond (n == d) (Some y) (find (has_number d) ys)) ≡ option_and_then (λ (c : Connection). c.player) (cond (x.number == d) (Some x) (find (has_number d) xs)) in
-    subst P (sym number) (elim (x.number == d) as (λ b. option_and_then (λ (c : Connection). c.player) (cond b (Some y) (find (has_number d) ys)) ≡ option_and_then (λ (c : Connection). c.player) (cond b (Some x) (find (has_number d) xs))) [ true ↦ player | false ↦ next ])
+    let P : ℕ → Type 0 = λ n. option_and_then (λ (c : Connection). c.player) (cond (n == d) (Some y) (find (is_connection d) ys)) ≡ option_and_then (λ (c : Connection). c.player) (cond (x.number == d) (Some x) (find (is_connection d) xs)) in
+    subst P (sym number) (elim (x.number == d) as (λ b. option_and_then (λ (c : Connection). c.player) (cond b (Some y) (find (is_connection d) ys)) ≡ option_and_then (λ (c : Connection). c.player) (cond b (Some x) (find (is_connection d) xs))) [ true ↦ player | false ↦ next ])
 
 -- Worlds between which only objects that were there differ, and no right does.
 pub record Stay (j : Judge) (w v : Live) : Type 0 where
@@ -281,7 +282,7 @@ itself w = w
 -- What is asked.
 
 keeps_answered : {Y : Type 0} (R : Live → Y → Type 0) (refuse : Denial → Live → Y) (go : Live → Y) (w : Live) (found v : Option Denial) →
-    found ≡ v → ((denial : Denial) → found ≡ Some denial → R w (refuse denial w)) → (found ≡ None → R w (go w)) → R w (answered v refuse go w)
+    found ≡ v → ((denial : Denial) → found ≡ Some denial → R w (refuse denial w)) → (found ≡ None → R w (go w)) → R w (denial_answered v refuse go w)
 keeps_answered R refuse go w found None e p q = q e
 keeps_answered R refuse go w found (Some denial) e p q = p denial e
 
@@ -310,13 +311,13 @@ whole_by f p = record { law = λ w. record { law = λ c h. p w c h } }
 pub stays_quiet : (a : Actor) (free : Freedom) (given : Option Act) (f : Change) → Quiet f → Stays a free given f
 stays_quiet a free given f q = keeps_more f (λ w v s. record { law = λ start r h. stay_quietly (judge a free start) w w v (stay_itself (judge a free start) w) s }) q
 
-pub stays_followed : (a : Actor) (free : Freedom) (given : Option Act) (f g : Change) → Stays a free given f → Stays a free None g → Stays a free given (followed f g)
+pub stays_followed : (a : Actor) (free : Freedom) (given : Option Act) (f g : Change) → Stays a free given f → Stays a free None g → Stays a free given (change_followed f g)
 stays_followed a free given f g p q = keeps_after f g (λ w v u s t. record {
   law = λ start r h. let first = s.law start r h in stay_both _ _ _ _ first (t.law start (stay_rights _ start w v r first) tt);
 }) p q
 
 -- what only shows may come first, and what is given stays so
-pub stays_behind : (a : Actor) (free : Freedom) (given : Option Act) (f g : Change) → Quiet f → Stays a free given g → Stays a free given (followed f g)
+pub stays_behind : (a : Actor) (free : Freedom) (given : Option Act) (f g : Change) → Quiet f → Stays a free given g → Stays a free given (change_followed f g)
 stays_behind a free given f g q p = keeps_after f g (λ w v u s t. record {
   law = λ start r h.
       let j = judge a free start in
@@ -342,7 +343,7 @@ ends_stays a free given f p = keeps_more f (λ w v s. record { law = λ start r 
 pub ends_quiet : (a : Actor) (free : Freedom) (given : Option Act) (f : Change) → Quiet f → Ends itself a free given f
 ends_quiet a free given f q = ends_stays a free given f (stays_quiet a free given f q)
 
-pub ends_followed : {Y : Type 0} (out : Y → Live) (a : Actor) (free : Freedom) (given : Option Act) (f : Change) (g : Live → Y) → Stays a free given f → Ends out a free None g → Ends out a free given (followed f g)
+pub ends_followed : {Y : Type 0} (out : Y → Live) (a : Actor) (free : Freedom) (given : Option Act) (f : Change) (g : Live → Y) → Stays a free given f → Ends out a free None g → Ends out a free given (change_followed f g)
 ends_followed out a free given f g p q = keeps_after f g (λ w v y s t. record {
   law = λ start r h.
       let first = s.law start r h in
@@ -357,7 +358,7 @@ ends_followed out a free given f g p q = keeps_after f g (λ w v y s t. record {
       };
 }) p q
 
-pub ends_quietly : (a : Actor) (free : Freedom) (given : Option Act) (f g : Change) → Ends itself a free given f → Quiet g → Ends itself a free given (followed f g)
+pub ends_quietly : (a : Actor) (free : Freedom) (given : Option Act) (f g : Change) → Ends itself a free given f → Quiet g → Ends itself a free given (change_followed f g)
 ends_quietly a free given f g p q = keeps_after f g (λ w v u s t. record { law = λ start r h. end_quietly (judge a free start) w v u (s.law start r h) t }) p q
 
 pub ends_asked : {Y : Type 0} (out : Y → Live) (a : Actor) (free : Freedom) (given : Option Act) (act : Act) (refuse : Denial → Live → Y) (go : Live → Y) →
@@ -379,7 +380,7 @@ end_proper a free w v t = record {
     vanished = λ x e. absurd (cc);
     objects = t.rows;
     no_fewer = fewer_along acts w v t.goes;
-    marked = marked_along acts refl w v t.goes;
+    traced = traced_along acts refl refl w v t.goes;
     lists = t.lists;
     connections = t.ties;
     tune = inl t.tune;
@@ -409,7 +410,7 @@ licensed_as a free w u v l r =
       vanished = q.vanished;
       objects = q.objects;
       no_fewer = q.no_fewer;
-      marked = q.marked;
+      traced = q.traced;
       lists = q.lists;
       connections = ties_both a _ _ _ l.connections (ties_same a u.board.connections v.board.connections r.ties);
       tune = open_both (λ tune. is_master a) _ _ _ l.tune (inl r.tune);
@@ -425,14 +426,14 @@ licensed_from a free w u v r l =
       vanished = q.vanished;
       objects = q.objects;
       no_fewer = q.no_fewer;
-      marked = q.marked;
+      traced = q.traced;
       lists = q.lists;
       connections = ties_both a _ _ _ (ties_same a w.board.connections u.board.connections r.ties) l.connections;
       tune = open_both (λ tune. is_master a) _ _ _ (inl r.tune) l.tune;
     }
 
 -- what only shows comes first, after which nothing is given
-pub whole_followed : {Y : Type 0} (out : Y → Live) (a : Actor) (own : Option ℕ) (free : List Entry → Freedom) (given : Live → Type 0) (f : Change) (g : Live → Y) → Quiet f → Whole out a own free Always g → Whole out a own free given (followed f g)
+pub whole_followed : {Y : Type 0} (out : Y → Live) (a : Actor) (own : Option ℕ) (free : List Entry → Freedom) (given : Live → Type 0) (f : Change) (g : Live → Y) → Quiet f → Whole out a own free Always g → Whole out a own free given (change_followed f g)
 whole_followed out a own free given f g q p = keeps_after f g (λ w v y s t. record { law = λ c h. after w v (out y) s (t.law (own_kept own w v a (readies w v s).ties c) tt) }) q p
   where
     after : (w v u : Live) → Shows w v → Proper a (free v.objects) v u → Proper a (free w.objects) w u
@@ -443,7 +444,7 @@ whole_followed out a own free given f g q p = keeps_after f g (λ w v y s t. rec
         record { licensed = licensed_from a (free w.objects) w x u (record { objects = refl; ties = (readies w v s).ties; tune = s.tune }) q.licensed; marks = q.marks; goes = join (one (shows w v refl s)) p.goes; tune = p.tune ∙ s.tune }
 
 -- and what only shows may come last
-pub whole_quietly : (a : Actor) (own : Option ℕ) (free : List Entry → Freedom) (given : Live → Type 0) (f g : Change) → Whole itself a own free given f → Quiet g → Whole itself a own free given (followed f g)
+pub whole_quietly : (a : Actor) (own : Option ℕ) (free : List Entry → Freedom) (given : Live → Type 0) (f g : Change) → Whole itself a own free given f → Quiet g → Whole itself a own free given (change_followed f g)
 whole_quietly a own free given f g p q = keeps_after f g (λ w v u s t. record {
   law = λ c h.
       let p = s.law c h in

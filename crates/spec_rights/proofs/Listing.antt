@@ -5,7 +5,7 @@ use Rattle.std.specs.Option.{option_map, option_map_or}
 use Rattle.std.proofs.lemmas.Bool.{cases_eq, or_left}
 use Rattle.std.proofs.lemmas.Option.{slice_get-map}
 use Rattle.spec_live.specs.declared.object.Object.{Object}
-use Rattle.spec_live.specs.Objects.{Entry, dbref_of, is_exit, list_of, list_in, kind_in, object_at, changed_at}
+use Rattle.spec_live.specs.Objects.{Entry, dbref_of, is_exit, entry_list, list_in, kind_in, object_at, changed_at}
 use Rattle.spec_live.specs.Moving.{left_out, put_first, with_place, set_down, moved}
 use Rattle.spec_live.proofs.Lists.{get_changed_same}
 use Rattle.spec_live.proofs.Savings.{list_relinked}
@@ -28,10 +28,10 @@ reordered_more may more xs ys h (empties s) = empties (reordered_more may more x
 reordered_more may more xs ys h (comes x k s) = comes x (h x k) (reordered_more may more xs _ h s)
 
 abbrev Kept : (ℕ → Bool) → List ℕ → Bool → (Entry → Entry) → Entry → Type 0
-Kept may xs v f e = Reordered may xs (list_of v e) → Reordered may xs (list_of v (f e))
+Kept may xs v f e = Reordered may xs (entry_list v e) → Reordered may xs (entry_list v (f e))
 
 abbrev At : (ℕ → Bool) → List ℕ → Bool → Option Entry → Type 0
-At may xs v q = Reordered may xs (option_map_or (list_of v) q [])
+At may xs v q = Reordered may xs (option_map_or (entry_list v) q [])
 
 kept_at : (may : ℕ → Bool) (xs : List ℕ) (v : Bool) (f : Entry → Entry) → ((e : Entry) → Kept may xs v f e) → (q : Option Entry) → At may xs v q → At may xs v (option_map f q)
 kept_at may xs v f h None r = r

@@ -1,10 +1,12 @@
 -- What is made keeps to the licence.
-use Rattle.std.proofs.Common.{◌≡◌, ℕ, ◌==◌, suc, Bool, true, false, cond, List, [], ◌∷◌, ◌++◌, length, refl, sym, ◌∙◌, ap, subst, Option, Some, None, inl, inr, arith}
+use Rattle.std.proofs.Common.{◌≡◌, ℕ, ◌==◌, suc, Bool, true, false, cond, List, [], ◌∷◌, ◌++◌, length, refl, sym, ◌∙◌, ap, subst, Option, Some, None, inl, inr}
+use Rattle.muck_laws.proofs.Numbers.{least_at_most}
+use Rattle.muck_laws.proofs.Places.{read_more}
+use Rattle.muck_laws.proofs.Truths.{and_all, and_three}
 use Rattle.muck_model.proofs.Dbrefs.{same_eq}
-use Rattle.std.specs.Prelude.{Ok, Err, nat_lt, slice_get, min, nat_le, ◌||◌, ◌&&◌}
+use Rattle.std.specs.Prelude.{Ok, Err, nat_lt, slice_get, min, nat_le, ◌||◌}
 use Rattle.std.specs.Option.{option_map, option_and_then, option_map_or}
 use Rattle.std.proofs.lemmas.Bool.{cases_eq, or_right}
-use Rattle.std.proofs.lemmas.Bool.Decides.{nat_tests}
 use Rattle.muck_model.specs.declared.dbref.Dbref.{Dbref}
 use Rattle.muck_model.specs.declared.dbref.Kind.{Kind}
 use Rattle.muck_model.specs.declared.dbref.Kind.TheVariants.{Room, Thing, Exit, Player, Program, Garbage}
@@ -12,7 +14,7 @@ use Rattle.spec_live.specs.declared.object.Object.{Object}
 use Rattle.spec_live.specs.Flags.{builder, jump, link}
 use Rattle.spec_live.specs.Objects.{Entry, dbref_of, nothing, home, same, is_garbage, object_in, list_in, kind_in, number_in, object_at, changed_at, on_object, with_object, garbage}
 use Rattle.spec_live.specs.Moving.{moved, with_place}
-use Rattle.spec_live.specs.Making.{free_in, blank_entry, grown, new_object, created, may_make, make_judged, objects_most, owner_judged, create_check}
+use Rattle.spec_live.specs.Making.{free_in, blank_entry, objects_grown, new_object, created, may_make, make_judged, objects_most, owner_judged, create_check}
 use Rattle.spec_live.specs.declared.fault.DbFault.TheVariants.{NoSuchObject, WrongKind, WorldFull}
 use Rattle.spec_live.specs.Setting.{set_at, with_home, with_link, with_level}
 use Rattle.spec_live.specs.Lives.{Live}
@@ -20,7 +22,7 @@ use Rattle.spec_live.proofs.Keeping.{join}
 use Rattle.spec_live.proofs.Steps.{Touches}
 use Rattle.spec_live.proofs.Walks.{walk_at, walk_created}
 use Rattle.spec_live.proofs.Lives.{goes_objects}
-use Rattle.spec_live.proofs.Lists.{get_changed_same, read_more}
+use Rattle.spec_live.proofs.Lists.{get_changed_same}
 use Rattle.spec_live.proofs.Readers.{object_changed, object_unchanged, object_elsewhere, object_moved, object_unmoved, list_changed, list_named}
 use Rattle.spec_live.proofs.CreationLaws.{list_more, free_garbage}
 use Rattle.spec_rights.specs.declared.act.Actor.{Actor}
@@ -48,16 +50,16 @@ free_dead (e ∷ es) = at (is_garbage e.object.kind) refl (free_dead es)
     at false h more = more
 
 -- One more of garbage is nothing.
-grown_same : (k n : ℕ) (es : List Entry) → option_and_then alive (object_in (grown k es) n) ≡ option_and_then alive (object_in es n)
-unfolding object_in grown blank_entry garbage
+grown_same : (k n : ℕ) (es : List Entry) → option_and_then alive (object_in (objects_grown k es) n) ≡ option_and_then alive (object_in es n)
+unfolding object_in objects_grown blank_entry garbage
 grown_same k n es = at (k == length es)
   where
     at : (b : Bool) → option_and_then alive (option_map (λ (x : Entry). x.object) (slice_get (cond b (es ++ blank_entry ∷ []) es) n)) ≡ option_and_then alive (option_map (λ (x : Entry). x.object) (slice_get es n))
     at true = read_more (λ (q : Option Entry). option_and_then alive (option_map (λ (x : Entry). x.object) q)) es blank_entry n refl
     at false = refl
 
-list_grown : (v : Bool) (k i : ℕ) (es : List Entry) → list_in v (grown k es) i ≡ list_in v es i
-unfolding grown
+list_grown : (v : Bool) (k i : ℕ) (es : List Entry) → list_in v (objects_grown k es) i ≡ list_in v es i
+unfolding objects_grown
 list_grown v k i es = at (k == length es)
   where
     at : (b : Bool) → list_in v (cond b (es ++ blank_entry ∷ []) es) i ≡ list_in v es i
@@ -79,11 +81,11 @@ abbrev pub new_in : Kind → List ℕ → Dbref → (Object → Object) → ℕ 
 new_in kind name owner finished k to = finished (with_place to (new_object k kind name owner))
 
 made_here : (kind : Kind) (name : List ℕ) (owner : Dbref) (finished : Object → Object) (to : ℕ) (es : List Entry) →
-    object_in (made_in kind name owner finished to es) (free_in es) ≡ option_map (λ (x : Object). new_in kind name owner finished (free_in es) to) (object_in (grown (free_in es) es) (free_in es))
+    object_in (made_in kind name owner finished to es) (free_in es) ≡ option_map (λ (x : Object). new_in kind name owner finished (free_in es) to) (object_in (objects_grown (free_in es) es) (free_in es))
 unfolding created
 made_here kind name owner finished to es =
     let k : ℕ = free_in es in
-    let g : List Entry = grown k es in
+    let g : List Entry = objects_grown k es in
     let one : List Entry = changed_at k (with_object (new_object k kind name owner)) g in
     object_changed k finished (moved k to one)
     ∙ ap (λ (q : Option Object). option_map finished q) (object_moved one k to ∙ ap (λ (q : Option Object). option_map (with_place to) q) (object_put k (new_object k kind name owner) g))
@@ -93,11 +95,11 @@ made_here kind name owner finished to es =
     by_cases None = refl
     by_cases (Some o) = refl
 
-made_there : (kind : Kind) (name : List ℕ) (owner : Dbref) (finished : Object → Object) (to : ℕ) (es : List Entry) (n : ℕ) → (n ≡ free_in es → ⊥) → object_in (made_in kind name owner finished to es) n ≡ object_in (grown (free_in es) es) n
+made_there : (kind : Kind) (name : List ℕ) (owner : Dbref) (finished : Object → Object) (to : ℕ) (es : List Entry) (n : ℕ) → (n ≡ free_in es → ⊥) → object_in (made_in kind name owner finished to es) n ≡ object_in (objects_grown (free_in es) es) n
 unfolding created
 made_there kind name owner finished to es n ne =
     let k : ℕ = free_in es in
-    let g : List Entry = grown k es in
+    let g : List Entry = objects_grown k es in
     let one : List Entry = changed_at k (with_object (new_object k kind name owner)) g in
     object_unchanged k n finished (moved k to one) ne ∙ object_unmoved one k to n ne ∙ object_elsewhere k n (with_object (new_object k kind name owner)) g ne
 
@@ -121,7 +123,7 @@ differs_made j kind name owner finished to es h n =
       | inl e ↦
           let P : ℕ → Type 0 = λ m. Differs j (dbref_of m) (option_and_then alive (object_in es m)) (option_and_then alive (object_in fs m)) in
           let Q : Option Object → Option Object → Type 0 = λ p q. Differs j (dbref_of k) p (option_and_then alive q) in
-          let new : Q None (option_map (λ (x : Object). new_in kind name owner finished k to) (object_in (grown k es) k)) = differs_new j (dbref_of k) (new_in kind name owner finished k to) (object_in (grown k es) k) h in
+          let new : Q None (option_map (λ (x : Object). new_in kind name owner finished k to) (object_in (objects_grown k es) k)) = differs_new j (dbref_of k) (new_in kind name owner finished k to) (object_in (objects_grown k es) k) h in
           let Here : Option Object → Type 0 = λ q. Q None q in
           let Dead : Option Object → Type 0 = λ p. Q p (object_in fs k) in
           subst P (sym e) (subst Dead (sym (free_dead es)) (subst Here (sym (made_here kind name owner finished to es)) new))
@@ -133,7 +135,7 @@ lists_made : (j : Judge) (kind : Kind) (name : List ℕ) (owner : Dbref) (finish
 unfolding created
 lists_made j kind name owner finished to es v i =
     let k : ℕ = free_in es in
-    let g : List Entry = grown k es in
+    let g : List Entry = objects_grown k es in
     let one : List Entry = changed_at k (with_object (new_object k kind name owner)) g in
     let may : ℕ → Bool = front_open j es i in
     let nobody : option_map_or (λ (o : Object). false) (object_at (dbref_of k) es) true ≡ true = ap (λ (q : Option Object). option_map_or (λ (o : Object). false) q true) (seen_at es k ∙ free_dead es) in
@@ -178,9 +180,6 @@ end_created j kind name owner place finished w p e touch h =
 abbrev Builds : Actor → List Entry → Type 0
 Builds a start = (nat_le 3 a.level || flag_at builder start a.user) ≡ true
 
-and_all : (b c d : Bool) → b ≡ true → c ≡ true → d ≡ true → (b && (c && (true && d))) ≡ true
-and_all b c d e f g = rw (e, f, g) refl
-
 room_new : (a : Actor) (free : Freedom) (start : List Entry) (name : List ℕ) (k t : ℕ) → Builds a start → controls_or link start a (dbref_of t) ≡ true → IsNew (judge a free start) (dbref_of k) (new_in Room name a.user (λ o. o) k t)
 unfolding new_object
 room_new a free start name k t b h = record { kind = and_all _ _ _ (same_eq a.user a.user refl) b h; flags = refl; link = refl; lines = refl }
@@ -193,12 +192,6 @@ exit_new : (a : Actor) (free : Freedom) (start : List Entry) (name : List ℕ) (
     IsNew (judge a free start) (dbref_of k) (new_in Exit name a.user (with_link to) k t)
 unfolding new_object
 exit_new a free start name to k t b h l = record { kind = and_all _ _ _ (same_eq a.user a.user refl) b h; flags = refl; link = l; lines = refl }
-
-at_most : (n m : ℕ) → n ≡ m → nat_le (min n 3) m ≡ true
-at_most n m e = grind (arith, nat_tests)
-
-and_three : (b c d : Bool) → b ≡ true → c ≡ true → d ≡ true → (b && (c && d)) ≡ true
-and_three b c d e f g = rw (e, f, g) refl
 
 program_new : (a : Actor) (free : Freedom) (start : List Entry) (name : List ℕ) (level k t : ℕ) → nat_le 1 (level_at start a.user) ≡ true → nat_le level (level_at start a.user) ≡ true → IsNew (judge a free start) (dbref_of k) (new_in Program name a.user (with_level level) k t)
 unfolding new_object
@@ -228,7 +221,7 @@ exit_open a free start es name place to k t s g e =
 -- at its owner's level, at most 3
 pub program_open : (a : Actor) (free : Freedom) (start es : List Entry) (name : List ℕ) (level k t : ℕ) → SameRights start es → verdict es a NewProgram ≡ None → level ≡ min (level_at es a.user) 3 → IsNew (judge a free start) (dbref_of k) (new_in Program name a.user (with_level level) k t)
 program_open a free start es name level k t s g e =
-    let h : nat_le (min (level_at es a.user) 3) (level_at start a.user) ≡ true = at_most (level_at es a.user) (level_at start a.user) (sym (same_level a.user start es s)) in
+    let h : nat_le (min (level_at es a.user) 3) (level_at start a.user) ≡ true = least_at_most (level_at es a.user) (level_at start a.user) (sym (same_level a.user start es s)) in
     program_new a free start name level k t (program_allowed a start es s g) (ap (λ n. nat_le n (level_at start a.user)) e ∙ h)
 
 -- a player belongs to itself, whoever is given as its owner

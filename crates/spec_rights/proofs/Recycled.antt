@@ -14,7 +14,7 @@ use Rattle.spec_live.specs.declared.object.Object.{Object}
 use Rattle.std.specs.FinMap.{get}
 use Rattle.spec_live.specs.Flags.{has_flag, wizard}
 use Rattle.spec_live.specs.Chain.{Member}
-use Rattle.spec_live.specs.Objects.{Entry, dbref_of, nothing, same, index_of, is_exit, is_player, is_garbage, object_in, list_of, list_in, mark_in, kind_in, owner_in, home_in, number_in, object_at, changed_at, garbage}
+use Rattle.spec_live.specs.Objects.{Entry, dbref_of, nothing, same, index_of, is_exit, is_player, is_garbage, object_in, entry_list, list_in, mark_in, kind_in, owner_in, home_in, number_in, object_at, changed_at, garbage}
 use Rattle.spec_live.specs.Moving.{left_out, moved, with_place}
 use Rattle.spec_live.specs.Recycling.{untied, exits_gone, vanished, without_exits, without_ties, untie, wished_home, may_go, way_home, sent_home, gone_entry, is_exit_of, exit_gone, taken_away, recycled, recycle_check}
 use Rattle.spec_live.specs.declared.fault.DbFault.{DbFault}
@@ -27,7 +27,8 @@ use Rattle.spec_live.proofs.Readers.{object_elsewhere, object_left, object_moved
 use Rattle.spec_live.proofs.Steps.{May, Gone, Place, Lists, kept, sets, lines, makes, vanishes, tells as unmarks}
 use Rattle.spec_live.proofs.Walks.{walk_recycled}
 use Rattle.spec_live.proofs.Entries.{Holds, each_walk, mark_read}
-use Rattle.spec_live.proofs.Lives.{Goes, goes_objects, fewer_along, marked_along}
+use Rattle.spec_live.proofs.Lives.{Goes, goes_objects, fewer_along}
+use Rattle.spec_live.proofs.Tracing.{traced_along}
 use Rattle.spec_live.proofs.Savings.{object_relinked, list_relinked}
 use Rattle.spec_rights.specs.declared.act.Actor.{Actor}
 use Rattle.spec_rights.specs.declared.act.Act.TheVariants.{Recycle}
@@ -202,7 +203,7 @@ exits_at : (d n : ℕ) (es : List Entry) → object_in (map (exit_gone d) es) n 
 unfolding object_in gone_entry
 exits_at d n es = rw (slice_get-map (exit_gone d) es n) (by_cases (slice_get es n))
   where
-    one : (b : Bool) (e : Entry) → (cond b gone_entry e).object ≡ cond b garbage e.object
+    one : (b : Bool) (e : Entry) → (cond b (gone_entry e) e).object ≡ cond b garbage e.object
     one true e = refl
     one false e = refl
 
@@ -210,11 +211,11 @@ exits_at d n es = rw (slice_get-map (exit_gone d) es n) (by_cases (slice_get es 
     by_cases None = refl
     by_cases (Some e) = ap (λ (x : Object). Some x) (one (is_exit_of d e.object) e)
 
-gone_at : (d : ℕ) (es : List Entry) → object_in (changed_at d (λ (e : Entry). gone_entry) es) d ≡ option_map (λ (p : Object). garbage) (object_in es d)
+gone_at : (d : ℕ) (es : List Entry) → object_in (changed_at d gone_entry es) d ≡ option_map (λ (p : Object). garbage) (object_in es d)
 unfolding object_in gone_entry
-gone_at d es = rw (get_changed_same es d (λ (e : Entry). gone_entry)) (by_cases (slice_get es d))
+gone_at d es = rw (get_changed_same es d gone_entry) (by_cases (slice_get es d))
   where
-    by_cases : (q : Option Entry) → option_map (λ (e : Entry). e.object) (option_map (λ (e : Entry). gone_entry) q) ≡ option_map (λ (p : Object). garbage) (option_map (λ (e : Entry). e.object) q)
+    by_cases : (q : Option Entry) → option_map (λ (e : Entry). e.object) (option_map gone_entry q) ≡ option_map (λ (p : Object). garbage) (option_map (λ (e : Entry). e.object) q)
     by_cases None = refl
     by_cases (Some e) = refl
 
@@ -224,7 +225,7 @@ unfolding recycled taken_away vanished exits_gone
 recycled_there d n es ne =
     let em : List Entry = sent_home (list_in false es d) (untied d es) in
     let lost : List Entry = changed_at d without_exits (map (exit_gone d) em) in
-    object_relinked em (vanished d (exits_gone d em)) n ∙ object_elsewhere d n (λ (e : Entry). gone_entry) (map (left_out d) lost) ne ∙ object_left d n lost ∙ object_elsewhere d n without_exits (map (exit_gone d) em) ne ∙ exits_at d n em
+    object_relinked em (vanished d (exits_gone d em)) n ∙ object_elsewhere d n gone_entry (map (left_out d) lost) ne ∙ object_left d n lost ∙ object_elsewhere d n without_exits (map (exit_gone d) em) ne ∙ exits_at d n em
 
 recycled_here : (d : ℕ) (es : List Entry) → (q : Option Object) × (object_in (recycled d es) d ≡ option_map (λ (p : Object). garbage) q)
 unfolding recycled taken_away vanished
@@ -341,13 +342,13 @@ lists_home a free d es (y ∷ ys) h fs r xs v k t =
     let may : k ≡ to → front_open j es k y ≡ true = λ e. or_left _ _ (ap (λ (m : ℕ). place_open j (dbref_of y) (dbref_of m)) e ∙ open_there) in
     lists_home a free d es ys (λ z m. h z (inr m)) (moved y to fs) (step_home a free d y es fs gone r) xs v k (reordered_moved (front_open j es k) xs v y to k fs may t)
 
-exit_kept : (may : ℕ → Bool) (xs : List ℕ) (v b : Bool) (e : Entry) → Reordered may xs (list_of v e) → Reordered may xs (list_of v (cond b gone_entry e))
+exit_kept : (may : ℕ → Bool) (xs : List ℕ) (v b : Bool) (e : Entry) → Reordered may xs (entry_list v e) → Reordered may xs (entry_list v (cond b (gone_entry e) e))
 unfolding gone_entry
 exit_kept may xs v false e r = r
 exit_kept may xs true true e r = empties r
 exit_kept may xs false true e r = empties r
 
-without_kept : (may : ℕ → Bool) (xs : List ℕ) (v : Bool) (e : Entry) → Reordered may xs (list_of v e) → Reordered may xs (list_of v (without_exits e))
+without_kept : (may : ℕ → Bool) (xs : List ℕ) (v : Bool) (e : Entry) → Reordered may xs (entry_list v e) → Reordered may xs (entry_list v (without_exits e))
 without_kept may xs true e r = empties r
 without_kept may xs false e r = r
 
@@ -366,7 +367,7 @@ lists_recycled a free d es there v k =
     let sent : Q (list_in v home k) = lists_home a free d es (list_in false es d) (contents_emptied a free d es there) loose (untied_rows j d es) xs v k first in
     let second : Q (list_in v lost k) = reordered_all may xs v k (exit_gone d) home (λ e r. exit_kept may xs v (is_exit_of d e.object) e r) sent in
     let third : Q (list_in v apart k) = reordered_one may xs v d k without_exits lost (λ q e r. without_kept may xs v e r) second in
-    let gone : Q (list_in v (vanished d apart) k) = reordered_one may xs v d k (λ (e : Entry). gone_entry) (map (left_out d) apart) (λ q e r. exit_kept may xs v true e r) (reordered_left may xs v d k apart third) in
+    let gone : Q (list_in v (vanished d apart) k) = reordered_one may xs v d k gone_entry (map (left_out d) apart) (λ q e r. exit_kept may xs v true e r) (reordered_left may xs v d k apart third) in
     subst Q (sym (list_relinked v home (vanished d apart) k)) gone
 
 -- What is to be told: what is gone, of which nothing is there any more.
@@ -457,7 +458,7 @@ there a free x w h d e t =
         vanished = λ y f. let same : y ≡ dbref_of d = cc in ap (λ z. object_at z (recycled d w.objects)) same ∙ lost_at d w.objects;
         objects = differs_recycled a free d w.objects (ap (number_in w.objects) (sym known) ∙ e) k.0;
         no_fewer = fewer_along acts w _ path;
-        marked = marked_along acts refl w _ path;
+        traced = traced_along acts refl refl w _ path;
         lists = lists_recycled a free d w.objects (ap (number_in w.objects) (sym known) ∙ e);
         connections = ties_itself a w.board.connections;
         tune = inl refl;

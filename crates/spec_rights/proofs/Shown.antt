@@ -2,7 +2,7 @@
 use Rattle.std.proofs.Common.{◌≡◌, ℕ, List, [], ◌∷◌, refl}
 use Rattle.muck_model.specs.declared.dbref.Dbref.{Dbref}
 use Rattle.muck_model.specs.declared.dbref.Denial.{Denial}
-use Rattle.spec_live.specs.Connections.{Connection, told, is_of, hears, has_player}
+use Rattle.spec_live.specs.Connections.{Connection, text_told, is_connection_of, hears, has_player}
 use Rattle.spec_live.specs.Boards.{on_connection, told_one, told_player, told_others, told_all, random_drawn}
 use Rattle.spec_live.specs.Lives.{on_board, tell, tell_player, tell_but, tell_others, tell_all, draw, place_of}
 use Rattle.spec_rights.specs.Asking.{refused}
@@ -19,15 +19,15 @@ loose_one d f keeps = record { law = λ w. record { objects = refl; ties = viewe
 
 pub quiet_tell : (d : ℕ) (text : List ℕ) → Quiet (tell d text)
 unfolding tell told_one
-quiet_tell d text = quiet_one d (told text) (λ c. refl)
+quiet_tell d text = quiet_one d (text_told text) (λ c. refl)
 
 pub quiet_tell_player : (player : Dbref) (text : List ℕ) → Quiet (tell_player player text)
 unfolding tell_player told_player
-quiet_tell_player player text = record { law = λ w. record { objects = refl; connections = viewed_where mute (is_of player) (told text) (λ c. refl) w.board.connections; tune = refl } }
+quiet_tell_player player text = record { law = λ w. record { objects = refl; connections = viewed_where mute (is_connection_of player) (text_told text) (λ c. refl) w.board.connections; tune = refl } }
 
 pub quiet_tell_but : (room : Dbref) (but : List Dbref) (text : List ℕ) → Quiet (tell_but room but text)
 unfolding tell_but told_others
-quiet_tell_but room but text = record { law = λ w. record { objects = refl; connections = viewed_where mute (hears (λ p. place_of p w.objects) room but) (told text) (λ c. refl) w.board.connections; tune = refl } }
+quiet_tell_but room but text = record { law = λ w. record { objects = refl; connections = viewed_where mute (hears (λ p. place_of p w.objects) room but) (text_told text) (λ c. refl) w.board.connections; tune = refl } }
 
 pub quiet_tell_others : (room but : Dbref) (text : List ℕ) → Quiet (tell_others room but text)
 unfolding tell_others
@@ -35,7 +35,7 @@ quiet_tell_others room but text = quiet_tell_but room (but ∷ []) text
 
 pub quiet_tell_all : (text : List ℕ) → Quiet (tell_all text)
 unfolding tell_all told_all
-quiet_tell_all text = record { law = λ w. record { objects = refl; connections = viewed_where mute has_player (told text) (λ c. refl) w.board.connections; tune = refl } }
+quiet_tell_all text = record { law = λ w. record { objects = refl; connections = viewed_where mute has_player (text_told text) (λ c. refl) w.board.connections; tune = refl } }
 
 pub quiet_draw : Quiet draw
 unfolding draw random_drawn

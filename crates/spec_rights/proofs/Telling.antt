@@ -3,6 +3,7 @@ use Rattle.std.proofs.Common.{◌≡◌, ℕ, Bool, true, false, cond, not, List
 use Rattle.std.specs.Prelude.{◌⊎◌, is_some, slice_get}
 use Rattle.std.specs.Option.{option_map, option_and_then, option_map_or}
 use Rattle.std.proofs.lemmas.Bool.{false≢true}
+use Rattle.muck_laws.proofs.Truths.{never_both}
 use Rattle.muck_model.specs.declared.dbref.Dbref.{Dbref}
 use Rattle.spec_live.specs.declared.object.Object.{Object}
 use Rattle.spec_live.specs.declared.mark.Mark.{Mark}
@@ -38,10 +39,6 @@ pub record Told (es fs : List Entry) : Type 0 where
   pub stays : (n : ℕ) → is_told es n ≡ true → is_told fs n ≡ true
   pub gone : (n : ℕ) → is_there es n ≡ true → is_there fs n ≡ false → mark_in fs n ≡ Some Gone
   pub still : (n : ℕ) → mark_in es n ≡ Some Gone → mark_in fs n ≡ Some Gone
-
-pub never_both : {X : Type 0} (b : Bool) → b ≡ true → b ≡ false → X
-never_both true h k = absurd cc
-never_both false h k = absurd cc
 
 -- One entry.
 

@@ -6,17 +6,18 @@ use Rattle.spec_live.specs.Objects.{Entry, mark_in, number_in, on_object}
 use Rattle.spec_live.specs.Setting.{set_at, lines_set}
 use Rattle.spec_live.specs.Lives.{Live}
 use Rattle.spec_live.proofs.Keeping.{stays, one}
-use Rattle.spec_live.proofs.Steps.{Name, May, Told, Stored, Begun, Came, Heard, Tuned, Lists, Lines, Gone, Place, Field, kept, name_of, field_set, sets, Touches, Walk}
+use Rattle.spec_live.proofs.Steps.{Name, May, Told, Stored, Begun, Stilled, Came, Heard, Tuned, Lists, Lines, Gone, Place, Field, kept, name_of, field_set, sets, Touches, Walk}
 use Rattle.spec_live.proofs.Walks.{walk_set, walk_lines, walk_moved}
 use Rattle.spec_live.proofs.Entries.{mark_walk}
 use Rattle.spec_live.proofs.Lives.{Goes, goes_objects, objects_along, wider}
 use Rattle.spec_rights.specs.Changing.{set_object, lines_kept, moved_at, moved_to}
 
--- Whoever acts tells of no object, begins and ends no dump and tunes nothing, no connection comes or goes by it, no line comes to one, and no editor is taken.
+-- Whoever acts tells of no object, begins and ends no dump, ends no event and tunes nothing, no connection comes or goes by it, no line comes to one, and no editor is taken.
 abbrev pub acts : May
 acts Told = false
 acts Stored = false
 acts Begun = false
+acts Stilled = false
 acts Came = false
 acts Heard = false
 acts Tuned = false

@@ -14,7 +14,7 @@ use Rattle.spec_live.specs.Moving.{moved}
 use Rattle.spec_live.specs.Making.{created}
 use Rattle.spec_live.specs.Setting.{set_at, lines_set, with_name, with_owner, with_link, with_home, with_flags, with_level, with_password, with_prop, without_prop}
 use Rattle.spec_live.specs.Recycling.{recycled}
-use Rattle.spec_live.specs.Connections.{is_of, left}
+use Rattle.spec_live.specs.Connections.{is_connection_of, left}
 use Rattle.spec_live.specs.Boards.{Board, on_connections}
 use Rattle.spec_live.specs.Lives.{Change, on_objects, on_board}
 
@@ -25,11 +25,11 @@ at_number f x es = option_map_or (λ n. f n es) (number_in es x) es
 abbrev pub set_object : (Object → Object) → Dbref → Change
 set_object f x = on_objects (at_number (set_at f) x)
 
-unfoldable pub named : Dbref → List ℕ → Change
-named x name = set_object (with_name name) x
+unfoldable pub name_given : Dbref → List ℕ → Change
+name_given x name = set_object (with_name name) x
 
-unfoldable pub owned_by : Dbref → Dbref → Change
-owned_by x owner = set_object (with_owner owner) x
+unfoldable pub object_owned_by : Dbref → Dbref → Change
+object_owned_by x owner = set_object (with_owner owner) x
 
 unfoldable pub linked : Dbref → Dbref → Change
 linked x to = set_object (with_link to) x
@@ -60,8 +60,8 @@ leveled x level = set_object (with_level level) x
 unfoldable pub password_kept : Dbref → ℕ → List ℕ → Change
 password_kept x salt word = set_object (with_password salt word) x
 
-unfoldable pub stored : Dbref → List (List ℕ) → PropValue → Change
-stored x path value = set_object (with_prop path value) x
+unfoldable pub property_stored : Dbref → List (List ℕ) → PropValue → Change
+property_stored x path value = set_object (with_prop path value) x
 
 unfoldable pub unstored : Dbref → List (List ℕ) → Change
 unstored x path = set_object (without_prop path) x
@@ -87,8 +87,8 @@ created_so n kind name owner to f = on_objects (λ es. set_at f n (created n kin
 -- The board.
 
 -- the connections of a player leave
-unfoldable pub booted : Dbref → Change
-booted player = on_board (on_connections (λ c. if is_of player c then left c else c))
+unfoldable pub connections_left : Dbref → Change
+connections_left player = on_board (on_connections (λ c. if is_connection_of player c then left c else c))
 
 abbrev pub with_tune : Tune → Board → Board
 with_tune tune b = record b { tune = tune }

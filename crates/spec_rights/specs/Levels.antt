@@ -44,11 +44,11 @@ unfoldable pub command_level : List Entry → Dbref → ℕ
 command_level es player = if nat_le master (level_at es player) then master else 1
 
 -- the number that is written behind a name
-abbrev pub number_of : Dbref → ℕ
-number_of d = unwrap_or (index_of d) 0
+abbrev pub dbref_number : Dbref → ℕ
+dbref_number d = unwrap_or (index_of d) 0
 
 abbrev pub shown_as : List Entry → Dbref → Dbref → Object → List ℕ
-shown_as es player d o = if controls_as es (command_level es player) player d then long_form (number_of d) o else o.name
+shown_as es player d o = if controls_as es (command_level es player) player d then long_form (dbref_number d) o else o.name
 
 -- the name of an object as a player sees it: the long form where it controls the object
 unfoldable pub name_shown : Dbref → Dbref → Live → List ℕ

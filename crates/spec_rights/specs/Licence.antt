@@ -9,16 +9,16 @@ use Rattle.muck_model.specs.declared.dbref.Kind.TheVariants.{Room, Thing, Exit, 
 use Rattle.muck_prop.specs.Paths.{class_of}
 use Rattle.spec_live.specs.declared.object.Object.{Object}
 use Rattle.spec_live.specs.Flags.{has_flag, no_flags, builder, jump, link, wizard}
-use Rattle.spec_live.specs.Chain.{without}
+use Rattle.spec_live.specs.Chain.{without_number}
 use Rattle.spec_live.specs.Objects.{Entry, dbref_of, nothing, home, same, index_of, is_exit, kind_in, list_in, object_at}
-use Rattle.spec_live.specs.Saving.{Marked}
+use Rattle.spec_live.specs.Stood.{Traced}
 use Rattle.spec_live.specs.Recycling.{wished_home}
 use Rattle.spec_live.specs.Seen.{listed_in}
 use Rattle.spec_live.specs.Connections.{Connection}
 use Rattle.spec_live.specs.Lives.{Live}
 use Rattle.spec_rights.specs.declared.act.Actor.{Actor}
 use Rattle.spec_rights.specs.Levels.{level_at, is_player_at, flag_at}
-use Rattle.spec_rights.specs.Verdict.{is_master, controls, controls_or, is_hidden, is_kept, is_guarded, may_take_over, place_of}
+use Rattle.spec_rights.specs.Verdict.{is_master, controls, controls_or, is_hidden, is_kept_class, is_guarded, may_take_over, place_or_nothing}
 
 -- what stood there stands there, or what stands there now is open
 abbrev pub Open : {X : Type 0} → (X → Bool) → X → X → Type 0
@@ -45,11 +45,11 @@ owned j x = controls j.objects j.actor x
 abbrev pub home_of : Judge → Dbref → Dbref
 home_of j x = option_map_or (λ o. o.home) (object_at x j.objects) nothing
 
-abbrev pub link_of : Judge → Dbref → Dbref
-link_of j x = option_map_or (λ o. o.link) (object_at x j.objects) nothing
+abbrev pub judged_link : Judge → Dbref → Dbref
+judged_link j x = option_map_or (λ o. o.link) (object_at x j.objects) nothing
 
-abbrev pub kind_of : Judge → Dbref → Kind
-kind_of j x = option_map_or (λ o. o.kind) (object_at x j.objects) Garbage
+abbrev pub judged_kind : Judge → Dbref → Kind
+judged_kind j x = option_map_or (λ o. o.kind) (object_at x j.objects) Garbage
 
 -- What a recycling brings with it.
 
@@ -71,7 +71,7 @@ name_open j x = owned j x && (is_master j.actor || not (is_player_at j.objects x
 
 abbrev pub property_open : Judge → Dbref → List (List ℕ) → Bool
 property_open j x path =
-    if is_hidden (class_of path) || is_kept (class_of path) then is_master j.actor
+    if is_hidden (class_of path) || is_kept_class (class_of path) then is_master j.actor
     else (if is_guarded (class_of path) then nat_le 3 j.actor.level || owned j x
     else nat_le 2 j.actor.level || owned j x)
 
@@ -83,7 +83,7 @@ place_open j x to =
 abbrev pub link_open : Judge → Dbref → Dbref → Bool
 link_open j x to =
     (owned j x && (same to nothing || (same to home || controls_or link j.objects j.actor to)))
-    || (same to nothing && is_gone j (link_of j x))
+    || (same to nothing && is_gone j (judged_link j x))
 
 abbrev pub home_open : Judge → Dbref → Dbref → Bool
 home_open j x to =
@@ -96,7 +96,7 @@ level_open_to j x level Program = nat_le level (level_at j.objects j.actor.user)
 level_open_to j x level kind = false
 
 abbrev pub level_open : Judge → Dbref → ℕ → Bool
-level_open j x level = owned j x && level_open_to j x level (kind_of j x)
+level_open j x level = owned j x && level_open_to j x level (judged_kind j x)
 
 abbrev pub lines_open : Judge → Dbref → Bool
 lines_open j x = j.free.edits x && (owned j x && nat_le 1 (level_at j.objects j.actor.user))
@@ -157,7 +157,7 @@ Differs j x (Some old) (Some new) = Changed j x old new
 -- What may become of a list of numbers: some leave it, and those that may come to its front.
 pub data Reordered (may : ℕ → Bool) : List ℕ → List ℕ → Type 0 where
   as_before : {xs : List ℕ} → Reordered may xs xs
-  leaves : {xs ys : List ℕ} (x : ℕ) → Reordered may xs ys → Reordered may xs (without x ys)
+  leaves : {xs ys : List ℕ} (x : ℕ) → Reordered may xs ys → Reordered may xs (without_number x ys)
   empties : {xs ys : List ℕ} → Reordered may xs ys → Reordered may xs []
   comes : {xs ys : List ℕ} (x : ℕ) → may x ≡ true → Reordered may xs ys → Reordered may xs (x ∷ ys)
 
@@ -185,14 +185,15 @@ LeaversLicensed may (c ∷ cs) (d ∷ ds) = (d.number ≡ c.number) × Open (λ 
 LeaversLicensed may cs ds = ⊥
 
 -- every difference is open to the actor, or a consequence of one recycling: of what it may recycle, and what is gone;
--- no number goes away, since what is recycled stays there as garbage; and what changed is due for the next dump
+-- no number goes away, since what is recycled stays there as garbage; what changed is due for the next dump, and where players stood
+-- when the event began is kept
 pub record Licensed (a : Actor) (free : Freedom) (w v : Live) : Type 0 where
   pub gone : Option Dbref
   pub recycled : (x : Dbref) → gone ≡ Some x → may_recycle w.objects a x ≡ true
   pub vanished : (x : Dbref) → gone ≡ Some x → object_at x v.objects ≡ None
   pub objects : (n : ℕ) → Differs (record { actor = a; free = free; gone = gone; objects = w.objects }) (dbref_of n) (object_at (dbref_of n) w.objects) (object_at (dbref_of n) v.objects)
   pub no_fewer : length w.objects ≤ length v.objects
-  pub marked : Marked w.objects v.objects
+  pub traced : Traced w.objects v.objects
   pub lists : SameLists (record { actor = a; free = free; gone = gone; objects = w.objects }) w.objects v.objects
   pub connections : SameTies a w.board.connections v.board.connections
   pub tune : Open (λ tune. is_master a) w.board.tune v.board.tune
@@ -202,8 +203,8 @@ pub record Licensed (a : Actor) (free : Freedom) (w v : Live) : Type 0 where
 abbrev pub nobody : Freedom
 nobody = record { moves = λ x. false; clears = false; edits = λ x. false }
 
-abbrev pub moving : (Dbref → Bool) → Freedom
-moving test = record nobody { moves = test }
+abbrev pub moving_freely : (Dbref → Bool) → Freedom
+moving_freely test = record nobody { moves = test }
 
 abbrev pub clearing : Bool → Freedom → Freedom
 clearing clears free = record free { clears = clears || free.clears }
@@ -213,7 +214,7 @@ editing program = record nobody { edits = same program }
 
 -- the player that walks moves itself
 abbrev pub oneself : Actor → Freedom
-oneself a = moving (same a.player)
+oneself a = moving_freely (same a.player)
 
 -- a thing or a program that the player carries, or that lies where it is
 
@@ -223,4 +224,4 @@ at_hand_kind Program = true
 at_hand_kind kind = false
 
 abbrev pub at_hand : List Entry → Actor → Dbref → Bool
-at_hand es a x = option_map_or (λ o. at_hand_kind o.kind && (same o.place a.player || same o.place (place_of es a.player))) (object_at x es) false
+at_hand es a x = option_map_or (λ o. at_hand_kind o.kind && (same o.place a.player || same o.place (place_or_nothing es a.player))) (object_at x es) false

@@ -28,14 +28,14 @@ controls es a d = controls_as es a.level a.user d
 unfoldable pub controls_or : ℕ → List Entry → Actor → Dbref → Bool
 controls_or flag es a d = controls es a d || flag_at flag es d
 
-abbrev pub place_of : List Entry → Dbref → Dbref
-place_of es d = option_map_or (λ o. o.place) (object_at d es) nothing
+abbrev pub place_or_nothing : List Entry → Dbref → Dbref
+place_or_nothing es d = option_map_or (λ o. o.place) (object_at d es) nothing
 
 -- the object is the player, its place, in that place, or carried by the player
 unfoldable pub is_near : List Entry → Dbref → Dbref → Bool
 is_near es player d =
-    let here = place_of es player in
-    same d player || (same d here || (same (place_of es d) here || same (place_of es d) player))
+    let here = place_or_nothing es player in
+    same d player || (same d here || (same (place_or_nothing es d) here || same (place_or_nothing es d) player))
 
 -- Classes of paths.
 
@@ -43,9 +43,9 @@ abbrev pub is_hidden : Class → Bool
 is_hidden At = true
 is_hidden class = false
 
-abbrev pub is_kept : Class → Bool
-is_kept Tilde = true
-is_kept class = false
+abbrev pub is_kept_class : Class → Bool
+is_kept_class Tilde = true
+is_kept_class class = false
 
 abbrev pub is_private : Class → Bool
 is_private Dot = true
@@ -66,8 +66,8 @@ abbrev pub when : Bool → Dbref → Option Dbref
 when denies d = if denies then Some d else None
 
 -- below that level, and without control
-abbrev pub below : ℕ → List Entry → Actor → Dbref → Bool
-below level es a d = nat_lt a.level level && not (controls es a d)
+abbrev pub is_below_level : ℕ → List Entry → Actor → Dbref → Bool
+is_below_level level es a d = nat_lt a.level level && not (controls es a d)
 
 -- a builder, or at level 3
 abbrev pub may_build : List Entry → Actor → Bool
@@ -95,16 +95,16 @@ denied_object P1 es a (Start program) = when (effective es program == 0) program
 denied_object P2 es a (Near d) = when (a.level == 1 && not (is_near es a.player d)) d
 denied_object P3 es a (Read d path) = when (is_hidden (class_of path) && nat_lt a.level 4) d
 denied_object P3 es a (Write d path) = when (is_hidden (class_of path) && nat_lt a.level 4) d
-denied_object P4 es a (Write d path) = when (is_kept (class_of path) && nat_lt a.level 4) d
-denied_object P5 es a (Read d path) = when (is_private (class_of path) && below 3 es a d) d
-denied_object P6 es a (Write d path) = when (is_guarded (class_of path) && below 3 es a d) d
-denied_object P7 es a (Write d path) = when (is_plain (class_of path) && below 2 es a d) d
-denied_object P8 es a (Move d to) = when (below 3 es a d) d
+denied_object P4 es a (Write d path) = when (is_kept_class (class_of path) && nat_lt a.level 4) d
+denied_object P5 es a (Read d path) = when (is_private (class_of path) && is_below_level 3 es a d) d
+denied_object P6 es a (Write d path) = when (is_guarded (class_of path) && is_below_level 3 es a d) d
+denied_object P7 es a (Write d path) = when (is_plain (class_of path) && is_below_level 2 es a d) d
+denied_object P8 es a (Move d to) = when (is_below_level 3 es a d) d
 denied_object P9 es a (Move d to) = when (not (same to home || open_place es a to)) to
 denied_object P9 es a (NewThing place) = when (not (open_place es a place)) place
 denied_object P10 es a (Walk exit) = when (not (opens_at es a.player exit)) exit
 denied_object P10 es a (Take d) = when (not (opens_at es a.player d)) d
-denied_object P11 es a (Take d) = when (not (same (place_of es d) (place_of es a.player))) d
+denied_object P11 es a (Take d) = when (not (same (place_or_nothing es d) (place_or_nothing es a.player))) d
 denied_object P12 es a (Link d to) = when (not (controls es a d)) d
 denied_object P13 es a (Link d to) = when (not (open_target es a to)) to
 denied_object P13 es a (NewExit place to) = when (not (open_target es a to)) to

@@ -7,7 +7,7 @@ use Rattle.muck_links.specs.inner.Cutting.{Cut, Rest, fresh, cut_lines, cut_rest
 use Rattle.muck_links.proofs.Cuts.{lines_append, rest_append, cut_is_lines}
 use Rattle.muck_links.specs.Sessions.{Session, accepted, with_read, with_end, with_fault, with_written, with_refusal, shut}
 use Rattle.spec_events.specs.World.{World}
-use Rattle.spec_talks.specs.Talks.{Talk, begun, heard, given_out, ended_in}
+use Rattle.spec_talks.specs.Talks.{Talk, talk_begun, line_heard, given_out, ended_in}
 use Rattle.spec_serve.specs.Marks.{LinksNote}
 use Rattle.spec_serve.specs.Accounts.{WorkedOff, Cause, Agrees, ClosedWell}
 use Rattle.spec_serve.specs.inner.Keeping.{Peer, Keeps, new_peer}
@@ -29,7 +29,7 @@ keeps_agrees counted p t s k =
     }
 
 -- a connection was opened, while there is no note
-pub keeps_new : (d : ℕ) → Keeps None (new_peer d) (begun d) (accepted d)
+pub keeps_new : (d : ℕ) → Keeps None (new_peer d) (talk_begun d) (accepted d)
 keeps_new d = record {
   talk_number = refl;
   link_number = refl;
@@ -144,7 +144,7 @@ keeps_refusal counted p t s k = record {
 
 -- a line was entered
 pub keeps_heard : (counted : LinksNote) (p : Peer) (t : Talk) (s : Session) (line : List ℕ) (more : List (List ℕ)) → p.cut.ready ≡ line ∷ more → Keeps counted p t s
-    → Keeps counted (record p { cut = record { ready = more; rest = p.cut.rest } }) (heard line t) s
+    → Keeps counted (record p { cut = record { ready = more; rest = p.cut.rest } }) (line_heard line t) s
 keeps_heard counted p t s line more is k = record {
   talk_number = k.talk_number;
   link_number = k.link_number;

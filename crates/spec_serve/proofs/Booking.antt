@@ -6,13 +6,14 @@ use mathlib.Core.Option.{some, some-ne-none, some-injective}
 use mathlib.Core.Logic.{dite}
 use native.Mathlib.Decide.{ℕ_discrete}
 use lib.ListN.{get_elem?}
+use Rattle.muck_laws.proofs.Places.{at_removed, set_there, still_at}
 use Rattle.atomic_table.proofs.Lists.{at_set, set_else, at_snoc, at_longer}
 use Rattle.muck_io.specs.Faults.{one_more}
 use Rattle.muck_links.specs.Keyed.{altered, latest}
-use Rattle.muck_links.specs.Sessions.{Session, Told, number_of, accepted, on_session, is_open, is_used, shut}
+use Rattle.muck_links.specs.Sessions.{Session, LinksTold, session_number, accepted, on_session, is_session_open, is_used, shut}
 use Rattle.muck_links.proofs.Keys.{altered_same, told_same}
 use Rattle.spec_events.specs.World.{World}
-use Rattle.spec_talks.specs.Talks.{Talk, talk_of, begun, ended_in}
+use Rattle.spec_talks.specs.Talks.{Talk, talk_of, talk_begun, ended_in}
 use Rattle.spec_serve.specs.Marks.{LinksNote, AreCountsOf}
 use Rattle.spec_serve.specs.Accounts.{Agrees, Cause}
 use Rattle.spec_serve.specs.Promises.{Tally, HaltCause, HaltsCaused}
@@ -23,31 +24,26 @@ use Rattle.spec_serve.proofs.Pairs.{all2_altered}
 use Rattle.spec_serve.proofs.Counted.{counts_came, counts_altered}
 use Rattle.spec_serve.proofs.Accounting.{keeps_agrees, keeps_new, keeps_closed}
 
-pub set_there : {A : Type 0} (xs : List A) (i : ℕ) (v w : A) → get_elem? xs i ≡ some v → get_elem? (set xs i w) i ≡ some w
-set_there [] i v w at = absurd (some-ne-none v (sym at))
-set_there (x ∷ xs) zero v w at = refl
-set_there (x ∷ xs) (suc i) v w at = set_there xs i v w at
-
-pub same_number : (counted : LinksNote) (t : Talk) (s : Session) → Agrees counted t s → talk_of t ≡ number_of s
+pub same_number : (counted : LinksNote) (t : Talk) (s : Session) → Agrees counted t s → talk_of t ≡ session_number s
 same_number counted t s a = a.number
 
 -- a change of a link of ours leaves what waits and what was before
 pub through : (d : ℕ) (g : Session → Session) (coming : Option ℕ) (extra mine before : List Session) (s : Session) → Waits coming extra → ((c : ℕ) → coming ≡ Some c → ¬ (c ≡ d))
-    → latest number_of d mine ≡ Some s → altered number_of d g (extra ++ (mine ++ before)) ≡ extra ++ (altered number_of d g mine ++ before)
+    → latest session_number d mine ≡ Some s → altered session_number d g (extra ++ (mine ++ before)) ≡ extra ++ (altered session_number d g mine ++ before)
 through d g None extra mine before s waits away there =
-    ap (λ (l : List Session). altered number_of d g (l ++ (mine ++ before))) waits
-    ∙ altered_front number_of d g mine before s there
-    ∙ ap (λ (l : List Session). l ++ (altered number_of d g mine ++ before)) (sym waits)
+    ap (λ (l : List Session). altered session_number d g (l ++ (mine ++ before))) waits
+    ∙ altered_front session_number d g mine before s there
+    ∙ ap (λ (l : List Session). l ++ (altered session_number d g mine ++ before)) (sym waits)
 through d g (Some c) extra mine before s waits away there =
-    ap (λ (l : List Session). altered number_of d g (l ++ (mine ++ before))) waits
-    ∙ altered_behind number_of d g (accepted c) (mine ++ before) (away c refl)
-    ∙ ap (λ (l : List Session). accepted c ∷ l) (altered_front number_of d g mine before s there)
-    ∙ ap (λ (l : List Session). l ++ (altered number_of d g mine ++ before)) (sym waits)
+    ap (λ (l : List Session). altered session_number d g (l ++ (mine ++ before))) waits
+    ∙ altered_behind session_number d g (accepted c) (mine ++ before) (away c refl)
+    ∙ ap (λ (l : List Session). accepted c ∷ l) (altered_front session_number d g mine before s there)
+    ∙ ap (λ (l : List Session). l ++ (altered session_number d g mine ++ before)) (sym waits)
 
 -- what one peer's step does to the books
 pub books_changed : (counted : LinksNote) (b : Tally) (ts : List Talk) (hs : List World) (k : Tally) (peers : List Peer) (coming : Option ℕ)
     (i d : ℕ) (p p' : Peer) (f : Talk → Talk) (g : Session → Session) → get_elem? peers i ≡ some p → p.number ≡ d → p'.number ≡ d
-    → ((t : Talk) → talk_of (f t) ≡ talk_of t) → ((s : Session) → number_of (g s) ≡ number_of s) → ((s : Session) → s.refused ≤ (g s).refused)
+    → ((t : Talk) → talk_of (f t) ≡ talk_of t) → ((s : Session) → session_number (g s) ≡ session_number s) → ((s : Session) → s.refused ≤ (g s).refused)
     → ((t : Talk) (s : Session) → latest talk_of d ts ≡ Some t → Keeps counted p t s → Keeps counted p' (f t) (g s))
     → Books counted b ts hs k peers coming → Books counted b (altered talk_of d f ts) hs (with_told (on_session d g k.told) k) (set peers i p') coming
 books_changed counted b ts hs k peers coming i d p p' f g at is is' tells links refuses keeps bk =
@@ -55,27 +51,27 @@ books_changed counted b ts hs k peers coming i d p p' f g at is is' tells links 
     let t = m.0 in
     let s = m.1 in
     let lt : latest talk_of d ts ≡ Some t = subst (λ (n : ℕ). latest talk_of n ts ≡ Some t) is m.2 in
-    let ls : latest number_of d bk.mine ≡ Some s = subst (λ (n : ℕ). latest number_of n bk.mine ≡ Some s) is m.3 in
+    let ls : latest session_number d bk.mine ≡ Some s = subst (λ (n : ℕ). latest session_number n bk.mine ≡ Some s) is m.3 in
     let now : Keeps counted p' (f t) (g s) = keeps t s lt m.4 in
     record {
-      mine = altered number_of d g bk.mine;
+      mine = altered session_number d g bk.mine;
       extra = bk.extra;
-      whole = ap (λ (l : List Session). altered number_of d g l) bk.whole
+      whole = ap (λ (l : List Session). altered session_number d g l) bk.whole
           ∙ through d g coming bk.extra bk.mine b.told.sessions s bk.waits (λ c e same. bk.away c e i p at (is ∙ sym same)) ls;
       waits = bk.waits;
-      agree = all2_altered talk_of number_of (Agrees counted) (same_number counted) d f g ts bk.mine t s bk.agree lt ls (keeps_agrees counted p' (f t) (g s) now);
+      agree = all2_altered talk_of session_number (Agrees counted) (same_number counted) d f g ts bk.mine t s bk.agree lt ls (keeps_agrees counted p' (f t) (g s) now);
       kept = λ j q atj. ⊎_elim
           (λ (x : (j ≡ i) × (p' ≡ q)). subst (λ (y : Peer). Kept y) x.1 (
             f t,
             g s,
             subst (λ (n : ℕ). latest talk_of n (altered talk_of d f ts) ≡ Some (f t)) (sym is') (latest_altered talk_of d f tells ts t lt),
-            subst (λ (n : ℕ). latest number_of n (altered number_of d g bk.mine) ≡ Some (g s)) (sym is') (latest_altered number_of d g links bk.mine s ls),
+            subst (λ (n : ℕ). latest session_number n (altered session_number d g bk.mine) ≡ Some (g s)) (sym is') (latest_altered session_number d g links bk.mine s ls),
             now,
           ))
           (λ (x : (j ≢ i) × (get_elem? peers j ≡ some q)).
           let o = bk.kept j q x.1 in
           let ne : d ≢ q.number = λ e. x.0 (bk.apart j i q p x.1 at (sym e ∙ sym is)) in
-          (o.0, o.1, latest_else talk_of d q.number f ne tells ts ∙ o.2, latest_else number_of d q.number g ne links bk.mine ∙ o.3, o.4))
+          (o.0, o.1, latest_else talk_of d q.number f ne tells ts ∙ o.2, latest_else session_number d q.number g ne links bk.mine ∙ o.3, o.4))
           (at_set peers i j p' q atj);
       apart = λ j j' q q' a a' e. let o = before j q a in let o' = before j' q' a' in bk.apart j j' o.0 o'.0 o.1 o'.1 (o.2 ∙ e ∙ sym o'.2);
       away = λ c e j q a. let o = before j q a in λ (same : q.number ≡ c). bk.away c e j o.0 o.1 (o.2 ∙ same);
@@ -88,7 +84,7 @@ books_changed counted b ts hs k peers coming i d p p' f g at is is' tells links 
     }
   where
     Kept : Peer → Type 0
-    Kept q = (t : Talk) × (s : Session) × (latest talk_of q.number (altered talk_of d f ts) ≡ Some t) × (latest number_of q.number (altered number_of d g bk.mine) ≡ Some s) × Keeps counted q t s
+    Kept q = (t : Talk) × (s : Session) × (latest talk_of q.number (altered talk_of d f ts) ≡ Some t) × (latest session_number q.number (altered session_number d g bk.mine) ≡ Some s) × Keeps counted q t s
 
     -- who stood at a place before has the same number
     before : (j : ℕ) (q : Peer) → get_elem? (set peers i p') j ≡ some q → (o : Peer) × (get_elem? peers j ≡ some o) × (o.number ≡ q.number)
@@ -99,7 +95,7 @@ books_changed counted b ts hs k peers coming i d p p' f g at is is' tells links 
 
 -- a call for one link
 pub books_linked : (counted : LinksNote) (b : Tally) (ts : List Talk) (hs : List World) (k : Tally) (peers : List Peer) (coming : Option ℕ)
-    (i : ℕ) (p p' : Peer) (g : Session → Session) → get_elem? peers i ≡ some p → p'.number ≡ p.number → ((s : Session) → number_of (g s) ≡ number_of s) → ((s : Session) → s.refused ≤ (g s).refused)
+    (i : ℕ) (p p' : Peer) (g : Session → Session) → get_elem? peers i ≡ some p → p'.number ≡ p.number → ((s : Session) → session_number (g s) ≡ session_number s) → ((s : Session) → s.refused ≤ (g s).refused)
     → ((t : Talk) (s : Session) → Keeps counted p t s → Keeps counted p' t (g s))
     → Books counted b ts hs k peers coming → Books counted b ts hs (with_told (on_session p.number g k.told) k) (set peers i p') coming
 books_linked counted b ts hs k peers coming i p p' g at same links refuses keeps bk =
@@ -112,7 +108,7 @@ pub books_talked : (counted : LinksNote) (b : Tally) (ts : List Talk) (hs : List
     → ((t : Talk) (s : Session) → Keeps counted p t s → Keeps counted p' (f t) s)
     → Books counted b ts hs k peers coming → Books counted b (altered talk_of p.number f ts) hs k (set peers i p') coming
 books_talked counted b ts hs k peers coming i p p' f at same talks keeps bk =
-    subst (λ (x : Told). Books counted b (altered talk_of p.number f ts) hs (with_told x k) (set peers i p') coming) (sym (told_same p.number (λ s. s) (λ s. refl) k.told))
+    subst (λ (x : LinksTold). Books counted b (altered talk_of p.number f ts) hs (with_told x k) (set peers i p') coming) (sym (told_same p.number (λ s. s) (λ s. refl) k.told))
     (books_changed counted b ts hs k peers coming i p.number p p' f (λ s. s) at refl same talks (λ s. refl) (λ s. omega arith) (λ t s l x. keeps t s x) bk)
 
 -- as the call begins
@@ -168,18 +164,18 @@ pub books_came : (counted : LinksNote) (b : Tally) (ts : List Talk) (hs : List W
 books_came counted b ts hs k k' peers d is unused more bk = record {
   mine = bk.mine;
   extra = accepted d ∷ [];
-  whole = ap (λ (x : Told). x.sessions) is ∙ ap (λ (l : List Session). accepted d ∷ l) before;
+  whole = ap (λ (x : LinksTold). x.sessions) is ∙ ap (λ (l : List Session). accepted d ∷ l) before;
   waits = refl;
   agree = bk.agree;
   kept = bk.kept;
   apart = bk.apart;
   away = λ c e i p at. let m = bk.kept i p at in λ (same : p.number ≡ c).
       true≢false (sym m.4.in_use
-      ∙ ap is_open (sym (latest_front number_of d bk.mine b.told.sessions m.1 (subst (λ (n : ℕ). latest number_of n bk.mine ≡ Some m.1) (same ∙ sym (same_Some d c e)) m.3)))
-      ∙ ap (λ (l : List Session). is_open (latest number_of d l)) (sym before) ∙ unused);
+      ∙ ap is_session_open (sym (latest_front session_number d bk.mine b.told.sessions m.1 (subst (λ (n : ℕ). latest session_number n bk.mine ≡ Some m.1) (same ∙ sym (same_Some d c e)) m.3)))
+      ∙ ap (λ (l : List Session). is_session_open (latest session_number d l)) (sym before) ∙ unused);
   known = bk.known;
-  counts = subst (AreCountsOf counted) (sym (ap (λ (x : Told). x.sessions) is)) (counts_came counted (accepted d) k.told.sessions bk.counts);
-  halts = halts_later b k k' hs more (λ over. ap (λ (x : Told). x.over) is ∙ over) bk.halts;
+  counts = subst (AreCountsOf counted) (sym (ap (λ (x : LinksTold). x.sessions) is)) (counts_came counted (accepted d) k.told.sessions bk.counts);
+  halts = halts_later b k k' hs more (λ over. ap (λ (x : LinksTold). x.over) is ∙ over) bk.halts;
 }
   where
     before : k.told.sessions ≡ bk.mine ++ b.told.sessions
@@ -187,20 +183,20 @@ books_came counted b ts hs k k' peers d is unused more bk = record {
 
 -- it is opened, before there is a note
 pub books_opened : (b : Tally) (ts : List Talk) (hs : List World) (k : Tally) (peers : List Peer) (d : ℕ) (p : Peer) → p ≡ new_peer d
-    → Books None b ts hs k peers (Some d) → Books None b (begun d ∷ ts) hs k (peers ++ p ∷ []) None
+    → Books None b ts hs k peers (Some d) → Books None b (talk_begun d ∷ ts) hs k (peers ++ p ∷ []) None
 books_opened b ts hs k peers d p is bk = record {
   mine = accepted d ∷ bk.mine;
   extra = [];
   whole = bk.whole ∙ ap (λ (l : List Session). l ++ (bk.mine ++ b.told.sessions)) bk.waits;
   waits = refl;
-  agree = (keeps_agrees None (new_peer d) (begun d) (accepted d) (keeps_new d), bk.agree);
+  agree = (keeps_agrees None (new_peer d) (talk_begun d) (accepted d) (keeps_new d), bk.agree);
   kept = λ i q at. ⊎_elim
       (λ (x : get_elem? peers i ≡ some q).
       let o = bk.kept i q x in
       let ne : ¬ (d ≡ q.number) = λ e. bk.away d refl i q x (sym e) in
-      (o.0, o.1, latest_behind talk_of q.number (begun d) ts ne ∙ o.2, latest_behind number_of q.number (accepted d) bk.mine ne ∙ o.3, o.4))
+      (o.0, o.1, latest_behind talk_of q.number (talk_begun d) ts ne ∙ o.2, latest_behind session_number q.number (accepted d) bk.mine ne ∙ o.3, o.4))
       (λ (x : p ≡ q). subst (λ (y : Peer). Kept y) (sym is ∙ x)
-      (begun d, accepted d, latest_head talk_of d (begun d) ts refl, latest_head number_of d (accepted d) bk.mine refl, keeps_new d))
+      (talk_begun d, accepted d, latest_head talk_of d (talk_begun d) ts refl, latest_head session_number d (accepted d) bk.mine refl, keeps_new d))
       (at_snoc peers p q i at);
   apart = λ i j q r a a' e. ⊎_elim
       (λ (x : get_elem? peers i ≡ some q). ⊎_elim
@@ -215,13 +211,13 @@ books_opened b ts hs k peers d p is bk = record {
   away = λ c e i q at. absurd (none-some c e);
   known = λ d' t l live. dite (ℕ_discrete d d')
       (λ here. let last = at_end peers p in (last.0, p, last.1, ap (λ (z : Peer). z.number) is ∙ here))
-      (λ other. let o = bk.known d' t (sym (latest_behind talk_of d' (begun d) ts other) ∙ l) live in (o.0, o.1, at_longer peers (p ∷ []) o.0 o.1 o.2, o.3));
+      (λ other. let o = bk.known d' t (sym (latest_behind talk_of d' (talk_begun d) ts other) ∙ l) live in (o.0, o.1, at_longer peers (p ∷ []) o.0 o.1 o.2, o.3));
   counts = tt;
   halts = bk.halts;
 }
   where
     Kept : Peer → Type 0
-    Kept q = (t : Talk) × (s : Session) × (latest talk_of q.number (begun d ∷ ts) ≡ Some t) × (latest number_of q.number (accepted d ∷ bk.mine) ≡ Some s) × Keeps None q t s
+    Kept q = (t : Talk) × (s : Session) × (latest talk_of q.number (talk_begun d ∷ ts) ≡ Some t) × (latest session_number q.number (accepted d ∷ bk.mine) ≡ Some s) × Keeps None q t s
 
     at_end : (xs : List Peer) (x : Peer) → (i : ℕ) × (get_elem? (xs ++ x ∷ []) i ≡ some x)
     at_end [] x = (0, refl)
@@ -233,23 +229,6 @@ books_opened b ts hs k peers d p is bk = record {
     place (x ∷ xs) free zero q a e = absurd (free 0 q a (sym (ap (λ (z : Peer). z.number) (sym is ∙ e))))
     place (x ∷ xs) free (suc i) q a e = ap suc (place xs (λ n z atz. free (suc n) z atz) i q a e)
 
-at_removed : {A : Type 0} (xs : List A) (i j : ℕ) (a : A) → get_elem? (remove xs i) j ≡ some a → ((j < i) × (get_elem? xs j ≡ some a)) ⊎ ((i ≤ j) × (get_elem? xs (suc j) ≡ some a))
-at_removed [] zero j a e = absurd (some-ne-none a (sym e))
-at_removed [] (suc i) j a e = absurd (some-ne-none a (sym e))
-at_removed (x ∷ xs) zero j a e = inr (omega arith, e)
-at_removed (x ∷ xs) (suc i) zero a e = inl (omega arith, e)
-at_removed (x ∷ xs) (suc i) (suc j) a e = ⊎_elim
-    (λ (y : (j < i) × (get_elem? xs j ≡ some a)). let l = y.0 in inl (omega arith, y.1))
-    (λ (y : (i ≤ j) × (get_elem? xs (suc j) ≡ some a)). let l = y.0 in inr (omega arith, y.1))
-    (at_removed xs i j a e)
-
-still_at : {A : Type 0} (xs : List A) (i j : ℕ) (a : A) → get_elem? xs j ≡ some a → j ≢ i → (n : ℕ) × (get_elem? (remove xs i) n ≡ some a)
-still_at [] i j a e ne = absurd (some-ne-none a (sym e))
-still_at (x ∷ xs) zero zero a e ne = absurd (ne refl)
-still_at (x ∷ xs) zero (suc j) a e ne = (j, e)
-still_at (x ∷ xs) (suc i) zero a e ne = (0, e)
-still_at (x ∷ xs) (suc i) (suc j) a e ne = let h = still_at xs i j a e (λ s. ne (ap suc s)) in (suc h.0, h.1)
-
 -- it is closed
 pub books_closed : (counted : LinksNote) (b : Tally) (ts : List Talk) (hs : List World) (k : Tally) (peers peers' : List Peer) (coming : Option ℕ)
     (i d : ℕ) (p : Peer) (w : World) → get_elem? peers i ≡ some p → p.number ≡ d → peers' ≡ remove peers i
@@ -260,19 +239,19 @@ books_closed counted b ts hs k peers peers' coming i d p w at is gone cause bk =
     let t = m.0 in
     let s = m.1 in
     let lt : latest talk_of d ts ≡ Some t = subst (λ (n : ℕ). latest talk_of n ts ≡ Some t) is m.2 in
-    let ls : latest number_of d bk.mine ≡ Some s = subst (λ (n : ℕ). latest number_of n bk.mine ≡ Some s) is m.3 in
+    let ls : latest session_number d bk.mine ≡ Some s = subst (λ (n : ℕ). latest session_number n bk.mine ≡ Some s) is m.3 in
     record {
-      mine = altered number_of d shut bk.mine;
+      mine = altered session_number d shut bk.mine;
       extra = bk.extra;
-      whole = ap (λ (l : List Session). altered number_of d shut l) bk.whole
+      whole = ap (λ (l : List Session). altered session_number d shut l) bk.whole
           ∙ through d shut coming bk.extra bk.mine b.told.sessions s bk.waits (λ c e same. bk.away c e i p at (is ∙ sym same)) ls;
       waits = bk.waits;
-      agree = all2_altered talk_of number_of (Agrees counted) (same_number counted) d (ended_in w) shut ts bk.mine t s bk.agree lt ls (keeps_closed counted p t s w (cause t s lt m.4) m.4);
+      agree = all2_altered talk_of session_number (Agrees counted) (same_number counted) d (ended_in w) shut ts bk.mine t s bk.agree lt ls (keeps_closed counted p t s w (cause t s lt m.4) m.4);
       kept = λ j q atj.
           let o = old j q atj in
           let c = bk.kept o.0 q o.1 in
           let ne : d ≢ q.number = λ e. not_there i j o.0 o.2 (bk.apart o.0 i q p o.1 at (sym e ∙ sym is)) in
-          (c.0, c.1, latest_else talk_of d q.number (ended_in w) ne (λ x. refl) ts ∙ c.2, latest_else number_of d q.number shut ne (λ x. refl) bk.mine ∙ c.3, c.4);
+          (c.0, c.1, latest_else talk_of d q.number (ended_in w) ne (λ x. refl) ts ∙ c.2, latest_else session_number d q.number shut ne (λ x. refl) bk.mine ∙ c.3, c.4);
       apart = λ j j' q q' a a' e.
           let o = old j q a in
           let o' = old j' q' a' in

@@ -1,11 +1,12 @@
 -- What is seen of a link and of the world, against the account: from what is kept to the causes.
-use Rattle.std.proofs.Common.{◌≡◌, ℕ, ◌≤◌, true, false, List, [], ◌∷◌, ◌++◌, length, refl, sym, ap, ◌∙◌, subst, inl, inr, arith}
+use Rattle.std.proofs.Common.{◌≡◌, ℕ, ◌≤◌, true, false, List, [], ◌++◌, length, sym, ap, ◌∙◌, subst, inl, inr}
 use Rattle.std.specs.Prelude.{◌&&◌, not, is_some}
 use Rattle.std.proofs.lemmas.List.{append-nil}
+use Rattle.muck_laws.proofs.Lists.{none_long}
 use Rattle.muck_links.specs.Sessions.{Session}
 use Rattle.muck_links.proofs.Cuts.{cut_is_lines}
 use Rattle.muck_model.specs.declared.event.Event.TheVariants.{Input}
-use Rattle.muck_queue.specs.Queues.{is_tied}
+use Rattle.muck_queue.specs.Queues.{has_process_tied}
 use Rattle.spec_live.specs.Connections.{is_ready}
 use Rattle.spec_events.specs.World.{World, queue_of, is_leaving}
 use Rattle.spec_events.specs.Steps.{passes, is_lawful}
@@ -19,10 +20,6 @@ use Rattle.spec_serve.proofs.Marks.{marked, passed}
 all_written : (counted : LinksNote) (p : Peer) (t : Talk) (s : Session) → p.unsent ≡ [] → Keeps counted p t s → s.written ≡ t.sent
 all_written counted p t s none_kept k = sym (append-nil s.written) ∙ ap (λ (l : List ℕ). s.written ++ l) (sym none_kept) ∙ sym k.bytes
 
-no_bytes : (xs : List ℕ) → length xs ≤ 0 → xs ≡ []
-no_bytes [] h = refl
-no_bytes (x ∷ xs) h = absurd (omega arith)
-
 -- Nothing is left to do.
 
 pub worked_done : (counted : LinksNote) (p : Peer) (w : World) → (passes is_ready p.number w && not w.stopping) ≡ false → length (queue_of p.number w) ≤ 0 → p.unsent ≡ []
@@ -30,7 +27,7 @@ pub worked_done : (counted : LinksNote) (p : Peer) (w : World) → (passes is_re
 worked_done counted p w idle queue none_kept t s k =
     WorkedOff.done
     (subst (λ (n : ℕ). (passes is_ready n w && not w.stopping) ≡ false) (sym k.talk_number) idle)
-    (ap (λ (n : ℕ). queue_of n w) k.talk_number ∙ no_bytes (queue_of p.number w) queue)
+    (ap (λ (n : ℕ). queue_of n w) k.talk_number ∙ none_long (queue_of p.number w) queue)
     (all_written counted p t s none_kept k)
 
 pub worked_refused : (counted : LinksNote) (p : Peer) (w : World) → p.refused ≡ true → (t : Talk) (s : Session) → Keeps counted p t s → WorkedOff counted w t s
@@ -60,14 +57,14 @@ pub cause_left : (counted : LinksNote) (p : Peer) (w : World) → is_leaving p.n
 cause_left counted p w is queue none_kept t s k =
     Cause.left
     (subst (λ (n : ℕ). is_leaving n w ≡ true) (sym k.talk_number) is)
-    (ap (λ (n : ℕ). queue_of n w) k.talk_number ∙ no_bytes (queue_of p.number w) queue)
+    (ap (λ (n : ℕ). queue_of n w) k.talk_number ∙ none_long (queue_of p.number w) queue)
     (all_written counted p t s none_kept k)
 
-pub cause_tied : (counted : LinksNote) (p : Peer) (w : World) → p.ended ≡ true → is_tied p.number w.queue ≡ true → ((t : Talk) (s : Session) → Keeps counted p t s → HeardAll w t s)
+pub cause_tied : (counted : LinksNote) (p : Peer) (w : World) → p.ended ≡ true → has_process_tied p.number w.queue ≡ true → ((t : Talk) (s : Session) → Keeps counted p t s → HeardAll w t s)
     → (t : Talk) (s : Session) → Keeps counted p t s → Cause counted w t s
 cause_tied counted p w is tied heard t s k =
     let h = marked p.ended p.refused s.ended s.refused is k.ended in
-    Cause.tied h.0 h.1 (heard t s k) (subst (λ (n : ℕ). is_tied n w.queue ≡ true) (sym k.talk_number) tied)
+    Cause.tied h.0 h.1 (heard t s k) (subst (λ (n : ℕ). has_process_tied n w.queue ≡ true) (sym k.talk_number) tied)
 
 pub cause_ended : (counted : LinksNote) (p : Peer) (w : World) → p.ended ≡ true → ((t : Talk) (s : Session) → Keeps counted p t s → HeardAll w t s)
     → ((t : Talk) (s : Session) → Keeps counted p t s → WorkedOff counted w t s) → (t : Talk) (s : Session) → Keeps counted p t s → Cause counted w t s

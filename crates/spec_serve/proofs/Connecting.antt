@@ -4,7 +4,7 @@ use Rattle.std.specs.Prelude.{is_some, is_none}
 use mathlib.Core.Option.{some, some-ne-none}
 use lib.ListN.{get_elem?}
 use Rattle.muck_links.specs.Keyed.{latest}
-use Rattle.muck_links.specs.Sessions.{Session, number_of}
+use Rattle.muck_links.specs.Sessions.{Session, session_number}
 use Rattle.muck_model.specs.declared.event.Entry.{Entry}
 use Rattle.spec_live.specs.Connections.{Connection}
 use Rattle.spec_events.specs.World.{World, connection}
@@ -51,7 +51,7 @@ module _ (counted : LinksNote) (b : Tally) (w : World) (h : List Entry) (k : Tal
 
   -- The connections that are there are worked off, where those are whose talks are open.
   pub there_worked_off : (v : World) → OpenWorkedOff counted v (talks w h) k → (d : ℕ) → is_some (connection d (after w h)) ≡ true
-      → (t : Talk) × (s : Session) × (latest talk_of d (talks w h) ≡ Some t) × (latest number_of d k.told.sessions ≡ Some s) × WorkedOff counted v t s
+      → (t : Talk) × (s : Session) × (latest talk_of d (talks w h) ≡ Some t) × (latest session_number d k.told.sessions ≡ Some s) × WorkedOff counted v t s
   there_worked_off v worked d there = by_latest (latest talk_of d (talks w h)) refl (sym (connected w h nobody lawful d) ∙ there)
     where
       none_closed : (o : Option World) → is_none o ≡ true → o ≡ None
@@ -59,6 +59,6 @@ module _ (counted : LinksNote) (b : Tally) (w : World) (h : List Entry) (k : Tal
       none_closed (Some x) e = absurd cc
 
       by_latest : (o : Option Talk) → latest talk_of d (talks w h) ≡ o → is_open o ≡ true
-          → (t : Talk) × (s : Session) × (latest talk_of d (talks w h) ≡ Some t) × (latest number_of d k.told.sessions ≡ Some s) × WorkedOff counted v t s
+          → (t : Talk) × (s : Session) × (latest talk_of d (talks w h) ≡ Some t) × (latest session_number d k.told.sessions ≡ Some s) × WorkedOff counted v t s
       by_latest None e is = absurd cc
       by_latest (Some t) e is = let m = worked d t e (none_closed t.closed is) in (t, m.0, e, m.1, m.2)

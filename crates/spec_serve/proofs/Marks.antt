@@ -3,7 +3,7 @@ use Rattle.std.proofs.Common.{◌∙◌, sym, true≢false, ◌≡◌, ℕ, ◌+
 use Rattle.std.specs.Prelude.{◌==◌, if◌then◌else◌}
 use Rattle.std.specs.Option.{option_map}
 use Rattle.muck_links.specs.Keyed.{latest}
-use Rattle.muck_links.specs.Sessions.{Session, number_of, first_count}
+use Rattle.muck_links.specs.Sessions.{Session, session_number, first_count}
 use Rattle.spec_talks.specs.Counts.{count_of, counts}
 use Rattle.spec_serve.specs.Marks.{noted}
 use Rattle.spec_serve.specs.inner.Keeping.{Passed}
@@ -34,12 +34,12 @@ passed_first true false mark count h = (h.0, ap (λ (o : Option ℕ). first_coun
 passed_first true true mark count h = (h.0, ap (λ (o : Option ℕ). first_count o count) h.1, h.2)
 
 -- the note says of the latest link of a number what that link had refused
-pub noted_latest : (d : ℕ) (ss : List Session) → noted d (Some (counts ss)) ≡ option_map (λ s. s.refused) (latest number_of d ss)
+pub noted_latest : (d : ℕ) (ss : List Session) → noted d (Some (counts ss)) ≡ option_map (λ s. s.refused) (latest session_number d ss)
 noted_latest d [] = refl
 noted_latest d (s ∷ ss) = from (s.number == d) (noted_latest d ss)
   where
-    from : (t : Bool) → noted d (Some (counts ss)) ≡ option_map (λ s. s.refused) (latest number_of d ss)
+    from : (t : Bool) → noted d (Some (counts ss)) ≡ option_map (λ s. s.refused) (latest session_number d ss)
         → option_map (λ c. c.refused) (if t then Some (record { number = s.number; refused = s.refused }) else latest count_of d (counts ss))
-        ≡ option_map (λ s. s.refused) (if t then Some s else latest number_of d ss)
+        ≡ option_map (λ s. s.refused) (if t then Some s else latest session_number d ss)
     from true e = refl
     from false e = e

@@ -3,7 +3,7 @@ use Rattle.std.proofs.Common.{true≢false, ◌≡◌, ℕ, List, ◌++◌, Bool
 use Rattle.std.proofs.lemmas.Option.{none-some}
 use Rattle.std.specs.Option.{option_map}
 use Rattle.muck_links.specs.Keyed.{latest}
-use Rattle.muck_links.specs.Sessions.{Session, number_of, accepted}
+use Rattle.muck_links.specs.Sessions.{Session, session_number, accepted}
 use Rattle.spec_events.specs.World.{World}
 use Rattle.spec_talks.specs.Talks.{Talk}
 use Rattle.muck_model.specs.declared.note.Count.{Count}
@@ -61,13 +61,13 @@ keeps_noted cs p t s is k = record {
 
 -- the latest link of a number is ours where it has a peer
 pub latest_ours : (d : ℕ) (coming : Option ℕ) (extra mine before : List Session) (s : Session) → Waits coming extra → ((c : ℕ) → coming ≡ Some c → ¬ (c ≡ d))
-    → latest number_of d mine ≡ Some s → latest number_of d (extra ++ (mine ++ before)) ≡ Some s
+    → latest session_number d mine ≡ Some s → latest session_number d (extra ++ (mine ++ before)) ≡ Some s
 latest_ours d None extra mine before s waits away there =
-    ap (λ (l : List Session). latest number_of d (l ++ (mine ++ before))) waits ∙ latest_front number_of d mine before s there
+    ap (λ (l : List Session). latest session_number d (l ++ (mine ++ before))) waits ∙ latest_front session_number d mine before s there
 latest_ours d (Some c) extra mine before s waits away there =
-    ap (λ (l : List Session). latest number_of d (l ++ (mine ++ before))) waits
-    ∙ latest_behind number_of d (accepted c) (mine ++ before) (away c refl)
-    ∙ latest_front number_of d mine before s there
+    ap (λ (l : List Session). latest session_number d (l ++ (mine ++ before))) waits
+    ∙ latest_behind session_number d (accepted c) (mine ++ before) (away c refl)
+    ∙ latest_front session_number d mine before s there
 
 -- The note is made: of all links, as they are now.
 pub books_noted : (b : Tally) (ts : List Talk) (hs : List World) (k : Tally) (peers : List Peer) (coming : Option ℕ)
@@ -84,7 +84,7 @@ books_noted b ts hs k peers coming bk = record {
       let count : noted m.1.number (Some (counts k.told.sessions)) ≡ Some m.1.refused =
       ap (λ (n : ℕ). noted n (Some (counts k.told.sessions))) m.4.link_number
       ∙ noted_latest p.number k.told.sessions
-      ∙ ap (λ (l : List Session). option_map (λ s. s.refused) (latest number_of p.number l)) bk.whole
+      ∙ ap (λ (l : List Session). option_map (λ s. s.refused) (latest session_number p.number l)) bk.whole
       ∙ ap (option_map (λ s. s.refused)) ours in
       (m.0, m.1, m.2, m.3, keeps_noted (counts k.told.sessions) p m.0 m.1 count m.4);
   apart = bk.apart;

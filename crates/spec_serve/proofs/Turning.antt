@@ -13,7 +13,7 @@ use Rattle.muck_model.specs.declared.event.Event.TheVariants.{Opened, Input, Clo
 use Rattle.spec_events.specs.World.{World, queue_of}
 use Rattle.spec_events.specs.Histories.{after, AllLawful, by_porter}
 use Rattle.spec_talks.specs.Parties.{party_of, worlds_at, halts, is_halt}
-use Rattle.spec_talks.specs.Talks.{Talk, talked, talks, heard, given_out}
+use Rattle.spec_talks.specs.Talks.{Talk, talked, talks, line_heard, given_out}
 use Rattle.spec_talks.proofs.Talking.{talks_same, talks_turned}
 use Rattle.spec_talks.proofs.Halting.{halts_same, halts_turned}
 use Rattle.spec_serve.specs.Marks.{LinksNote}
@@ -58,7 +58,7 @@ module _ (w : World) (seen h : List Entry) (lawful : AllLawful w h) (more : Star
       → BooksOf counted b w (h ++ by_porter (Input p.number line) ∷ []) k (set peers i (record p { cut = record { ready = rest; rest = p.cut.rest } })) coming
   turn_heard counted b k peers coming i p line rest at is bk =
       turned counted b k _ coming (Input p.number line) refl
-      (books_talked counted b (talks w seen) (worlds_at is_halt w seen) k peers coming i p _ (heard line) at refl (λ t. refl) (λ t s x. keeps_heard counted p t s line rest is x) bk)
+      (books_talked counted b (talks w seen) (worlds_at is_halt w seen) k peers coming i p _ (line_heard line) at refl (λ t. refl) (λ t s x. keeps_heard counted p t s line rest is x) bk)
 
   -- bytes are taken, where none was kept
   pub turn_taken : (counted : LinksNote) (b k : Tally) (peers : List Peer) (coming : Option ℕ) (i : ℕ) (p : Peer) (n : ℕ)

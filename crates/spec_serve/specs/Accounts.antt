@@ -4,7 +4,7 @@ use Rattle.turn_lock.specs.Histories.{StartsWith}
 use Rattle.muck_links.specs.Lines.{lines}
 use Rattle.muck_links.specs.Sessions.{Session}
 use Rattle.muck_model.specs.declared.event.Event.TheVariants.{Input}
-use Rattle.muck_queue.specs.Queues.{is_tied}
+use Rattle.muck_queue.specs.Queues.{has_process_tied}
 use Rattle.spec_live.specs.Connections.{is_ready}
 use Rattle.spec_events.specs.World.{World, queue_of, is_leaving}
 use Rattle.spec_events.specs.Steps.{passes, is_lawful}
@@ -28,7 +28,7 @@ HeardAll w t s = (t.entered ≡ lines s.read) ⊎ ((line : List ℕ) → is_lawf
 pub data Cause (counted : LinksNote) (w : World) (t : Talk) (s : Session) : Type 0 where
   faulted : 0 < s.faults → Cause counted w t s
   left : is_leaving t.number w ≡ true → queue_of t.number w ≡ [] → s.written ≡ t.sent → Cause counted w t s
-  tied : (n : ℕ) → s.ended ≡ Some n → HeardAll w t s → is_tied t.number w.queue ≡ true → Cause counted w t s
+  tied : (n : ℕ) → s.ended ≡ Some n → HeardAll w t s → has_process_tied t.number w.queue ≡ true → Cause counted w t s
   ended : (n : ℕ) → s.ended ≡ Some n → HeardAll w t s → WorkedOff counted w t s → Cause counted w t s
   stopped : w.stopping ≡ true → WorkedOff counted w t s → Cause counted w t s
 

@@ -4,7 +4,7 @@ use mathlib.Core.Option.{some}
 use lib.ListN.{get_elem?}
 use Rattle.muck_io.specs.Faults.{Rose}
 use Rattle.muck_links.specs.Keyed.{latest}
-use Rattle.muck_links.specs.Sessions.{Session, Told, number_of}
+use Rattle.muck_links.specs.Sessions.{Session, LinksTold, session_number}
 use Rattle.muck_model.specs.declared.event.Entry.{Entry}
 use Rattle.spec_events.specs.World.{World, connection}
 use Rattle.spec_talks.specs.Parties.{worlds_at, is_halt}
@@ -15,7 +15,7 @@ use Rattle.spec_serve.specs.Accounts.{Agrees, WorkedOff}
 
 -- what the links tell, with the count of faults in listening
 pub record Tally : Type 0 where
-  pub told : Told
+  pub told : LinksTold
   pub listening : ℕ
 
 -- A run is stopped where listening failed, or where no link will come any more and nobody is connected.
@@ -52,4 +52,4 @@ sessions_with d (s ∷ ss) = if s.number == d then sessions_with d ss ++ s ∷ [
 -- each connection that is open is worked off in this world
 abbrev pub OpenWorkedOff : LinksNote → World → List Talk → Tally → Type 0
 OpenWorkedOff counted w ts k = (d : ℕ) (t : Talk) → latest talk_of d ts ≡ Some t → t.closed ≡ None
-    → (s : Session) × (latest number_of d k.told.sessions ≡ Some s) × WorkedOff counted w t s
+    → (s : Session) × (latest session_number d k.told.sessions ≡ Some s) × WorkedOff counted w t s

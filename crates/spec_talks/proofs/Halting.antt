@@ -2,6 +2,7 @@
 use Rattle.std.proofs.Common.{◌≡◌, ℕ, Bool, true, false, cond, List, [], ◌∷◌, ◌++◌, refl, sym, ap, ◌∙◌, subst}
 use Rattle.std.specs.Prelude.{◌==◌, if◌then◌else◌}
 use Rattle.std.proofs.lemmas.List.{append-nil}
+use Rattle.muck_laws.proofs.Truths.{opposed}
 use Rattle.turn_lock.specs.Histories.{own_of, StartsWith}
 use Rattle.muck_model.specs.declared.event.Entry.{Entry}
 use Rattle.muck_model.specs.declared.event.Event.{Event}
@@ -10,15 +11,15 @@ use Rattle.spec_events.specs.World.{World}
 use Rattle.spec_events.specs.Steps.{is_lawful, effect}
 use Rattle.spec_events.specs.Histories.{after, AllLawful}
 use Rattle.spec_talks.specs.Parties.{party_of, worlds_at, halts, is_halt}
-use Rattle.spec_talks.proofs.Histories.{lawful_back, worlds_append, worlds_one, both_ways, not_first, others_own}
+use Rattle.spec_talks.proofs.Histories.{lawful_back, worlds_append, worlds_one, not_first, others_own}
 
 -- where another party does something, the run isn't stopped
 halts_other : (w : World) (p : ℕ) (event : Event) → is_lawful w (record { party = p; event = event }) ≡ true → (p == 0) ≡ false → halts event ≡ false
 unfolding is_lawful
-halts_other w p Halt l other = absurd (both_ways (p == 0) (from w.dead l) other)
+halts_other w p Halt l other = absurd (opposed (p == 0) (from w.dead l) other)
   where
     from : (dead : Bool) → cond dead false (p == 0) ≡ true → (p == 0) ≡ true
-    from true e = absurd (both_ways false e refl)
+    from true e = absurd (opposed false e refl)
     from false e = e
 halts_other w p event l other = refl
 

@@ -1,7 +1,7 @@
 -- Histories that go on.
-use Rattle.std.proofs.Common.{◌≡◌, Bool, true, false, cond, List, [], ◌∷◌, ◌++◌, refl, sym, ap, ◌∙◌}
+use Rattle.std.proofs.Common.{◌≡◌, Bool, true, false, List, [], ◌∷◌, ◌++◌, refl, sym, ap, ◌∙◌}
 use Rattle.std.specs.Prelude.{◌==◌, if◌then◌else◌}
-use Rattle.turn_lock.specs.Histories.{kept, own_of}
+use Rattle.turn_lock.specs.Histories.{entry_kept, own_of}
 use Rattle.turn_lock.proofs.Parts.{own_append}
 use Rattle.muck_model.specs.declared.event.Entry.{Entry}
 use Rattle.spec_events.specs.World.{World}
@@ -35,14 +35,6 @@ worlds_one test w h e = worlds_append test w h (e ∷ [])
 
 -- Whose an entry is.
 
-pub both_ways : (t : Bool) → t ≡ true → t ≡ false → ⊥
-both_ways t a b = cc
-
--- what is lawful and isn't Died is allowed
-pub allowed_one : (dead died allowed : Bool) → cond dead died allowed ≡ true → died ≡ false → allowed ≡ true
-allowed_one true died allowed l alive = absurd (both_ways died l alive)
-allowed_one false died allowed l alive = l
-
 -- who has no entry in a list
 pub not_first : (e : Entry) (es : List Entry) → own_of party_of 0 (e ∷ es) ≡ [] → ((e.party == 0) ≡ false) × (own_of party_of 0 es ≡ [])
 not_first e es is = from (e.party == 0) refl is
@@ -50,7 +42,7 @@ not_first e es is = from (e.party == 0) refl is
     some_none : Entry → List Entry → ◌≡◌ {A = List Entry} (e ∷ own_of party_of 0 es) [] → ⊥
     some_none x xs h = cc
 
-    from : (t : Bool) → (e.party == 0) ≡ t → kept t e (own_of party_of 0 es) ≡ [] → ((e.party == 0) ≡ false) × (own_of party_of 0 es ≡ [])
+    from : (t : Bool) → (e.party == 0) ≡ t → entry_kept t e (own_of party_of 0 es) ≡ [] → ((e.party == 0) ≡ false) × (own_of party_of 0 es ≡ [])
     from true t_is h = absurd (some_none e es h)
     from false t_is h = (t_is, h)
 

@@ -2,7 +2,8 @@
 use Rattle.std.proofs.Common.{◌≡◌, ℕ, Bool, true, false, List, [], ◌∷◌, refl, sym, ap, ◌∙◌, subst}
 use Rattle.std.specs.Prelude.{◌==◌}
 use Rattle.std.proofs.lemmas.Bool.{and_parts}
-use Rattle.turn_lock.specs.Histories.{kept, own_of, StartsWith}
+use Rattle.muck_laws.proofs.Truths.{allowed_one, opposed}
+use Rattle.turn_lock.specs.Histories.{entry_kept, own_of, StartsWith}
 use Rattle.muck_model.specs.declared.event.Entry.{Entry}
 use Rattle.muck_model.specs.declared.event.Event.{Event}
 use Rattle.muck_model.specs.declared.event.Event.TheVariants.{Moment, Exec, Slice}
@@ -15,7 +16,7 @@ use Rattle.spec_events.proofs.Happening.{effect-moment}
 use Rattle.spec_events.proofs.Taken.{sliced_going}
 use Rattle.spec_talks.specs.inner.Moments.{second_behind, second_on}
 use Rattle.spec_talks.specs.Parties.{party_of}
-use Rattle.spec_talks.proofs.Histories.{lawful_back, both_ways, allowed_one, not_first, others_own}
+use Rattle.spec_talks.proofs.Histories.{lawful_back, not_first, others_own}
 
 -- an event leaves the second, but for a moment
 second_happened : (event : Event) (w : World) (party : ℕ) → (happened w party event).moment ≡ second_behind w.moment event
@@ -35,7 +36,7 @@ second_after w (e ∷ es) = second_after (effect w e) es ∙ ap (λ (n : ℕ). s
 -- which others don't enter
 second_other : (w : World) (p : ℕ) (event : Event) (second : ℕ) → is_lawful w (record { party = p; event = event }) ≡ true → (p == 0) ≡ false → second_behind second event ≡ second
 unfolding is_lawful
-second_other w p (Moment t) second l other = absurd (both_ways (p == 0) (and_parts (p == 0) _ (allowed_one w.dead false _ l refl)).0 other)
+second_other w p (Moment t) second l other = absurd (opposed (p == 0) (and_parts (p == 0) _ (allowed_one w.dead false _ l refl)).0 other)
 second_other w p event second l other = refl
 
 second_others : (w : World) (rest : List Entry) (second : ℕ) → AllLawful w rest → own_of party_of 0 rest ≡ [] → second_on second rest ≡ second
@@ -50,7 +51,7 @@ second_own w [] second l = refl
 second_own w (e ∷ es) second l = from (e.party == 0) refl (λ (n : ℕ). second_own (effect w e) es n l.1)
   where
     from : (t : Bool) → (e.party == 0) ≡ t → ((n : ℕ) → second_on n es ≡ second_on n (own_of party_of 0 es))
-        → second_on (second_behind second e.event) es ≡ second_on second (kept t e (own_of party_of 0 es))
+        → second_on (second_behind second e.event) es ≡ second_on second (entry_kept t e (own_of party_of 0 es))
     from true is ih = ih (second_behind second e.event)
     from false is ih = ap (λ (n : ℕ). second_on n es) (second_other w e.party e.event second l.0 is) ∙ ih second
 

@@ -2,6 +2,7 @@
 use Rattle.std.proofs.Common.{◌≡◌, ℕ, Bool, true, false, List, [], ◌∷◌, ◌++◌, refl, sym, ap, ◌∙◌, subst}
 use Rattle.std.specs.Prelude.{◌==◌}
 use Rattle.std.proofs.lemmas.Bool.{and_parts}
+use Rattle.muck_laws.proofs.Truths.{allowed_one, opposed}
 use Rattle.turn_lock.specs.Histories.{own_of, StartsWith}
 use Rattle.muck_model.specs.declared.event.Entry.{Entry}
 use Rattle.muck_model.specs.declared.event.Event.{Event}
@@ -11,7 +12,7 @@ use Rattle.spec_events.specs.Steps.{is_allowed, is_lawful, effect}
 use Rattle.spec_events.specs.Histories.{after, AllLawful}
 use Rattle.spec_talks.specs.Parties.{party_of}
 use Rattle.spec_talks.specs.Talks.{Talk, talked, talks_on, talks}
-use Rattle.spec_talks.proofs.Histories.{lawful_back, both_ways, allowed_one, not_first, others_own}
+use Rattle.spec_talks.proofs.Histories.{lawful_back, not_first, others_own}
 
 -- events that change a talk
 abbrev is_talk : Event → Bool
@@ -36,15 +37,15 @@ first_alone w p (Opened d) l is = (and_parts (p == 0) _ (and_parts _ _ (and_part
 first_alone w p (Input d line) l is = (and_parts (p == 0) _ (and_parts _ _ l).0).0
 first_alone w p (Closed d) l is = (and_parts (p == 0) _ l).0
 first_alone w p (Take d n) l is = (and_parts (p == 0) _ (and_parts _ _ l).0).0
-first_alone w p event l is = absurd (both_ways false is refl)
+first_alone w p event l is = absurd (opposed false is refl)
 
 -- the talks don't change where another party does something
 pub talked_other : (w : World) (p : ℕ) (event : Event) (ts : List Talk) → is_lawful w (record { party = p; event = event }) ≡ true → (p == 0) ≡ false → talked w event ts ≡ ts
 unfolding is_lawful
-talked_other w p (Opened d) ts l other = absurd (both_ways (p == 0) (first_alone w p (Opened d) (allowed_one w.dead false _ l refl) refl) other)
-talked_other w p (Input d line) ts l other = absurd (both_ways (p == 0) (first_alone w p (Input d line) (allowed_one w.dead false _ l refl) refl) other)
-talked_other w p (Closed d) ts l other = absurd (both_ways (p == 0) (first_alone w p (Closed d) (allowed_one w.dead false _ l refl) refl) other)
-talked_other w p (Take d n) ts l other = absurd (both_ways (p == 0) (first_alone w p (Take d n) (allowed_one w.dead false _ l refl) refl) other)
+talked_other w p (Opened d) ts l other = absurd (opposed (p == 0) (first_alone w p (Opened d) (allowed_one w.dead false _ l refl) refl) other)
+talked_other w p (Input d line) ts l other = absurd (opposed (p == 0) (first_alone w p (Input d line) (allowed_one w.dead false _ l refl) refl) other)
+talked_other w p (Closed d) ts l other = absurd (opposed (p == 0) (first_alone w p (Closed d) (allowed_one w.dead false _ l refl) refl) other)
+talked_other w p (Take d n) ts l other = absurd (opposed (p == 0) (first_alone w p (Take d n) (allowed_one w.dead false _ l refl) refl) other)
 talked_other w p event ts l other = refl
 
 talks_on_others : (w : World) (ts : List Talk) (rest : List Entry) → AllLawful w rest → own_of party_of 0 rest ≡ [] → talks_on w ts rest ≡ ts

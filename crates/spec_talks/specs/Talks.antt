@@ -17,14 +17,14 @@ pub record Talk : Type 0 where
   pub last : ℕ
   pub closed : Option World
 
-abbrev pub begun : ℕ → Talk
-begun d = record { number = d; entered = []; sent = []; last = 0; closed = None }
+abbrev pub talk_begun : ℕ → Talk
+talk_begun d = record { number = d; entered = []; sent = []; last = 0; closed = None }
 
 abbrev pub talk_of : Talk → ℕ
 talk_of t = t.number
 
-abbrev pub heard : List ℕ → Talk → Talk
-heard line t = record t { entered = t.entered ++ line ∷ [] }
+abbrev pub line_heard : List ℕ → Talk → Talk
+line_heard line t = record t { entered = t.entered ++ line ∷ [] }
 
 abbrev pub given_out : List ℕ → ℕ → Talk → Talk
 given_out bytes n t = record t { sent = t.sent ++ bytes; last = n }
@@ -38,8 +38,8 @@ retold d change ts = altered talk_of d change ts
 
 -- what an event adds in this world
 abbrev pub talked : World → Event → List Talk → List Talk
-talked w (Opened d) ts = begun d ∷ ts
-talked w (Input d line) ts = retold d (heard line) ts
+talked w (Opened d) ts = talk_begun d ∷ ts
+talked w (Input d line) ts = retold d (line_heard line) ts
 talked w (Take d n) ts = retold d (given_out (take n (queue_of d w)) n) ts
 talked w (Closed d) ts = retold d (ended_in w) ts
 talked w event ts = ts
@@ -59,8 +59,8 @@ talks_with d [] = []
 talks_with d (t ∷ ts) = if t.number == d then talks_with d ts ++ t ∷ [] else talks_with d ts
 
 -- The bytes that were taken for d between its opening of this place, from 0 on, and the next one.
-abbrev pub sent : World → List Entry → ℕ → ℕ → List ℕ
-sent w h d place = option_map_or (λ t. t.sent) (slice_get (talks_with d (talks w h)) place) []
+abbrev pub bytes_sent : World → List Entry → ℕ → ℕ → List ℕ
+bytes_sent w h d place = option_map_or (λ t. t.sent) (slice_get (talks_with d (talks w h)) place) []
 
 abbrev pub is_open : Option Talk → Bool
 is_open o = option_map_or (λ t. is_none t.closed) o false

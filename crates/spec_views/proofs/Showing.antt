@@ -10,8 +10,8 @@ use Rattle.std.proofs.lemmas.List.{append-nil, append_assoc, length-take}
 use Rattle.muck_model.specs.Bytes.{text_most}
 use Rattle.muf_debug.specs.declared.places.Spot.{Spot}
 use Rattle.muf_debug.specs.declared.view.View.{View}
-use Rattle.muf_debug.specs.Printed.{head_text, values_text, top_of, scope_text, printed}
-use Rattle.muf_debug.specs.Shown.{Tracer, Lasts, new_tracer, same_spot, spot_of, is_shown as shows, told, told_all}
+use Rattle.muf_debug.specs.Printed.{head_text, values_text, top_of, scope_text, view_printed}
+use Rattle.muf_debug.specs.Shown.{Tracer, Lasts, new_tracer, same_spot, spot_of, is_unit_shown as shows, view_told, views_told}
 use Rattle.spec_events.specs.World.{World}
 use Rattle.spec_events.specs.Slices.{Taken, units_of}
 use Rattle.spec_views.specs.Views.{view_of}
@@ -31,25 +31,25 @@ seen_more u seen last h v = ap (λ o. option_map_or (same_spot (spot_of v)) o fa
 
 -- a line more is kept, or none
 line_more : (b : Bool) (kept : List (List ℕ)) (v : View) (more : List View)
-    → cond b (kept ++ printed v ∷ []) kept ++ map printed more ≡ kept ++ map printed (cond b (v ∷ more) more)
-line_more true kept v more = append_assoc kept (printed v ∷ []) (map printed more)
+    → cond b (kept ++ view_printed v ∷ []) kept ++ map view_printed more ≡ kept ++ map view_printed (cond b (v ∷ more) more)
+line_more true kept v more = append_assoc kept (view_printed v ∷ []) (map view_printed more)
 line_more false kept v more = refl
 
-keeps_behind : (vs seen : List View) (t : Tracer) → Follows seen t.last → (told_all vs t).kept ≡ t.kept ++ map printed (shown_behind seen t.on t.breaks vs)
-unfolding told_all told shows
+keeps_behind : (vs seen : List View) (t : Tracer) → Follows seen t.last → (views_told vs t).kept ≡ t.kept ++ map view_printed (shown_behind seen t.on t.breaks vs)
+unfolding views_told view_told shows
 keeps_behind [] seen t h = sym (append-nil t.kept)
 keeps_behind (v ∷ vs) seen t h =
-    keeps_behind vs (v ∷ seen) (told v t) (seen_more v seen t.last h)
-    ∙ ap (λ b. cond (t.on || (has_break t.breaks v && not b)) (t.kept ++ printed v ∷ []) t.kept ++ map printed (shown_behind (v ∷ seen) t.on t.breaks vs)) (h v)
+    keeps_behind vs (v ∷ seen) (view_told v t) (seen_more v seen t.last h)
+    ∙ ap (λ b. cond (t.on || (has_break t.breaks v && not b)) (t.kept ++ view_printed v ∷ []) t.kept ++ map view_printed (shown_behind (v ∷ seen) t.on t.breaks vs)) (h v)
     ∙ line_more (is_shown t.on t.breaks seen v) t.kept v (shown_behind (v ∷ seen) t.on t.breaks vs)
 
 -- several more are seen
-seen_all : (vs past : List View) (t : Tracer) → Follows past t.last → Follows (reverse vs ++ past) (told_all vs t).last
-unfolding told_all told
+seen_all : (vs past : List View) (t : Tracer) → Follows past t.last → Follows (reverse vs ++ past) (views_told vs t).last
+unfolding views_told view_told
 seen_all [] past t h = h
 seen_all (v ∷ vs) past t h =
     let order : reverse vs ++ (v ∷ past) ≡ reverse (v ∷ vs) ++ past = sym (append_assoc (reverse vs) (v ∷ []) past) ∙ ap (λ us. us ++ past) (sym (reverse_onto vs v [])) in
-    subst (λ (us : List View). Follows us (told_all vs (told v t)).last) order (seen_all vs (v ∷ past) (told v t) (seen_more v past t.last h))
+    subst (λ (us : List View). Follows us (views_told vs (view_told v t)).last) order (seen_all vs (v ∷ past) (view_told v t) (seen_more v past t.last h))
 
 none_seen : Follows [] new_tracer.last
 unfolding new_tracer
@@ -58,7 +58,7 @@ none_seen v = ap (λ o. option_map_or (same_spot (spot_of v)) o false) (get-empt
 pub keeps_those : (seen : List View) (on : Bool) (breaks : List Spot) (vs : List View) → KeepsThose seen on breaks vs
 keeps_those seen on breaks vs =
     keeps_behind vs (reverse seen) (tracer_behind seen on breaks)
-    (subst (λ (us : List View). Follows us (told_all seen new_tracer).last) (append-nil (reverse seen)) (seen_all seen [] new_tracer none_seen))
+    (subst (λ (us : List View). Follows us (views_told seen new_tracer).last) (append-nil (reverse seen)) (seen_all seen [] new_tracer none_seen))
 
 is_within : (bytes : List ℕ) → length (take text_most bytes) ≤ text_most
 is_within bytes = omega (arith, length-take text_most bytes)

@@ -6,8 +6,8 @@ use Rattle.muck_model.specs.declared.dbref.Dbref.{Dbref}
 use Rattle.muck_model.specs.Bytes.{text_most}
 use Rattle.muf_debug.specs.declared.places.Spot.{Spot}
 use Rattle.muf_debug.specs.declared.view.View.{View}
-use Rattle.muf_debug.specs.Printed.{printed}
-use Rattle.muf_debug.specs.Shown.{Tracer, new_tracer, told_all}
+use Rattle.muf_debug.specs.Printed.{view_printed}
+use Rattle.muf_debug.specs.Shown.{Tracer, new_tracer, views_told}
 use Rattle.spec_events.specs.World.{World}
 use Rattle.spec_events.specs.Slices.{units_of}
 use Rattle.spec_views.specs.Views.{views_of}
@@ -39,15 +39,15 @@ shown_behind seen on breaks (v ∷ vs) =
 
 -- a tracer that was told of these units, whatever it showed of them, and shows so from now on
 abbrev pub tracer_behind : List View → Bool → List Spot → Tracer
-tracer_behind seen on breaks = record (told_all seen new_tracer) { on = on; breaks = breaks; kept = [] }
+tracer_behind seen on breaks = record (views_told seen new_tracer) { on = on; breaks = breaks; kept = [] }
 
 -- it keeps the lines of those that are shown, in their order
 abbrev pub KeepsThose : List View → Bool → List Spot → List View → Type 0
-KeepsThose seen on breaks vs = (told_all vs (tracer_behind seen on breaks)).kept ≡ map printed (shown_behind (reverse seen) on breaks vs)
+KeepsThose seen on breaks vs = (views_told vs (tracer_behind seen on breaks)).kept ≡ map view_printed (shown_behind (reverse seen) on breaks vs)
 
 -- a line is no longer than a text may be
 abbrev pub IsCut : View → Type 0
-IsCut v = length (printed v) ≤ text_most
+IsCut v = length (view_printed v) ≤ text_most
 
 -- each unit of a slice is seen once, and none is of another process
 abbrev pub SeesEach : ℤ → World → Type 0

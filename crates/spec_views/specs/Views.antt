@@ -1,13 +1,13 @@
 -- What is seen of a slice.
 use Rattle.std.specs.Prelude.{ℤ, List, map}
 use Rattle.muf_debug.specs.declared.view.View.{View}
-use Rattle.muf_debug.specs.Views.{seen_at}
+use Rattle.muf_debug.specs.Views.{view_at}
 use Rattle.spec_events.specs.World.{World}
 use Rattle.spec_events.specs.Slices.{Taken, units_of}
 
 -- the process before a unit that it took
 abbrev pub view_of : ℤ → Taken → View
-view_of pid t = seen_at pid t.state
+view_of pid t = view_at pid t.state
 
 -- before each unit of a slice of the process
 abbrev pub views_of : ℤ → World → List View

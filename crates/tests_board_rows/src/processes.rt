@@ -3,7 +3,7 @@ ghost use Rattle.std.specs.Prelude.{◌≡◌, IfOk};
 ghost use Rattle.muf_model.specs.inner.Stands.{TreeStands};
 ghost use Rattle.muf_model.specs.inner.Decode.{tree_of};
 
-use crate::world::TUNE;
+use crate::world::tune;
 use muck_model::{Dbref, NoMemory, Row};
 use muck_queue::{Events, Mode, Process, Queue, Wait};
 use muf_model::{Closer, Code, CodeWord, Instr, Offer, Placed, Shared, Text, Value};
@@ -76,7 +76,7 @@ fn add(
         events: Events::new(alloc),
         running: Some(running),
     };
-    let added = queue.add(process, &TUNE);
+    let added = queue.add(process, &tune());
     write!(out, "{added:?}")?;
     Ok(())
 }
@@ -117,7 +117,7 @@ pub fn queue(
         }
         b"kill" => Ok(write!(out, "{}", queue.kill(pid))?),
         b"show" => told(out, queue.get(pid)),
-        b"full" => Ok(write!(out, "{}", queue.is_full(player, &TUNE))?),
+        b"full" => Ok(write!(out, "{}", queue.is_full(player, &tune()))?),
         b"tied" => Ok(write!(out, "{}", queue.is_tied(u32::from(number)))?),
         _ => Ok(write!(out, "{}", queue.len())?),
     }

@@ -8,16 +8,12 @@ use std::alloc::Global;
 use tests_rows::{Rows, Words, name, unfolded};
 
 /// At most 4 processes, and 3 of a player.
-pub const TUNE: Tune = Tune {
-    instr_slice: 2000,
-    preempt_units: 20_000,
-    m1_units: 20_000,
-    m2_units: 80_000,
-    process_limit: 4,
-    player_processes: 3,
-    mpi_commands: 2048,
-    dump_interval: 900,
-};
+pub fn tune() -> Tune {
+    let mut tune = Tune::first();
+    tune.process_limit = 4;
+    tune.player_processes = 3;
+    tune
+}
 
 /// Connections, the objects that hear through them, and processes.
 #[derive(Drop)]
@@ -35,7 +31,7 @@ impl World {
         Ok(World {
             alloc,
             db,
-            board: Board::new(alloc, 0, TUNE),
+            board: Board::new(alloc, 0, tune()),
             queue: Queue::new(alloc),
         })
     }

@@ -8,17 +8,6 @@ use spec_rights::Actor;
 use std::alloc::Global;
 use tests_rows::{Rows, Words, add, line, name};
 
-const TUNE: Tune = Tune {
-    instr_slice: 2000,
-    preempt_units: 20_000,
-    m1_units: 20_000,
-    m2_units: 80_000,
-    process_limit: 4,
-    player_processes: 3,
-    mpi_commands: 2048,
-    dump_interval: 900,
-};
-
 /// The most bytes that are taken from a connection.
 const MOST: usize = 5000;
 
@@ -38,7 +27,7 @@ impl Messages {
         Ok(Messages {
             alloc,
             db,
-            board: Board::new(alloc, 0, TUNE),
+            board: Board::new(alloc, 0, Tune::first()),
             actor: Actor {
                 level: 4,
                 user: Dbref(1),

@@ -2,8 +2,8 @@
 use Rattle.std.proofs.Common.{◌≡◌, ℕ, List, refl, ap, Some}
 use Rattle.std.specs.Prelude.{All}
 use Rattle.muck_codec.specs.inner.Stored.{AreProperties}
-use Rattle.muck_crew.specs.inner.Runs.{IsFresh}
-use Rattle.muck_dumping.specs.inner.Between.{IsReady as HasLog}
+use Rattle.muck_server.specs.inner.Runs.{IsFresh}
+use Rattle.muck_server.specs.inner.Between.{IsReady as HasLog}
 use Rattle.muck_log.specs.inner.Mount.{IsMountedAs}
 use Rattle.muck_log.specs.Store.{LogState}
 use Rattle.muck_model.specs.declared.note.Note.{Note}
@@ -12,12 +12,12 @@ use Rattle.muck_run.specs.inner.Dumps.{note_of}
 use Rattle.muck_run.specs.inner.Ends.{IsBootable, unbegun_at, begun_at}
 use Rattle.spec_dumps.specs.Fronts.{file_most}
 use Rattle.spec_events.specs.Histories.{History}
-use Rattle.spec_events.specs.World.{booted}
+use Rattle.spec_events.specs.World.{world_booted}
 use Rattle.spec_live.specs.Boards.{early_board}
 
 -- nothing has happened in it but the mounting
 pub fresh_begun : (began : ℕ) (log : LogState) (note : Note) (h : History) → h ≡ begun_at began log note → IsFresh note h
-unfolding booted early_board
+unfolding world_booted early_board
 fresh_begun began log note h is = record {
   entries = ap (λ (x : History). x.entries) is;
   notes = ap (λ (x : History). x.notes) is;

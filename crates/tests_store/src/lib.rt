@@ -9,13 +9,11 @@ mod mirrors;
 mod records;
 #[cfg(test)]
 mod runs;
-mod start;
 
-use crate::start::start_tune;
 use muck_codec::Batch;
 use muck_disk::Disk;
 use muck_log::{Log, LogFault};
-use muck_model::Row;
+use muck_model::{Row, Tune};
 use std::alloc::Global;
 
 /// Mounts, and writes a batch that leaves out the record of every object: what an empty run does.
@@ -30,7 +28,7 @@ pub fn run_once<D: Disk>(
     let mut log = Log::mount(alloc, first, second, most)?;
     let batch = Batch {
         records: Row::new(alloc)?,
-        tune: start_tune(),
+        tune: Tune::first(),
     };
     log.append(first, second, batch)
 }

@@ -6,17 +6,6 @@ use muck_model::{NoMemory, Tune};
 use std::alloc::Global;
 use tests_rows::{Rows, Words, unfolded};
 
-const TUNE: Tune = Tune {
-    instr_slice: 2000,
-    preempt_units: 20_000,
-    m1_units: 20_000,
-    m2_units: 80_000,
-    process_limit: 4,
-    player_processes: 3,
-    mpi_commands: 2048,
-    dump_interval: 900,
-};
-
 /// Objects, and connections that hear what a guard tells.
 #[derive(Drop)]
 pub struct World {
@@ -32,7 +21,7 @@ impl World {
         Ok(World {
             alloc,
             db,
-            board: Board::new(alloc, 0, TUNE),
+            board: Board::new(alloc, 0, Tune::first()),
         })
     }
 

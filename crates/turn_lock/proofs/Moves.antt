@@ -6,6 +6,7 @@ use mathlib.Core.Option.{Option as Maybe, some, none, some-ne-none, some-injecti
 use mathlib.Core.Logic.{dite}
 use native.Mathlib.Decide.{dec_le, ℕ_discrete}
 use lib.ListN.{get_elem?}
+use Rattle.muck_laws.proofs.Places.{length_set}
 use Rattle.atomic_table.specs.Table.{State, Me, keeps, takes, gives, Step, step, Allows, stepped, put_back, rest, opening, Splits, Joins, Final, Seen}
 use Rattle.atomic_table.proofs.Lists.{at_set, set_else, at_snoc, at_longer}
 use Rattle.turn_lock.specs.declared.view.Taken.{Taken}
@@ -32,11 +33,6 @@ told_le Told = omega arith
 told_le Gone = omega arith
 told_le (Waits n) = omega arith
 told_le (Holds n) = omega arith
-
-length_set : {A : Type 0} (xs : List A) (i : ℕ) (a : A) → length (set xs i a) ≡ length xs
-length_set [] i a = refl
-length_set (x ∷ xs) zero a = refl
-length_set (x ∷ xs) (suc i) a = ap suc (length_set xs i a)
 
 module _ {E B : Type 0} where
   each_set : (ticket serving : ℕ) (log : List E) (views : List (View E B)) (id : ℕ) (w : View E B)

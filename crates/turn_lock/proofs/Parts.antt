@@ -6,26 +6,27 @@ use mathlib.Core.Option.{some, some-ne-none, some-injective}
 use mathlib.Core.Logic.{dite}
 use native.Mathlib.Decide.{ℕ_discrete}
 use lib.ListN.{get_elem?}
+use Rattle.muck_laws.proofs.Places.{set_swap}
 use Rattle.atomic_table.proofs.Lists.{at_set, set_else, at_snoc, at_longer}
 use Rattle.turn_lock.specs.declared.view.Taken.{Taken}
 use Rattle.turn_lock.specs.declared.view.View.{View}
-use Rattle.turn_lock.specs.Histories.{StartsWith, kept, own_of, Has, IsKnown}
+use Rattle.turn_lock.specs.Histories.{StartsWith, entry_kept, own_of, Has, IsKnown}
 use Rattle.turn_lock.specs.inner.Turns.{live_of, Parted, left_after, newcomer, kept_of, taken_in, spent_view}
 
 module _ {E : Type 0} (party : E → ℕ) where
-  kept_append : (b : Bool) (e : E) (xs ys : List E) → kept b e xs ++ ys ≡ kept b e (xs ++ ys)
+  kept_append : (b : Bool) (e : E) (xs ys : List E) → entry_kept b e xs ++ ys ≡ entry_kept b e (xs ++ ys)
   kept_append true e xs ys = refl
   kept_append false e xs ys = refl
 
   pub own_append : (p : ℕ) (xs ys : List E) → own_of party p (xs ++ ys) ≡ own_of party p xs ++ own_of party p ys
   own_append p [] ys = refl
-  own_append p (e ∷ es) ys = ap (kept (party e == p) e) (own_append p es ys) ∙ sym (kept_append (party e == p) e (own_of party p es) (own_of party p ys))
+  own_append p (e ∷ es) ys = ap (entry_kept (party e == p) e) (own_append p es ys) ∙ sym (kept_append (party e == p) e (own_of party p es) (own_of party p ys))
 
   pub own_one : (p : ℕ) (e : E) → party e ≡ p → own_of party p (e ∷ []) ≡ e ∷ []
-  own_one p e is = ap (λ (b : Bool). kept b e []) (eq-eqb (party e) p is)
+  own_one p e is = ap (λ (b : Bool). entry_kept b e []) (eq-eqb (party e) p is)
 
   pub own_other : (p : ℕ) (e : E) → ¬ (party e ≡ p) → own_of party p (e ∷ []) ≡ []
-  own_other p e not = ap (λ (b : Bool). kept b e []) (ne_eqb (party e) p not)
+  own_other p e not = ap (λ (b : Bool). entry_kept b e []) (ne_eqb (party e) p not)
 
   pub own_mine : (p : ℕ) (log : List E) (e : E) → party e ≡ p → own_of party p (log ++ e ∷ []) ≡ own_of party p log ++ e ∷ []
   own_mine p log e is = own_append p log (e ∷ []) ∙ ap (λ (l : List E). own_of party p log ++ l) (own_one p e is)
@@ -37,7 +38,7 @@ module _ {E : Type 0} (party : E → ℕ) where
   pub own_none : (p : ℕ) (log : List E) → ((i : ℕ) (e : E) → get_elem? log i ≡ some e → ¬ (party e ≡ p)) → own_of party p log ≡ []
   own_none p [] none_is = refl
   own_none p (e ∷ es) none_is =
-      ap (λ (b : Bool). kept b e (own_of party p es)) (ne_eqb (party e) p (none_is 0 e refl)) ∙ own_none p es (λ i d at. none_is (suc i) d at)
+      ap (λ (b : Bool). entry_kept b e (own_of party p es)) (ne_eqb (party e) p (none_is 0 e refl)) ∙ own_none p es (λ i d at. none_is (suc i) d at)
 
 -- a front of a history is one of a longer one
 still_front : {E : Type 0} (log seen : List E) (e : E) → StartsWith log seen → StartsWith (log ++ e ∷ []) seen
@@ -49,13 +50,6 @@ has_more xs ys x (i, at) = (i, at_longer xs ys i x at)
 pub known_map : (xs ys : List ℕ) (p : ℕ) → ((n : ℕ) → Has xs n → Has ys n) → IsKnown xs p → IsKnown ys p
 known_map xs ys p f (inl e) = inl e
 known_map xs ys p f (inr h) = inr (f p h)
-
-pub set_swap : {A : Type 0} (xs : List A) (i j : ℕ) (a b : A) → i ≢ j → set (set xs i a) j b ≡ set (set xs j b) i a
-set_swap [] i j a b ne = refl
-set_swap (x ∷ xs) zero zero a b ne = absurd (ne refl)
-set_swap (x ∷ xs) zero (suc j) a b ne = refl
-set_swap (x ∷ xs) (suc i) zero a b ne = refl
-set_swap (x ∷ xs) (suc i) (suc j) a b ne = ap (λ l. x ∷ l) (set_swap xs i j a b (λ e. ne (ap suc e)))
 
 at_end : {A : Type 0} (xs : List A) (x : A) → Has (xs ++ x ∷ []) x
 at_end [] x = (0, refl)

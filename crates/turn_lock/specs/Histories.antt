@@ -7,14 +7,14 @@ use lib.ListN.{get_elem?}
 abbrev pub StartsWith : {E : Type 0} → List E → List E → Type 0
 StartsWith {E} log seen = (rest : List E) × (log ≡ seen ++ rest)
 
-abbrev pub kept : {E : Type 0} → Bool → E → List E → List E
-kept true e es = e ∷ es
-kept false e es = es
+abbrev pub entry_kept : {E : Type 0} → Bool → E → List E → List E
+entry_kept true e es = e ∷ es
+entry_kept false e es = es
 
 -- the entries of a party, in order
 abbrev pub own_of : {E : Type 0} → (E → ℕ) → ℕ → List E → List E
 own_of party p [] = []
-own_of party p (e ∷ es) = kept (party e == p) e (own_of party p es)
+own_of party p (e ∷ es) = entry_kept (party e == p) e (own_of party p es)
 
 -- each entry
 abbrev pub AllOf : {E : Type 0} → (E → Type 0) → List E → Type 0

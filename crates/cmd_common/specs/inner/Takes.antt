@@ -9,7 +9,7 @@ use Rattle.spec_commands.specs.declared.shape.Want.TheVariants.{NewName}
 use Rattle.spec_commands.specs.declared.shape.Shape.{Shape}
 use Rattle.spec_commands.specs.declared.shape.Arguments.{Arguments}
 use Rattle.spec_commands.specs.Going.{Play}
-use Rattle.spec_commands.specs.Reading.{is_whole, left_in, right_in}
+use Rattle.spec_commands.specs.Reading.{has_all_parts, left_in, right_in}
 use Rattle.muck_perm.specs.declared.guard.Guard.{Guard}
 use Rattle.muck_perm.specs.inner.Guards.{Same, world_of}
 use Rattle.cmd_common.specs.declared.parts.Parts.{Parts}
@@ -21,8 +21,8 @@ word_row row = (row.0.now, row.1)
 
 -- the parts of a text; or one is missing
 abbrev pub IsCut : Form → List ℕ → Result (Option Parts) NoMemory → Type 0
-IsCut form text (Ok (Some parts)) = (is_whole form text ≡ true) × (parts.left ≡ left_in form text) × (parts.right ≡ right_in form text)
-IsCut form text (Ok None) = is_whole form text ≡ false
+IsCut form text (Ok (Some parts)) = (has_all_parts form text ≡ true) × (parts.left ≡ left_in form text) × (parts.right ≡ right_in form text)
+IsCut form text (Ok None) = has_all_parts form text ≡ false
 IsCut form text (Err e) = Unit {0}
 
 -- the arguments were found, nothing happened, and the line goes on with them; or it is done

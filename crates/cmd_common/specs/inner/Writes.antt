@@ -11,9 +11,9 @@ use Rattle.spec_live.specs.Lives.{Live, Change}
 use Rattle.spec_rights.specs.declared.act.Act.{Act}
 use Rattle.spec_rights.specs.declared.act.Act.TheVariants.{Move, Link as LinkAct, Change as ChangeAct, Rename, Recycle as RecycleAct, SetOwner}
 use Rattle.spec_rights.specs.Verdict.{is_guarded}
-use Rattle.spec_rights.specs.Changing.{named, owned_by, stored, recycled_now}
+use Rattle.spec_rights.specs.Changing.{name_given, object_owned_by, property_stored, recycled_now}
 use Rattle.spec_commands.specs.Going.{movable}
-use Rattle.spec_commands.specs.Building.{allowed, is_there, may_tie, tied, meant_place, placed}
+use Rattle.spec_commands.specs.Building.{allowed, is_still_there, may_tie, tied, meant_place, object_placed}
 use Rattle.spec_commands.specs.Settings.{setting_act, may_set, set_so, is_setting}
 use Rattle.muck_perm.specs.declared.guard.Guard.{Guard}
 use Rattle.muck_perm.specs.inner.Guards.{Done}
@@ -31,23 +31,23 @@ act_of (Keep x path text) = ChangeAct x
 act_of (Set x setting) = setting_act x setting
 
 abbrev pub may : Write → Live → Bool
-may (Name x name) = is_there x
+may (Name x name) = is_still_there x
 may (Owner x owner) = λ w. allowed (owner_check x owner w.objects)
 may (Place x to) = λ w. movable x (meant_place x to w) w
 may (Link x to) = may_tie x to to
 may (Unlink x) = may_tie x nothing (dbref_of 0)
 may (Recycle x) = λ w. allowed (recycle_check x w.objects)
-may (Keep x path text) = is_there x
+may (Keep x path text) = is_still_there x
 may (Set x setting) = may_set x setting
 
 abbrev pub change_of : Write → Change
-change_of (Name x name) = named x name
-change_of (Owner x owner) = owned_by x owner
-change_of (Place x to) = placed x to
+change_of (Name x name) = name_given x name
+change_of (Owner x owner) = object_owned_by x owner
+change_of (Place x to) = object_placed x to
 change_of (Link x to) = tied x to to
 change_of (Unlink x) = tied x nothing (dbref_of 0)
 change_of (Recycle x) = recycled_now x
-change_of (Keep x path text) = stored x path (Text text)
+change_of (Keep x path text) = property_stored x path (Text text)
 change_of (Set x setting) = set_so x setting
 
 -- a name is of 1 to 80 bytes, what is kept is kept at a guarded path, and a setting is of one flag

@@ -3,7 +3,7 @@ use Rattle.std.specs.Prelude.{ℕ, ◌+◌, ◌%◌, ◌==◌, Bool, false, ◌&
 use Rattle.std.specs.List.{fold}
 use Rattle.std.specs.Option.{unwrap_or, option_and_then}
 use Rattle.std.specs.Ordering.{int_eq}
-use Rattle.muck_model.specs.Numbers.{dbref_of, numbered}
+use Rattle.muck_model.specs.Numbers.{dbref_written, dbref_numbered}
 use Rattle.muck_model.specs.declared.dbref.Dbref.{Dbref}
 use Rattle.mpi.specs.declared.fault.MpiFault.{MpiFault}
 use Rattle.mpi.specs.declared.fault.MpiFault.TheVariants.{Denied}
@@ -25,10 +25,10 @@ there_in h d = option_map (λ name. d) (name_in h d)
 -- `me`, `here` and `home`, or the number of an object that is there
 unfoldable pub named_in : List ℕ → MemHost → Option Dbref
 named_in text h =
-    if bytes_eq text (codes "me") then Some (numbered (pos 1))
-    else if bytes_eq text (codes "here") then Some (numbered (pos 0))
-    else if bytes_eq text (codes "home") then Some (numbered (negsuc 2))
-    else option_and_then (there_in h) (dbref_of text)
+    if bytes_eq text (codes "me") then Some (dbref_numbered (pos 1))
+    else if bytes_eq text (codes "here") then Some (dbref_numbered (pos 0))
+    else if bytes_eq text (codes "home") then Some (dbref_numbered (negsuc 2))
+    else option_and_then (there_in h) (dbref_written text)
 
 abbrev is_prop : List ℕ → Dbref → MemProp → Bool
 is_prop path d p = int_eq p.object.0 d.0 && bytes_eq p.path path
@@ -71,8 +71,8 @@ draws_in h = ((h.words + 2) % 4294967296, record h { words = (h.words + 2) % 429
 
 abbrev pub memory : Powers MemHost
 memory = record {
-  player = λ h. numbered (pos 1);
-  place = λ h. numbered (pos 0);
+  player = λ h. dbref_numbered (pos 1);
+  place = λ h. dbref_numbered (pos 0);
   most = λ h. h.most;
   finds = named_in;
   tells = tells_in;

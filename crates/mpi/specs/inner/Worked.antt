@@ -1,7 +1,7 @@
 -- Texts with what they mean, for a player `One` in a room, and an object without properties that carries them.
 use Rattle.std.specs.Prelude.{◌≡◌, ℕ, List, [], ◌∷◌, Result, Ok, Err, codes, pos}
 use Rattle.std.specs.FinMap as map
-use Rattle.muck_model.specs.Numbers.{numbered}
+use Rattle.muck_model.specs.Numbers.{dbref_numbered}
 use Rattle.mpi.specs.declared.fault.MpiFault.{MpiFault}
 use Rattle.mpi.specs.declared.fault.MpiFault.TheVariants.{Unclosed, UnknownFunction, BadCount, BadValue, TooManyCommands, Denied}
 use Rattle.mpi.specs.declared.memory.MemHost.{MemHost}
@@ -18,7 +18,7 @@ empty_mind = record { variables = map.empty; left = 0 }
 
 -- what a text gives
 abbrev pub shown : List ℕ → Result (List ℕ) MpiFault
-shown text = (evaluated (scene_of memory (numbered (pos 2))) text (empty_mind, small)).0
+shown text = (evaluated (scene_of memory (dbref_numbered (pos 2))) text (empty_mind, small)).0
 
 pub record Worked : Type 0 where
   pub row_1 : shown (codes "{if:{eq:a,A},yes,no}") ≡ Ok (codes "yes")

@@ -4,7 +4,7 @@ use Rattle.muck_board.specs.declared.output.Begun.{Begun}
 use Rattle.muck_board.specs.declared.output.Begun.TheVariants.{Line, Notice}
 use Rattle.muck_board.specs.inner.Sent.{sent_most}
 use Rattle.muck_board.specs.inner.Waiting.{Waiting}
-use Rattle.spec_live.specs.Output.{Output, notice, notice_of, lines_bytes, newest}
+use Rattle.spec_live.specs.Output.{Output, notice, notice_of, sent_lines_bytes, newest}
 
 -- what is left of what was begun
 abbrev pub rest_of : Begun → Waiting → List ℕ
@@ -21,8 +21,8 @@ IsWithin (Notice from) = from ≤ 18
 pub record IsBounded (begun : Begun) (o : Output) : Type 0 where
   pub within : IsWithin begun
   pub rest : length o.rest ≤ sent_most
-  pub most : length o.rest + (length (notice_of o.flushed) + length (lines_bytes o.lines)) ≤ 131090
+  pub most : length o.rest + (length (notice_of o.flushed) + length (sent_lines_bytes o.lines)) ≤ 131090
 
 -- with the notice, and without the oldest lines, where they have more than so many bytes
 abbrev pub kept_newest : ℕ → Output → Output
-kept_newest room o = if nat_le (length (lines_bytes o.lines)) room then o else record o { flushed = true; lines = newest room o.lines }
+kept_newest room o = if nat_le (length (sent_lines_bytes o.lines)) room then o else record o { flushed = true; lines = newest room o.lines }

@@ -1,7 +1,7 @@
 -- Taking a waiting line.
 use Rattle.std.specs.Prelude.{◌≡◌, ℕ, List, [], ◌∷◌, Option, Some, None, find}
 use Rattle.muck_model.specs.declared.dbref.Dbref.{Dbref}
-use Rattle.spec_live.specs.Connections.{Connection, has_number, changed_in}
+use Rattle.spec_live.specs.Connections.{Connection, is_connection, changed_in}
 use Rattle.spec_live.specs.Boards.{Board, with_connections}
 
 -- no line waits there
@@ -16,8 +16,8 @@ HasLine (Some c) player line lines = (c.player ≡ player) × (c.waiting ≡ lin
 
 -- The connection d, where a line waits on it, loses the first, which is answered with its player; else nothing changes.
 abbrev pub TakesLine : ℕ → List Connection → List Connection → Option (Option Dbref × List ℕ) → Type 0
-TakesLine d old new None = HasNoLine (find (has_number d) old) × (new ≡ old)
-TakesLine d old new (Some (player, line)) = (lines : List (List ℕ)) × HasLine (find (has_number d) old) player line lines × (new ≡ changed_in d (λ c. record c { waiting = lines }) old)
+TakesLine d old new None = HasNoLine (find (is_connection d) old) × (new ≡ old)
+TakesLine d old new (Some (player, line)) = (lines : List (List ℕ)) × HasLine (find (is_connection d) old) player line lines × (new ≡ changed_in d (λ c. record c { waiting = lines }) old)
 
 -- the same of a board, of which nothing else changes
 abbrev pub BoardTakesLine : ℕ → Board → Board → Option (Option Dbref × List ℕ) → Type 0

@@ -2,7 +2,7 @@
 use Rattle.std.specs.Prelude.{◌≡◌, ◌≤◌, ℕ, ◌+◌, Bool, true, false, if◌then◌else◌, List, [], ◌∷◌, length}
 use Rattle.std.specs.List.{AllByRecursion, list_any, onto_first}
 use Rattle.muck_model.specs.Bytes.{text_most}
-use Rattle.spec_live.specs.Output.{is_return, sent_form, lines_bytes}
+use Rattle.spec_live.specs.Output.{is_return, sent_form, sent_lines_bytes}
 
 -- The lines of these bytes. Each ends with a byte 13, and the one behind it is passed over.
 unfoldable pub lines_from : Bool → List ℕ → List (List ℕ)
@@ -24,5 +24,5 @@ pub record IsLine (line : List ℕ) : Type 0 where
 
 -- these bytes are lines with their ends
 pub record IsLines (bytes : List ℕ) : Type 0 where
-  pub ended : bytes ≡ lines_bytes (lines_in bytes)
+  pub ended : bytes ≡ sent_lines_bytes (lines_in bytes)
   pub each : AllByRecursion IsLine (lines_in bytes)

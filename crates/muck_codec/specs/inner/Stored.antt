@@ -4,6 +4,8 @@ use Rattle.std.specs.Int.{w32}
 use Rattle.std.specs.Ordering.{int_eq}
 use Rattle.muck_model.specs.Bytes.{text_fault, text_most, lines_most}
 use Rattle.muck_model.specs.declared.dbref.Dbref.{Dbref}
+use Rattle.muck_model.specs.declared.tune.Tune.{Tune}
+use Rattle.muck_model.specs.Parameters.{values_of}
 use Rattle.muck_prop.specs.Paths.{IsPath}
 use Rattle.muck_prop.specs.declared.value.PropValue.{PropValue}
 use Rattle.muck_prop.specs.declared.value.PropValue.TheVariants.{Text, Number}
@@ -34,6 +36,17 @@ IsProperty before p = (IsPath p.path × (rises before p.path ≡ true)) × IsVal
 abbrev pub Run : {A K : Type 0} → (A → K) → (Option K → A → Type 0) → Option K → List A → Type 0
 Run key rule before [] = Unit {0}
 Run key rule before (x ∷ xs) = rule before x × Run key rule (Some (key x)) xs
+
+-- a number of 32 bits
+abbrev pub IsWord : Option ℕ → ℕ → Type 0
+IsWord before n = n < 2 ^ 32
+
+abbrev pub AreWords : List ℕ → Type 0
+AreWords ns = Run (λ n. n) IsWord None ns
+
+-- each parameter is one
+abbrev pub IsTune : Tune → Type 0
+IsTune tune = AreWords (values_of tune)
 
 abbrev pub AreProperties : List Property → Type 0
 AreProperties ps = (length ps < 2 ^ 64) × Run (λ p. p.path) IsProperty None ps

@@ -2,7 +2,7 @@
 use Rattle.std.specs.Prelude.{Bool, false, not, List}
 use Rattle.spec_live.specs.declared.saving.Saving.{Saving}
 use Rattle.spec_live.specs.Objects.{Entry}
-use Rattle.spec_live.specs.Saving.{is_due, pending, done, due_again}
+use Rattle.spec_live.specs.Saving.{is_due, pending, saving_done, due_again}
 use Rattle.muck_codec.specs.declared.stored.Stored.{Stored}
 use Rattle.muck_store.specs.inner.Changes.{KeepsUndue}
 use Rattle.muck_db.specs.declared.cut.Extent.{Extent}
@@ -12,7 +12,7 @@ use Rattle.muck_db.specs.declared.marking.Moment.TheVariants.{Cut, Kept, Failed}
 
 abbrev pub saving_after : Moment → Saving → Saving
 saving_after Cut = pending
-saving_after Kept = done
+saving_after Kept = saving_done
 saving_after Failed = due_again
 
 -- whether a dump leaves out an object without a look at it

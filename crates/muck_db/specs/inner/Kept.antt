@@ -8,7 +8,7 @@ use Rattle.spec_live.specs.Objects.{Entry, dbref_of, list_in}
 use Rattle.muck_codec.specs.declared.stored.Stored.{Stored}
 use Rattle.muck_codec.specs.declared.stored.Property.{Property}
 use Rattle.muck_codec.specs.inner.Stored.{IsValue}
-use Rattle.muck_store.specs.Forms.{properties_of, first_of, link_of, next_in, stored_of}
+use Rattle.muck_store.specs.Forms.{properties_of, first_in_list, link_to_number, next_in, stored_of}
 
 -- what is stored of the object of a number
 abbrev pub stored_at : List Entry → ℕ → Option Stored
@@ -34,9 +34,9 @@ pub record HasFields (o : Object) (s : Stored) : Type 0 where
 -- its number, where its lists begin, and what stands behind it
 pub record HasLinks (es : List Entry) (k : ℕ) (s : Stored) : Type 0 where
   pub dbref : s.dbref ≡ dbref_of k
-  pub content : s.first_content ≡ first_of (list_in false es k)
-  pub exit : s.first_exit ≡ first_of (list_in true es k)
-  pub next : s.next ≡ link_of (next_in es k)
+  pub content : s.first_content ≡ first_in_list (list_in false es k)
+  pub exit : s.first_exit ≡ first_in_list (list_in true es k)
+  pub next : s.next ≡ link_to_number (next_in es k)
 
 -- what has any length
 pub record HasTexts (o : Object) (s : Stored) : Type 0 where

@@ -10,13 +10,13 @@ use Rattle.spec_live.specs.declared.mark.Mark.{Mark}
 use Rattle.spec_live.specs.declared.mark.Mark.TheVariants.{Gone}
 use Rattle.spec_live.specs.declared.saving.Saving.{Saving}
 use Rattle.spec_live.specs.declared.saving.Saving.TheVariants.{Due}
-use Rattle.spec_live.specs.Chain.{walk, IsChain, Ends, Member, without, put_at}
+use Rattle.spec_live.specs.Chain.{walk, IsChain, Ends, Member, without_number, put_at}
 use Rattle.spec_live.specs.Flags.{no_flags}
 use Rattle.spec_live.specs.Objects.{Entry, changed_at, dbref_of, index_of, is_exit, is_player, is_garbage, garbage}
 use Rattle.muck_match.specs.inner.Listed.{IsAmong}
 use Rattle.spec_live.specs.Consistent.{IsOrdered, IsConsistent}
 use Rattle.spec_live.specs.Setting.{lines_marked}
-use Rattle.spec_live.specs.Recycling.{without_ties, is_tied, is_exit_of}
+use Rattle.spec_live.specs.Recycling.{without_ties, is_tied_to_number, is_exit_of}
 use Rattle.spec_live.specs.Saving.{Links, links_in}
 use Rattle.spec_live.specs.Start.{room_zero, player_one}
 use Rattle.muck_db.specs.declared.slot.Slot.{Slot}
@@ -50,6 +50,9 @@ mark_at slots k = option_and_then (λ s. s.mark) (slice_get slots k)
 -- what isn't there yet will be due
 unfoldable pub saving_at : List Slot → ℕ → Saving
 saving_at slots k = option_map_or (λ s. s.saving) (slice_get slots k) Due
+
+unfoldable pub stood_at : List Slot → ℕ → Option Dbref
+stood_at slots k = option_and_then (λ s. s.stood) (slice_get slots k)
 
 unfoldable pub place_at : List Slot → ℕ → Option ℕ
 place_at slots k = option_and_then (λ o. index_of o.place) (object_at slots k)
@@ -90,6 +93,7 @@ entry_of slots s = record {
   exits = walk (length slots) (next_at slots) s.first_exit;
   mark = s.mark;
   saving = s.saving;
+  stood = s.stood;
 }
 
 unfoldable pub entries_of : List Slot → List Entry
@@ -111,7 +115,7 @@ on_slot f s = record s { object = option_map f s.object; saving = Due }
 
 -- it is tied to d no more, and due where it was
 unfoldable pub untied_slot : ℕ → Slot → Slot
-untied_slot d s = record s { object = option_map (without_ties d) s.object; saving = if is_tied d (shown s) then Due else s.saving }
+untied_slot d s = record s { object = option_map (without_ties d) s.object; saving = if is_tied_to_number d (shown s) then Due else s.saving }
 
 abbrev pub with_saving : (Saving → Saving) → Slot → Slot
 with_saving f s = record s { saving = f s.saving }
@@ -131,11 +135,14 @@ with_kept o s = record s { object = Some o; saving = Due }
 
 -- a slot that is in no list and whose lists are empty
 abbrev pub new_slot : Option Object → Option Mark → Slot
-new_slot object mark = record { object = object; first_content = None; first_exit = None; next = None; mark = mark; saving = Due }
+new_slot object mark = record { object = object; first_content = None; first_exit = None; next = None; mark = mark; saving = Due; stood = None }
 
 -- a slot of garbage of which is to be told, and of an exit of d likewise
+abbrev pub gone_slot : Option Dbref → Slot
+gone_slot stood = record (new_slot None (Some Gone)) { stood = stood }
+
 abbrev pub wiped : Slot → Slot
-wiped s = new_slot None (Some Gone)
+wiped s = gone_slot s.stood
 
 unfoldable pub exit_wiped : ℕ → Slot → Slot
 exit_wiped d s = if is_exit_of d (shown s) then wiped s else s
@@ -147,7 +154,7 @@ object_put n o slots = if n == length slots then slots ++ new_slot (Some o) None
 -- Room Zero, and One in it
 unfoldable pub first_slots : List Slot
 first_slots =
-    record { object = Some room_zero; first_content = Some 1; first_exit = None; next = None; mark = None; saving = Due } ∷ new_slot (Some player_one) None ∷ []
+    record { object = Some room_zero; first_content = Some 1; first_exit = None; next = None; mark = None; saving = Due; stood = None } ∷ record (new_slot (Some player_one) None) { stood = Some (dbref_of 0) } ∷ []
 
 -- Rules.
 
@@ -195,15 +202,17 @@ pub record IsUnlinked (d : ℕ) (old new : List Slot) : Type 0 where
   pub same_length : length new ≡ length old
   pub same_objects : (k : ℕ) → object_at new k ≡ object_at old k
   pub same_marks : (k : ℕ) → mark_at new k ≡ mark_at old k
+  pub same_stood : (k : ℕ) → stood_at new k ≡ stood_at old k
   pub due : (k : ℕ) → LeadsTo d (links_in (entries_of old) k) → saving_at new k ≡ Due
   pub same_savings : (k : ℕ) → (LeadsTo d (links_in (entries_of old) k) → ⊥) → saving_at new k ≡ saving_at old k
-  pub chains : (exits : Bool) (p : ℕ) → IsChain (length new) (next_at new) (first_at exits new p) (without d (list_at exits old p))
+  pub chains : (exits : Bool) (p : ℕ) → IsChain (length new) (next_at new) (first_at exits new p) (without_number d (list_at exits old p))
 
 -- d is in front of that list of `to`, both are due, and nothing else changed
 pub record IsLinked (exits : Bool) (to d : ℕ) (old new : List Slot) : Type 0 where
   pub same_length : length new ≡ length old
   pub same_objects : (k : ℕ) → object_at new k ≡ object_at old k
   pub same_marks : (k : ℕ) → mark_at new k ≡ mark_at old k
+  pub same_stood : (k : ℕ) → stood_at new k ≡ stood_at old k
   pub due : saving_at new d ≡ Due
   pub place_due : saving_at new to ≡ Due
   pub same_savings : (k : ℕ) → (k ≡ d → ⊥) → (k ≡ to → ⊥) → saving_at new k ≡ saving_at old k

@@ -4,7 +4,7 @@ use Rattle.std.specs.BTreeSet.{contains}
 use Rattle.std.specs.Ordering.{nat_cmp}
 use Rattle.std.specs.Option.{option_map_or, option_and_then}
 use Rattle.spec_live.specs.Objects.{index_of}
-use Rattle.spec_live.specs.Recycling.{is_tied}
+use Rattle.spec_live.specs.Recycling.{is_tied_to_number}
 use Rattle.muck_db.specs.declared.slot.Slot.{Slot}
 use Rattle.muck_db.specs.declared.ties.Tied.{Tied}
 use Rattle.muck_db.specs.declared.ties.Tether.{Tether}
@@ -12,7 +12,7 @@ use Rattle.muck_db.specs.inner.Slots.{object_at, IsKept}
 
 -- k is tied to d
 unfoldable pub is_tied_at : ℕ → List Slot → ℕ → Bool
-is_tied_at d slots k = option_map_or (is_tied d) (object_at slots k) false
+is_tied_at d slots k = option_map_or (is_tied_to_number d) (object_at slots k) false
 
 unfoldable pub link_at : List Slot → ℕ → Option ℕ
 link_at slots k = option_and_then (λ o. index_of o.link) (object_at slots k)

@@ -3,7 +3,7 @@ use Rattle.std.specs.Prelude.{◌≡◌, ℕ, ◌+◌, ◌-◌, ◌≤◌, List,
 use Rattle.std.proofs.Common.{sym, ◌∙◌, ap, subst, arith, length-append, length-take, length-drop}
 use Rattle.std.proofs.lemmas.List.{take_all, take_at, drop_at, append_assoc}
 use Rattle.std.proofs.lemmas.Bool.{and_parts, leb-true}
-use Rattle.muck_disk.specs.Images.{written, Torn, Elapses}
+use Rattle.muck_disk.specs.Images.{bytes_written, Torn, Elapses}
 use Rattle.muck_disk.specs.inner.Replay.{seen_after, left_after, is_within, all_within, left_at}
 use Rattle.muck_disk.specs.declared.memory.Call.{Call}
 use Rattle.muck_disk.specs.declared.memory.Call.TheVariants.{Asked, Wrote, Synced}
@@ -22,10 +22,10 @@ abbrev pub Passes : MemDisk → MemDisk → (List ℕ → List ℕ → Type 0) �
 Passes old now step = Elapses (length old.calls.items) (length now.calls.items) (left_at old.first.items old.calls.items) (left_at now.first.items now.calls.items) step
 
 -- what a whole write leaves is what a crash in it may leave
-pub Torn-written : (at : ℕ) (bytes old : List ℕ) → at ≤ length old → Torn at (length bytes) old (written old at bytes)
+pub Torn-written : (at : ℕ) (bytes old : List ℕ) → at ≤ length old → Torn at (length bytes) old (bytes_written old at bytes)
 Torn-written at bytes old le =
     let size : length (take at old) ≡ at = omega (arith, length-take at old) in
-    let total : length (written old at bytes) ≡ at + length bytes + (length old - (at + length bytes)) =
+    let total : length (bytes_written old at bytes) ≡ at + length bytes + (length old - (at + length bytes)) =
     omega (arith, length-append (take at old ++ bytes) (drop (at + length bytes) old), length-append (take at old) bytes, length-drop (at + length bytes) old, size) in
     record {
       before = ap (take at) (append_assoc (take at old) bytes (drop (at + length bytes) old)) ∙ take_at (take at old) (bytes ++ drop (at + length bytes) old) at size;

@@ -1,12 +1,12 @@
 -- What a list of calls, the latest first, makes of a file.
 use Rattle.std.specs.Prelude.{◌≡◌, ℕ, ◌+◌, ◌-◌, min, max, Bool, true, false, List, [], ◌∷◌, length, take, replicate, reverse, nat_le, ◌&&◌}
-use Rattle.muck_disk.specs.Images.{written, Torn}
+use Rattle.muck_disk.specs.Images.{bytes_written, Torn}
 use Rattle.muck_disk.specs.declared.memory.Call.{Call}
 use Rattle.muck_disk.specs.declared.memory.Call.TheVariants.{Asked, Wrote, Synced}
 
 -- what a read gives
 abbrev pub seen_by : List ℕ → Call → List ℕ
-seen_by seen (Wrote at bytes true) = written seen at bytes.items
+seen_by seen (Wrote at bytes true) = bytes_written seen at bytes.items
 seen_by seen _ = seen
 
 abbrev pub seen_after : List ℕ → List Call → List ℕ
@@ -32,7 +32,7 @@ synced_length first (_ ∷ calls) = synced_length first calls
 
 -- a write of n bytes of which each is this byte, and behind which the file has no more bytes than `room`, where it hadn't before
 abbrev pub torn_to : ℕ → ℕ → List ℕ → ℕ → ℕ → List ℕ
-torn_to room byte old at n = written old at (replicate (min n (max (length old) room - at)) byte)
+torn_to room byte old at n = bytes_written old at (replicate (min n (max (length old) room - at)) byte)
 
 -- the image of which each byte that isn't on the disk is `byte`, and of those past the end that is, the first `kept` are there
 abbrev pub image_after : ℕ → ℕ → List ℕ → List Call → List ℕ

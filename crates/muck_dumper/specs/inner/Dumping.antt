@@ -1,16 +1,16 @@
 -- What the dumper comes to.
-use Rattle.std.specs.Prelude.{◌≡◌, ℕ, ◌≤◌, ◌^◌, Bool, true, List, [], ◌∷◌, ◌++◌, length, Option, None}
+use Rattle.std.specs.Prelude.{◌≡◌, ℕ, ◌≤◌, ◌^◌, Bool, true, List, [], ◌∷◌, ◌++◌, length, None}
 use Rattle.turn_lock.specs.Histories.{StartsWith, own_of}
 use Rattle.muck_model.specs.declared.event.Event.{Event}
 use Rattle.muck_model.specs.declared.event.Event.TheVariants.{StopSeen, Died}
 use Rattle.spec_events.specs.declared.logged.Logged.{Logged}
-use Rattle.spec_events.specs.World.{starting}
+use Rattle.spec_events.specs.World.{starting_world}
 use Rattle.spec_events.specs.Histories.{History, now}
 use Rattle.spec_events.specs.Logged.{logged_by, entries_of, events_of, notes_of, count_from, NoCounts}
 use Rattle.spec_events.specs.Own.{IsWellFormed}
 use Rattle.spec_dumps.specs.Survival.{IsSafe}
-use Rattle.muck_machine.specs.declared.beginning.Beginning.{Beginning}
-use Rattle.muck_machine.specs.inner.Seats.{Sight, Chair, AllOrderly, Rests, Left, SameLists}
+use Rattle.muck_work.specs.declared.Beginning.{Beginning}
+use Rattle.muck_work.specs.inner.Seats.{Sight, Chair, AllOrderly, Rests, Left, SameLists}
 use Rattle.muck_dumping.specs.inner.Dumps.{by}
 use Rattle.muck_dumping.specs.declared.store.Store.{Store}
 use Rattle.muck_dumping.specs.inner.Between.{IsReady, Knows}
@@ -19,7 +19,7 @@ use Rattle.muck_dumper.specs.declared.dumping.Why.TheVariants.{Fine, NoMemory, S
 
 -- the history that a seat has seen: it began so, and has these items
 abbrev pub history_from : List Beginning → List Logged → History
-history_from [] ls = record { start = starting; entries = entries_of ls; notes = notes_of ls; counted = count_from 0 ls }
+history_from [] ls = record { start = starting_world; entries = entries_of ls; notes = notes_of ls; counted = count_from 0 ls }
 history_from (b ∷ bs) ls = record { start = b.world; entries = entries_of ls; notes = b.notes ++ notes_of ls; counted = count_from 0 ls }
 
 abbrev pub history_seen : Sight → History

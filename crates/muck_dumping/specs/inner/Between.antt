@@ -5,7 +5,7 @@ use Rattle.muck_model.specs.declared.tune.Tune.{Tune}
 use Rattle.muck_codec.specs.declared.stored.Stored.{Stored}
 use Rattle.muck_codec.specs.inner.Stored.{IsStored}
 use Rattle.muck_db.specs.inner.Limits.{IsWithinLimits}
-use Rattle.spec_admin.specs.Parameters.{IsInRange}
+use Rattle.muck_model.specs.Parameters.{IsInRange}
 use Rattle.spec_live.specs.Objects.{Entry as Object}
 use Rattle.spec_live.specs.Consistent.{IsConsistent}
 use Rattle.muck_store.specs.inner.Changes.{LeavesOut}
@@ -17,7 +17,7 @@ use Rattle.muck_log.specs.declared.fault.LogFault.{LogFault}
 use Rattle.muck_log.specs.declared.fault.LogFault.TheVariants.{NoMemory, DiskFault, Damaged, StoreFull, Stale}
 use Rattle.spec_events.specs.World.{World}
 use Rattle.spec_events.specs.Histories.{History}
-use Rattle.spec_dumps.specs.Fronts.{at_cut, last_cut, number_at, dump_payload, log_of, file_most}
+use Rattle.spec_dumps.specs.Fronts.{at_cut, last_cut, batch_number_at, dump_payload, log_of, file_most}
 use Rattle.spec_dumps.specs.inner.Holding.{Keeps, Rests, FailedLast, IsDumped, RisesInDump, OverflowsAtCut}
 use Rattle.muck_dumping.specs.declared.parts.Pending.{Pending}
 use Rattle.muck_dumping.specs.declared.store.Store.{Store}
@@ -73,7 +73,7 @@ pub record Knows (store : Store) (h : History) : Type 0 where
 -- its Cut. Where no log is mounted it is to fail.
 pub record IsPending {D : Type 0} (seen : D → List ℕ) (moment : D → ℕ) (images : D → ℕ → List ℕ → Type 0) (faults : D → ℕ) (log : Option LogState) (first second : D) (mounted : ℕ) (h : History) (p : Pending) : Type 0 where
   pub rests : Rests seen moment images faults log first second mounted h
-  pub number : (x : LogState) → log ≡ Some x → number_at mounted h.entries (last_cut h.entries) ≡ after_number x.chosen.held.number
+  pub number : (x : LogState) → log ≡ Some x → batch_number_at mounted h.entries (last_cut h.entries) ≡ after_number x.chosen.held.number
   pub batch : IsBatchAtCut (base_in log) h p
   pub fails : log ≡ None → RisesInDump faults first second h
 

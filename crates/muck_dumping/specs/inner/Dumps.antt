@@ -5,8 +5,8 @@ use Rattle.muck_model.specs.declared.event.Event.{Event}
 use Rattle.muck_model.specs.declared.event.Event.TheVariants.{Cut, Stored, DumpFailed as Failed, Died}
 use Rattle.muck_model.specs.declared.event.Entry.{Entry}
 use Rattle.muck_model.specs.declared.note.Note.{Note}
-use Rattle.muck_log.specs.World.{World as Kept, laid}
-use Rattle.muck_log.specs.Store.{Chosen, LogState, LeavesBoth, IsMounted, target, after_batch, stored}
+use Rattle.muck_log.specs.World.{StoredWorld as Kept, laid}
+use Rattle.muck_log.specs.Store.{Chosen, LogState, LeavesBoth, IsMounted, target, after_batch, store_of}
 use Rattle.muck_log.specs.Append.{IsNext, LoadsEither, more_of}
 use Rattle.muck_log.specs.declared.fault.LogFault.{LogFault}
 use Rattle.muck_log.specs.declared.fault.LogFault.TheVariants.{NoMemory, DiskFault, StoreFull}
@@ -64,7 +64,7 @@ IsDumpFault (Some fault) = ⊥
 pub record IsFull {D : Type 0} (seen : D → List ℕ) (first second : D) (mounted : ℕ) (h : History) (end more : ℕ) : Type 0 where
   pub n : ℕ
   pub store : Chosen
-  pub shown : stored (seen first) (seen second) ≡ Ok store
+  pub shown : store_of (seen first) (seen second) ≡ Ok store
   pub front : IsFront h.start mounted h.entries h.notes n store
   pub place : end ≡ (target store).place
   pub size : more ≡ more_of (log_of store) (dump_payload store (after h.start h.entries))

@@ -4,7 +4,7 @@ use Rattle.muck_follow.specs.declared.act.Act.{Act}
 use Rattle.muck_follow.specs.declared.script.ScriptFault.{ScriptFault}
 use Rattle.muck_follow.specs.declared.script.ScriptFault.TheVariants.{BadScript, NoMemory}
 use Rattle.muck_follow.specs.declared.script.Script.{Script}
-use Rattle.muck_follow.specs.Script.{script_of}
+use Rattle.muck_follow.specs.Script.{mirror_script_of}
 
 -- these are the acts, or this is the number of the first line outside; want of memory says nothing
 abbrev pub IsReading : Result (List Act) ℕ → Result Script ScriptFault → Type 0
@@ -14,4 +14,4 @@ IsReading all (Err NoMemory) = Unit {0}
 
 -- the bytes are this script, or this is their first line outside
 abbrev pub IsScriptOf : List ℕ → Result Script ScriptFault → Type 0
-IsScriptOf bytes result = IsReading (script_of bytes) result
+IsScriptOf bytes result = IsReading (mirror_script_of bytes) result

@@ -1,6 +1,6 @@
 -- Bytes as lines, from one buffer to the next.
 use Rattle.std.specs.Prelude.{◌≡◌, ℕ, Bool, true, false, ◌&&◌, ◌==◌, ◌≤◌, if◌then◌else◌, nat_lt, List, [], ◌∷◌, ◌++◌, length}
-use Rattle.muck_links.specs.Lines.{next, is_shown, line_most}
+use Rattle.muck_links.specs.Lines.{next_mode, is_shown_byte, line_most}
 use Rattle.muck_links.specs.declared.cutter.Mode.{Mode}
 use Rattle.muck_links.specs.declared.cutter.Mode.TheVariants.{Plain}
 
@@ -18,14 +18,14 @@ ends Plain b = b == 10
 ends mode b = false
 
 abbrev pub joins : Mode → ℕ → List ℕ → Bool
-joins Plain b line = is_shown b && nat_lt (length line) line_most
+joins Plain b line = is_shown_byte b && nat_lt (length line) line_most
 joins mode b line = false
 
 abbrev pub lined : Mode → ℕ → List ℕ → List ℕ
 lined mode b line = if ends mode b then [] else if joins mode b line then line ++ b ∷ [] else line
 
 abbrev pub after_byte : Rest → ℕ → Rest
-after_byte rest b = record { mode = next rest.mode b; line = lined rest.mode b rest.line }
+after_byte rest b = record { mode = next_mode rest.mode b; line = lined rest.mode b rest.line }
 
 abbrev pub cut_rest : Rest → List ℕ → Rest
 cut_rest rest [] = rest
@@ -47,7 +47,7 @@ fed cut bytes = record { ready = cut.ready ++ cut_lines cut.rest bytes; rest = c
 -- a line so far: shown bytes, no more than a line has
 abbrev pub AllShown : List ℕ → Type 0
 AllShown [] = Unit {0}
-AllShown (b ∷ bs) = (is_shown b ≡ true) × AllShown bs
+AllShown (b ∷ bs) = (is_shown_byte b ≡ true) × AllShown bs
 
 abbrev pub IsLineSoFar : List ℕ → Type 0
 IsLineSoFar line = AllShown line × (length line ≤ line_most)

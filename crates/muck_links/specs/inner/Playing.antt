@@ -1,7 +1,7 @@
 -- How links in memory play their script.
 use Rattle.std.specs.Prelude.{◌≡◌, ℕ, ◌+◌, ◌-◌, ◌^◌, min, Bool, true, false, ◌||◌, MatchBool, ◌==◌, nat_le, if◌then◌else◌, List, [], ◌∷◌, length, take, drop, Option, Some, None}
 use Rattle.muck_io.specs.Faults.{one_more}
-use Rattle.muck_links.specs.Sessions.{Session, Told, accepted, is_used, on_session, with_read, with_written, with_end, with_fault}
+use Rattle.muck_links.specs.Sessions.{Session, LinksTold, accepted, is_used, on_session, with_read, with_written, with_end, with_fault}
 use Rattle.muck_links.specs.declared.links.Listened.{Listened}
 use Rattle.muck_links.specs.declared.links.Accepted.{Accepted}
 use Rattle.muck_links.specs.declared.links.LinkRead.{LinkRead}
@@ -25,7 +25,7 @@ pub record Script : Type 0 where
   pub taken : ℕ
   pub sent : ℕ
   pub listening : ℕ
-  pub told : Told
+  pub told : LinksTold
 
 -- before the first step
 abbrev pub begun : List LinkStep → Script

@@ -5,7 +5,7 @@ use Rattle.std.specs.List.{before_first, position_or_len}
 use Rattle.muck_model.specs.declared.dbref.Dbref.{Dbref}
 use Rattle.muck_lock.specs.declared.part.Part.{Part}
 use Rattle.muck_lock.specs.declared.part.Part.TheVariants.{OneOf, AllOf, Term}
-use Rattle.muck_lock.specs.Grammar.{ends_key, key_of}
+use Rattle.muck_lock.specs.Grammar.{ends_key, lock_key_of}
 use denote.Bor.{Bor}
 use Rattle.muck_lock.specs.Opens.{Holdings, opens_for}
 use Rattle.muck_lock.specs.Answers.{no_names}
@@ -16,7 +16,7 @@ Answer = Option (Bool × List ℕ)
 
 -- whether a key opens
 abbrev pub key_opens : Holdings → Dbref → List ℕ → Option Bool
-key_opens w x key = option_map (λ lock. opens_for w lock x) (key_of no_names key)
+key_opens w x key = option_map (λ lock. opens_for w lock x) (lock_key_of no_names key)
 
 unfoldable pub key_answer : Holdings → Dbref → List ℕ → Answer
 key_answer w x text = option_map (λ b. (b, drop (position_or_len ends_key text) text)) (key_opens w x (before_first ends_key text))

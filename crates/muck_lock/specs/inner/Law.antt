@@ -5,14 +5,14 @@ use Rattle.muck_model.specs.declared.line.Line.{Line}
 use Rattle.muck_model.specs.declared.lock.Lock.{Lock, Lock-F, fold-Lock}
 use Rattle.muck_lock.specs.Naming.{Naming}
 use Rattle.muck_lock.specs.Grammar.{lock_of}
-use Rattle.muck_lock.specs.Printed.{printed}
+use Rattle.muck_lock.specs.Printed.{lock_printed}
 use Rattle.muck_lock.specs.declared.fault.LockFault.{LockFault}
 use Rattle.muck_lock.specs.declared.fault.LockFault.TheVariants.{BadLock, NoMemory}
 
 -- the text, or that it would be too long; want of memory says nothing
 abbrev pub IsPrinted : Lock → Result Line LockFault → Type 0
-IsPrinted lock (Ok line) = (line ≡ printed lock) × (length (printed lock) ≤ text_most)
-IsPrinted lock (Err (BadLock at)) = (at ≡ text_most) × (text_most < length (printed lock))
+IsPrinted lock (Ok line) = (line ≡ lock_printed lock) × (length (lock_printed lock) ≤ text_most)
+IsPrinted lock (Err (BadLock at)) = (at ≡ text_most) × (text_most < length (lock_printed lock))
 IsPrinted lock (Err NoMemory) = Unit {0}
 
 abbrev pub has_no_program_step : Naming → Lock-F Bool → Bool

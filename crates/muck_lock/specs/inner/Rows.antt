@@ -1,7 +1,7 @@
 -- Texts of locks with what they are read as, and where reading fails.
 use Rattle.std.specs.Prelude.{◌≡◌, ℕ, pos, true, false, [], Some, None, Ok, Err, codes, refl, bytes_eq, if◌then◌else◌}
 use Rattle.muck_model.specs.Decimal.{decimal_of}
-use Rattle.muck_model.specs.Numbers.{dbref_of, numbered}
+use Rattle.muck_model.specs.Numbers.{dbref_written, dbref_numbered}
 use Rattle.muck_model.specs.declared.lock.Lock.{Lock}
 use Rattle.muck_model.specs.declared.lock.Lock.TheVariants.{Free, Object, Prop, Not, Both, Either}
 use Rattle.muck_lock.specs.Naming.{Naming}
@@ -11,7 +11,7 @@ use Rattle.muck_lock.specs.Grammar.{lock_of, part_of}
 -- Two is #2, the song is #5 and a program
 abbrev names : Naming
 names = record {
-  find = λ name. if bytes_eq name (codes "*Two") then Some (numbered (pos 2)) else if bytes_eq name (codes "song") then Some (numbered (pos 5)) else None;
+  find = λ name. if bytes_eq name (codes "*Two") then Some (dbref_numbered (pos 2)) else if bytes_eq name (codes "song") then Some (dbref_numbered (pos 5)) else None;
   is_program = λ d. true;
 }
 
@@ -19,7 +19,7 @@ abbrev no_programs : Naming
 no_programs = record names { is_program = λ d. false }
 
 abbrev n : ℕ → Lock
-n k = Object (numbered (pos k))
+n k = Object (dbref_numbered (pos k))
 
 pub record Rows : Type 0 where
   pub row_one : lock_of no_programs (codes "#1&!*Two|sex:male") ≡ Ok (Either (Both (n 1) (Not (n 2))) (Prop (codes "sex") (codes "male")))
@@ -38,5 +38,5 @@ pub record Rows : Type 0 where
   pub row_deep : is_path (codes "a/b/c/d/e/f/g/h/i/j/k/l/m/n/o/p/q") ≡ false
 
 pub rows : Rows
-unfolding part_of dbref_of decimal_of
+unfolding part_of dbref_written decimal_of
 rows = record { row_one = refl; row_free = refl; row_program = refl; row_groups = refl; row_open = refl; row_behind = refl; row_closing = refl; row_nothing = refl; row_space = refl; row_name = refl; row_path = refl; row_value = refl; row_segments = refl; row_deep = refl }

@@ -3,7 +3,7 @@ use Rattle.std.specs.Prelude.{◌≡◌, ℕ, ◌+◌, ◌<◌, ◌≤◌, Bool,
 use Rattle.muck_model.specs.declared.lock.Lock.{Lock}
 use Rattle.muck_model.specs.declared.lock.Lock.TheVariants as locks
 use Rattle.muck_lock.specs.Naming.{Naming}
-use Rattle.muck_lock.specs.Grammar.{Reading, reading, negated, closed, with_first, joined, whole}
+use Rattle.muck_lock.specs.Grammar.{LockReading, part_reading, negated, bracket_closed, with_first_lock, locks_joined, whole}
 use Rattle.muck_lock.specs.declared.part.Part.{Part}
 use Rattle.muck_lock.specs.declared.part.Part.TheVariants.{OneOf, AllOf, Term}
 use Rattle.muck_lock.specs.declared.fault.LockFault.{LockFault}
@@ -52,32 +52,32 @@ given (Both first) = AllOf
 given (Either first) = OneOf
 
 -- the reading of what waits, from that of the part that it waits for
-abbrev pub filling : Waiting → Reading → Reading
+abbrev pub filling : Waiting → LockReading → LockReading
 filling Not r = negated r
-filling Group r = closed r
-filling (Both first) r = with_first locks.Both first r
-filling (Either first) r = with_first locks.Either first r
+filling Group r = bracket_closed r
+filling (Both first) r = with_first_lock locks.Both first r
+filling (Either first) r = with_first_lock locks.Either first r
 
 -- a looser part that begins with one that was read
-abbrev pub widened : Naming → Part → Part → Reading → Reading
+abbrev pub widened : Naming → Part → Part → LockReading → LockReading
 widened names Term Term r = r
-widened names Term AllOf r = joined 38 locks.Both (reading names AllOf) r
-widened names Term OneOf r = joined 124 locks.Either (reading names OneOf) (joined 38 locks.Both (reading names AllOf) r)
+widened names Term AllOf r = locks_joined 38 locks.Both (part_reading names AllOf) r
+widened names Term OneOf r = locks_joined 124 locks.Either (part_reading names OneOf) (locks_joined 38 locks.Both (part_reading names AllOf) r)
 widened names AllOf Term r = r
 widened names AllOf AllOf r = r
-widened names AllOf OneOf r = joined 124 locks.Either (reading names OneOf) r
+widened names AllOf OneOf r = locks_joined 124 locks.Either (part_reading names OneOf) r
 widened names OneOf Term r = r
 widened names OneOf AllOf r = r
 widened names OneOf OneOf r = r
 
 -- the whole reading, from that of a part and all that waits, the last first
-abbrev pub resumed : Naming → List Waiting → Part → Reading → Reading
+abbrev pub resumed : Naming → List Waiting → Part → LockReading → LockReading
 resumed names [] part r = widened names part OneOf r
 resumed names (w ∷ more) part r = resumed names more (given w) (filling w (widened names part (wanted w) r))
 
 -- what the text is, where a term is read from that place on and this waits
 abbrev pub outcome_at : Naming → List ℕ → List Waiting → ℕ → Result Lock ℕ
-outcome_at names text waiting at = whole (length text) (resumed names (reverse waiting) Term (reading names Term (drop at text)))
+outcome_at names text waiting at = whole (length text) (resumed names (reverse waiting) Term (part_reading names Term (drop at text)))
 
 -- what the text is, where that lock was read up to the place
 abbrev pub outcome_behind : Naming → List ℕ → List Waiting → Lock → ℕ → Result Lock ℕ

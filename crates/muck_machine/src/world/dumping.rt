@@ -6,7 +6,7 @@ ghost use Rattle.spec_live.specs.Consistent.{IsConsistent};
 ghost use Rattle.muck_db.specs.inner.Limits.{IsWithinLimits};
 ghost use Rattle.muck_store.specs.inner.Changes.{LeavesOut, KeepsUndue};
 ghost use Rattle.muck_store.specs.Forms.{persist};
-ghost use Rattle.spec_admin.specs.Parameters.{IsInRange};
+ghost use Rattle.muck_model.specs.Parameters.{IsInRange};
 ghost use Rattle.spec_events.specs.Steps.{is_lawful};
 ghost use Rattle.spec_events.specs.Histories.{now, entered, noted};
 

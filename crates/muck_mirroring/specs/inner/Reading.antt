@@ -4,11 +4,11 @@ use Rattle.muck_follow.specs.declared.fault.FollowFault.{FollowFault}
 use Rattle.muck_follow.specs.declared.fault.FollowFault.TheVariants as follow
 use Rattle.muck_why.specs.declared.why.Why.{Why}
 use Rattle.muck_why.specs.declared.why.Why.TheVariants.{BadScript, NoMemory, ReadFault, WriteFault, DiskFault}
-use Rattle.muck_mirroring.specs.Mirroring.{IsFirstOutside}
+use Rattle.muck_mirroring.specs.Mirroring.{IsFirstOutsideMirror}
 
 -- why no script was read
 abbrev pub IsScriptWhy : Option (List ℕ) → Why → Type 0
-IsScriptWhy left (BadScript line) = IsFirstOutside left line
+IsScriptWhy left (BadScript line) = IsFirstOutsideMirror left line
 IsScriptWhy left NoMemory = Unit {0}
 IsScriptWhy left ReadFault = Unit {0}
 IsScriptWhy left why = ⊥

@@ -6,11 +6,11 @@ use Rattle.mpi.specs.declared.fault.MpiFault.TheVariants.{NoMemory}
 use Rattle.mpi.specs.Hosting.{Meant}
 use Rattle.muck_perm.specs.declared.guard.Guard.{Guard}
 use Rattle.muck_perm.specs.inner.Guards.{world_of, Same}
-use Rattle.spec_mpi.specs.Stages.{Stage}
+use Rattle.spec_mpi.specs.Stages.{MpiStage}
 use Rattle.spec_mpi.specs.Doing.{Done}
 
 -- the world that a guard lends, and who acts
-abbrev pub stage_of : Guard → Stage
+abbrev pub stage_of : Guard → MpiStage
 stage_of g = record { actor = g.actor; live = world_of g }
 
 -- a deed was done, or has its fault; the guard holds the same places

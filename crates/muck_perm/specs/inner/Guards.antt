@@ -13,7 +13,7 @@ use Rattle.spec_live.specs.Objects.{Entry, dbref_of, nothing, home, same, object
 use Rattle.spec_live.specs.Setting.{may_link, may_live}
 use Rattle.spec_live.specs.Lives.{Live, Change}
 use Rattle.spec_rights.specs.declared.act.Act.{Act}
-use Rattle.spec_rights.specs.Verdict.{verdict, place_of}
+use Rattle.spec_rights.specs.Verdict.{verdict, place_or_nothing}
 use Rattle.muck_perm.specs.declared.rules.Pass.{Pass}
 use Rattle.muck_perm.specs.declared.guard.Guard.{Guard}
 
@@ -52,7 +52,7 @@ IsGiven pass act g = (pass.actor ≡ g.actor) × (pass.act.now ≡ act)
 
 -- x lies where the player is
 abbrev pub is_here : Dbref → Guard → Bool
-is_here x g = same (place_of (objects_of g) x) (place_of (objects_of g) g.actor.player)
+is_here x g = same (place_or_nothing (objects_of g) x) (place_or_nothing (objects_of g) g.actor.player)
 
 -- what a writer does that takes no memory: the change, or the first refusal of the world and nothing
 abbrev pub Makes : {X : Type 0} → Change → Result X DbFault → Guard → Guard → Result (Unit {0}) DbFault → Type 0

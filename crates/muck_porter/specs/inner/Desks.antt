@@ -2,11 +2,11 @@
 use Rattle.std.specs.Prelude.{◌≡◌, ℕ, ℤ, Bool, true, false, ◌≤◌, ◌⊎◌, List, [], Option, None}
 use Rattle.atomic_table.specs.Seated.{TableId}
 use Rattle.muck_io.specs.Faults.{Rose}
-use Rattle.muck_links.specs.Sessions.{Told}
+use Rattle.muck_links.specs.Sessions.{LinksTold}
 use Rattle.spec_events.specs.Own.{Stage}
 use Rattle.spec_serve.specs.Promises.{Tally}
 use Rattle.spec_serve.specs.inner.Keeping.{Peer}
-use Rattle.muck_machine.specs.inner.Seats.{Chair, SameLists}
+use Rattle.muck_work.specs.inner.Seats.{Chair, SameLists}
 use Rattle.muck_work.specs.inner.Holds.{HasClaimed}
 use Rattle.muck_porter.specs.declared.desk.Desk.{Desk}
 use Rattle.muck_porter.specs.declared.desk.Fault.{Fault}
@@ -29,7 +29,7 @@ pub record Stand : Type 0 where
   pub me : Chair
   -- what the links tell, and what the clock has to answer
   pub tells : Bool
-  pub told : Told
+  pub told : LinksTold
   pub listening : ℕ
   pub answers : Option (List ℕ)
   -- what is kept
@@ -38,7 +38,7 @@ pub record Stand : Type 0 where
   pub peers : List Peer
   pub coming : Option Peer
 
-abbrev pub stand : {W L C G R : Type 0} → (L → Bool) → (L → Told) → (L → ℕ) → (C → Option (List ℕ)) → Desk W L C G R → Stand
+abbrev pub stand : {W L C G R : Type 0} → (L → Bool) → (L → LinksTold) → (L → ℕ) → (C → Option (List ℕ)) → Desk W L C G R → Stand
 stand tells told listening answers d = record {
   seat_name = d.seat.ghost_name;
   links_name = d.links.ghost_name;

@@ -1,7 +1,7 @@
 -- What the porter keeps of all links over what its seat has seen, and what of it stands when it returns.
 use Rattle.std.specs.Prelude.{◌≡◌, ℕ, Bool, true, ◌≤◌, List, [], ◌∷◌, ◌++◌, is_some, Option, Some}
 use Rattle.turn_lock.specs.Histories.{StartsWith, own_of}
-use Rattle.muck_links.specs.Sessions.{Told}
+use Rattle.muck_links.specs.Sessions.{LinksTold}
 use Rattle.muck_model.specs.declared.note.Note.{Note}
 use Rattle.muck_model.specs.declared.event.Event.TheVariants.{StopSeen}
 use Rattle.spec_events.specs.declared.logged.Logged.{Logged}
@@ -13,11 +13,11 @@ use Rattle.spec_talks.specs.Talks.{talks}
 use Rattle.spec_serve.specs.Promises.{Tally, PromisedOf, OpenWorkedOff}
 use Rattle.spec_serve.specs.inner.Keeping.{Peer}
 use Rattle.spec_serve.specs.inner.Books.{BooksOf}
-use Rattle.muck_machine.specs.inner.Beginnings.{begun}
-use Rattle.muck_machine.specs.inner.Seats.{Sight, Chair, Rests, Left}
+use Rattle.muck_work.specs.inner.Beginnings.{begun}
+use Rattle.muck_work.specs.inner.Seats.{Sight, Chair, Rests, Left}
 use Rattle.muck_porter.specs.inner.Notes.{note_in}
 
-abbrev pub tally : Told → ℕ → Tally
+abbrev pub tally : LinksTold → ℕ → Tally
 tally told listening = record { told = told; listening = listening }
 
 -- what the links tell, and what the clock has to answer
@@ -25,7 +25,7 @@ pub record Account : Type 0 where
   pub links : Tally
   pub answers : Option (List ℕ)
 
-abbrev pub account : Told → ℕ → Option (List ℕ) → Account
+abbrev pub account : LinksTold → ℕ → Option (List ℕ) → Account
 account told listening answers = record { links = tally told listening; answers = answers }
 
 -- The books of all links, over what the seat has seen of a history that begins in this world, in which nobody is connected. The note

@@ -3,10 +3,10 @@ use Rattle.std.specs.Prelude.{◌≡◌, ℕ, Bool, true, ◌⊎◌, List, [], s
 use mathlib.Core.Option.{some}
 use lib.ListN.{get_elem?}
 use Rattle.muck_io.specs.Faults.{Rose}
-use Rattle.muck_links.specs.Sessions.{Told}
+use Rattle.muck_links.specs.Sessions.{LinksTold}
 use Rattle.spec_serve.specs.Promises.{Tally}
 use Rattle.spec_serve.specs.inner.Keeping.{Peer, new_peer}
-use Rattle.muck_machine.specs.inner.Seats.{Sight}
+use Rattle.muck_work.specs.inner.Seats.{Sight}
 use Rattle.muck_work.specs.inner.Holds.{HasClaimed}
 use Rattle.muck_porter.specs.declared.deeds.Deed.{Deed}
 use Rattle.muck_porter.specs.declared.deeds.Deed.TheVariants.{Slice}
@@ -28,20 +28,20 @@ Ends v v' k k' peers coming = (b : Tally) → BooksAt b v k peers coming → Kep
 -- Calls of the links, whatever the seat has seen, which knows whether the note of the links was made.
 
 -- one link of the books is another
-abbrev pub TendsPeer : Bool → Told → Told → Peer → Peer → Type 0
+abbrev pub TendsPeer : Bool → LinksTold → LinksTold → Peer → Peer → Type 0
 TendsPeer noted k k' p p' = (v : Sight) (b : Tally) (peers : List Peer) (coming : Option ℕ) (i n : ℕ) → is_some (note_in v.own) ≡ noted → get_elem? peers i ≡ some p
     → BooksAt b v (tally k n) peers coming → BooksAt b v (tally k' n) (slice_set peers i p') coming
 
 -- bytes were read and lost
-abbrev pub LosesPeer : Bool → Told → Told → Peer → Type 0
+abbrev pub LosesPeer : Bool → LinksTold → LinksTold → Peer → Type 0
 LosesPeer noted k k' p = (v : Sight) (b : Tally) (peers : List Peer) (coming : Option ℕ) (i n : ℕ) → is_some (note_in v.own) ≡ noted → get_elem? peers i ≡ some p
     → BooksAt b v (tally k n) peers coming → PromisedIn b v v.seen (tally k' n)
 
-abbrev pub Tends : Bool → Told → Told → List Peer → List Peer → Type 0
+abbrev pub Tends : Bool → LinksTold → LinksTold → List Peer → List Peer → Type 0
 Tends noted k k' peers peers' = (v : Sight) (b : Tally) (coming : Option ℕ) (n : ℕ) → is_some (note_in v.own) ≡ noted
     → BooksAt b v (tally k n) peers coming → BooksAt b v (tally k' n) peers' coming
 
-abbrev pub Loses : Bool → Told → Told → List Peer → Type 0
+abbrev pub Loses : Bool → LinksTold → LinksTold → List Peer → Type 0
 Loses noted k k' peers = (v : Sight) (b : Tally) (coming : Option ℕ) (n : ℕ) → is_some (note_in v.own) ≡ noted
     → BooksAt b v (tally k n) peers coming → PromisedIn b v v.seen (tally k' n)
 

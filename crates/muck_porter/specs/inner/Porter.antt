@@ -4,9 +4,9 @@ use Rattle.muck_io.specs.Faults.{Rose}
 use Rattle.muck_model.specs.declared.note.Note.{Note}
 use Rattle.spec_events.specs.World.{World}
 use Rattle.spec_events.specs.Logged.{events_of}
-use Rattle.spec_events.specs.Own.{IsOver}
-use Rattle.muck_machine.specs.inner.Beginnings.{begun}
-use Rattle.muck_machine.specs.inner.Seats.{Chair, Rests, SameLists}
+use Rattle.spec_events.specs.Own.{IsPartyOver}
+use Rattle.muck_work.specs.inner.Beginnings.{begun}
+use Rattle.muck_work.specs.inner.Seats.{Chair, Rests, SameLists}
 use Rattle.muck_porter.specs.declared.porting.Why.{Why}
 use Rattle.muck_porter.specs.declared.porting.Why.TheVariants.{Fine, ListenFault, Spent}
 use Rattle.muck_porter.specs.inner.Kept.{Account, KeptBy, Stopped, EndsWithStop, Over}
@@ -40,6 +40,6 @@ pub record PorterDone (why : Why) (tells : Bool) (b k : Account) (me me' : Chair
   pub fault : why ≡ ListenFault → Rose b.links.listening k.links.listening
   pub later : b.links.listening ≤ k.links.listening
   -- but where all turns were had, its own entries are over
-  pub ended : ¬ (why ≡ Spent) → IsOver 0 (events_of me'.0.own)
+  pub ended : ¬ (why ≡ Spent) → IsPartyOver 0 (events_of me'.0.own)
   -- all turns were had
   pub spent : why ≡ Spent → 2 ^ 62 ≤ length me'.0.seen

@@ -5,13 +5,13 @@ use Rattle.muck_queue.specs.declared.process.Process.{Process}
 use Rattle.muck_queue.specs.declared.fault.QueueFault.{QueueFault}
 use Rattle.muck_queue.specs.declared.fault.QueueFault.TheVariants.{ProcessLimit, TooManyEvents, NoMemory}
 use Rattle.muf_model.specs.Datum.{Datum}
-use Rattle.muck_queue.specs.Queues.{Queue, process, on_process, told_event, events_of, events_most, is_full, added}
+use Rattle.muck_queue.specs.Queues.{Queue, process, on_process, told_event, events_of, events_most, is_queue_full, process_added}
 
 -- It is added and has the last number; or it is refused, and nothing has changed.
 abbrev pub Adds : Process → Tune → Queue → Queue → Result ℤ QueueFault → Type 0
-Adds p tune old new (Ok n) = (is_full p.player tune old ≡ false) × (n ≡ new.last) × (new ≡ added p old)
-Adds p tune old new (Err ProcessLimit) = (is_full p.player tune old ≡ true) × (new ≡ old)
-Adds p tune old new (Err NoMemory) = (is_full p.player tune old ≡ false) × (new ≡ old)
+Adds p tune old new (Ok n) = (is_queue_full p.player tune old ≡ false) × (n ≡ new.last) × (new ≡ process_added p old)
+Adds p tune old new (Err ProcessLimit) = (is_queue_full p.player tune old ≡ true) × (new ≡ old)
+Adds p tune old new (Err NoMemory) = (is_queue_full p.player tune old ≡ false) × (new ≡ old)
 Adds p tune old new (Err TooManyEvents) = ⊥
 
 -- It has the event, where it is there; or it has too many, and nothing has changed.

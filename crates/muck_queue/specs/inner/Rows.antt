@@ -2,6 +2,7 @@
 use Rattle.std.specs.Prelude.{◌≡◌, ℕ, ℤ, pos, true, false, List, [], ◌∷◌, map, refl, codes, Some, None}
 use Rattle.std.specs.Option.{option_map_or}
 use Rattle.muck_model.specs.declared.tune.Tune.{Tune}
+use Rattle.muck_model.specs.Parameters.{first_tune}
 use Rattle.spec_live.specs.Objects.{dbref_of, nothing}
 use Rattle.muf_model.specs.declared.code.Closer.TheVariants.{Semicolon}
 use Rattle.muf_model.specs.Datum.{Datum, int, text}
@@ -12,7 +13,7 @@ use Rattle.muck_queue.specs.declared.mode.Mode.{Mode}
 use Rattle.muck_queue.specs.declared.mode.Mode.TheVariants.{Preempt, Foreground, Background}
 use Rattle.muck_queue.specs.declared.mode.Wait.{Wait}
 use Rattle.muck_queue.specs.declared.mode.Wait.TheVariants.{Nothing, ForLine, ForEvent}
-use Rattle.muck_queue.specs.Queues.{Queue, counted, resting, in_mode, told_line, told_event, woken, next_due, claimed, released, without, is_full, added, is_tied, is_busy, reader, oldest_event, ended_tied, ended_running, trigger_cleared, number_most}
+use Rattle.muck_queue.specs.Queues.{Queue, units_counted, resting, process_in_mode, told_line, told_event, woken, next_due, claimed, released, without_process, is_queue_full, process_added, has_process_tied, is_busy, reader, oldest_event, ended_tied, ended_running, trigger_cleared, number_most}
 
 abbrev pub program_of : ℤ → Program
 program_of number = record { number = number; tree = record { words = []; variables = 0 } }
@@ -96,8 +97,8 @@ claimed_row : (claimed (pos 2) 7 three).claims ≡ record { number = pos 2; part
 unfolding claimed
 claimed_row = refl
 
-ended_row : (without (pos 2) (claimed (pos 2) 7 three)).claims ≡ record { number = pos 2; party = 7 } ∷ []
-unfolding claimed without
+ended_row : (without_process (pos 2) (claimed (pos 2) 7 three)).claims ≡ record { number = pos 2; party = 7 } ∷ []
+unfolding claimed without_process
 ended_row = refl
 
 -- until it is released
@@ -108,44 +109,35 @@ released_row = refl
 -- Adding and taking.
 
 -- a number isn't given again
-added_row : numbers (added (sample (pos 0) 8) (without (pos 4) three)) ≡ pos 1 ∷ pos 2 ∷ pos 5 ∷ []
-unfolding added without
+added_row : numbers (process_added (sample (pos 0) 8) (without_process (pos 4) three)) ≡ pos 1 ∷ pos 2 ∷ pos 5 ∷ []
+unfolding process_added without_process
 added_row = refl
 
 -- this many in all, and this many of a player
 abbrev pub limits : ℕ → ℕ → Tune
-limits most own = record {
-  instr_slice = 1;
-  preempt_units = 1;
-  m1_units = 1;
-  m2_units = 1;
-  process_limit = most;
-  player_processes = own;
-  mpi_commands = 1;
-  dump_interval = 1;
-}
+limits most own = record first_tune { process_limit = most; player_processes = own }
 
 abbrev pub of_two : Queue
 of_two = record { processes = sample (pos 1) 5 ∷ of_player 2 (sample (pos 2) 5) ∷ []; last = pos 2; claims = [] }
 
-has_room_row : is_full (dbref_of 1) (limits 3 2) of_two ≡ false
-unfolding is_full number_most
+has_room_row : is_queue_full (dbref_of 1) (limits 3 2) of_two ≡ false
+unfolding is_queue_full number_most
 has_room_row = refl
 
-all_full_row : is_full (dbref_of 1) (limits 2 2) of_two ≡ true
-unfolding is_full number_most
+all_full_row : is_queue_full (dbref_of 1) (limits 2 2) of_two ≡ true
+unfolding is_queue_full number_most
 all_full_row = refl
 
-own_full_row : is_full (dbref_of 1) (limits 3 1) of_two ≡ true
-unfolding is_full number_most
+own_full_row : is_queue_full (dbref_of 1) (limits 3 1) of_two ≡ true
+unfolding is_queue_full number_most
 own_full_row = refl
 
-other_player_row : is_full (dbref_of 3) (limits 3 1) of_two ≡ false
-unfolding is_full number_most
+other_player_row : is_queue_full (dbref_of 3) (limits 3 1) of_two ≡ false
+unfolding is_queue_full number_most
 other_player_row = refl
 
-no_number_row : is_full (dbref_of 3) (limits 3 1) (record { processes = []; last = pos 2147483647; claims = [] }) ≡ true
-unfolding is_full number_most
+no_number_row : is_queue_full (dbref_of 3) (limits 3 1) (record { processes = []; last = pos 2147483647; claims = [] }) ≡ true
+unfolding is_queue_full number_most
 no_number_row = refl
 
 -- What ends.
@@ -153,12 +145,12 @@ no_number_row = refl
 abbrev pub ties : Queue
 ties = record { processes = tied_to 7 (sample (pos 1) 5) ∷ sample (pos 2) 5 ∷ tied_to 8 (sample (pos 3) 5) ∷ []; last = pos 3; claims = [] }
 
-is_tied_row : is_tied 7 ties ≡ true
-unfolding is_tied
+is_tied_row : has_process_tied 7 ties ≡ true
+unfolding has_process_tied
 is_tied_row = refl
 
-not_tied_row : is_tied 9 ties ≡ false
-unfolding is_tied
+not_tied_row : has_process_tied 9 ties ≡ false
+unfolding has_process_tied
 not_tied_row = refl
 
 ended_tied_row : numbers (ended_tied 7 ties) ≡ pos 2 ∷ pos 3 ∷ []
@@ -303,33 +295,33 @@ not_busy_row = refl
 abbrev pub running_in : Mode → Process
 running_in mode = record (tied_to 7 (sample (pos 1) 3)) { mode = mode; units = 5; section = 2 }
 
-counted_row : counted 3 (running_in Foreground) ≡ record (running_in Foreground) { units = 8 }
+counted_row : units_counted 3 (running_in Foreground) ≡ record (running_in Foreground) { units = 8 }
 counted_row = refl
 
-counted_section_row : counted 3 (running_in Preempt) ≡ record (running_in Preempt) { units = 8; section = 5 }
+counted_section_row : units_counted 3 (running_in Preempt) ≡ record (running_in Preempt) { units = 8; section = 5 }
 counted_section_row = refl
 
 -- as far as such counts go
-counted_most_row : (counted 3 (record (sample (pos 1) 3) { units = 18446744073709551614 })).units ≡ 18446744073709551615
+counted_most_row : (units_counted 3 (record (sample (pos 1) 3) { units = 18446744073709551614 })).units ≡ 18446744073709551615
 counted_most_row = refl
 
 resting_row : resting ForLine (running_in Preempt) ≡ record (running_in Preempt) { wait = ForLine; units = 0; section = 0 }
 resting_row = refl
 
 -- a section begins
-preempt_row : in_mode Preempt (running_in Foreground) ≡ record (running_in Preempt) { section = 0 }
+preempt_row : process_in_mode Preempt (running_in Foreground) ≡ record (running_in Preempt) { section = 0 }
 preempt_row = refl
 
 -- and doesn't begin anew
-preempt_again_row : in_mode Preempt (running_in Preempt) ≡ running_in Preempt
+preempt_again_row : process_in_mode Preempt (running_in Preempt) ≡ running_in Preempt
 preempt_again_row = refl
 
 -- in the background it has no connection, and gets none in the foreground
-background_row : (in_mode Background (running_in Foreground)).descr ≡ None
+background_row : (process_in_mode Background (running_in Foreground)).descr ≡ None
 background_row = refl
 
-foreground_row : (in_mode Foreground (in_mode Background (running_in Foreground))).descr ≡ None
+foreground_row : (process_in_mode Foreground (process_in_mode Background (running_in Foreground))).descr ≡ None
 foreground_row = refl
 
-kept_descr_row : (in_mode Preempt (running_in Foreground)).descr ≡ Some 7
+kept_descr_row : (process_in_mode Preempt (running_in Foreground)).descr ≡ Some 7
 kept_descr_row = refl

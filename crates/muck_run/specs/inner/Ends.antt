@@ -4,21 +4,22 @@ use Rattle.std.specs.List.{list_all}
 use Rattle.muck_model.specs.declared.event.Entry.{Entry}
 use Rattle.muck_model.specs.declared.note.Note.{Note}
 use Rattle.muck_store.specs.Forms.{loaded}
-use Rattle.muck_store.specs.Limits.{fits}
-use Rattle.muck_store.specs.Whole.{is_whole}
-use Rattle.muck_log.specs.World.{World as Kept, tune_fits}
-use Rattle.muck_log.specs.Store.{LogState, stored}
+use Rattle.muck_model.specs.Parameters.{tune_fits}
+use Rattle.muck_store.specs.Limits.{record_fits}
+use Rattle.muck_store.specs.Whole.{is_whole_store}
+use Rattle.muck_log.specs.World.{StoredWorld as Kept}
+use Rattle.muck_log.specs.Store.{LogState, store_of}
 use Rattle.muck_log.specs.declared.fault.LogFault.{LogFault}
 use Rattle.muck_log.specs.declared.fault.LogFault.TheVariants.{NoMemory as LogMemory, DiskFault as LogDisk, Damaged as LogDamaged, StoreFull as LogFull, Stale}
 use Rattle.spec_dumps.specs.Survival.{IsSafe, StandsWhole, RoseInLast}
-use Rattle.spec_events.specs.World.{World, booted}
+use Rattle.spec_events.specs.World.{World, world_booted}
 use Rattle.muck_model.specs.declared.event.Event.TheVariants.{Died}
 use Rattle.spec_events.specs.Histories.{History, Longer, noted, by_porter, AllLawful}
 use Rattle.muck_script.specs.declared.act.Act.{Act}
-use Rattle.muck_run.specs.Outcome.{HasRun, IsFirstOutside, IsTooLarge}
+use Rattle.muck_run.specs.Outcome.{HasRun, IsFirstOutsideScript, IsTooLarge}
 use Rattle.muck_run.specs.inner.Dumps.{IsFull, ComesOut}
 use Rattle.muck_run.specs.inner.Plays.{Plays, Breaks}
-use Rattle.muck_script.specs.Story.{failed, dump_entries, dumping}
+use Rattle.muck_script.specs.Story.{failed, dump_entries, dump_part}
 use Rattle.muck_why.specs.declared.why.Why.{Why}
 use Rattle.muck_why.specs.declared.why.Why.TheVariants.{Fine, BadScript, NoMemory, ReadFault, DiskFault, Damaged, StoreFull}
 use Rattle.muck_why.specs.Causes.{Ending, end_of}
@@ -40,7 +41,7 @@ MayNotOpen why = ⊥
 
 -- why no store was mounted, where the disks tell their bytes
 abbrev pub IsMountWhy : List ℕ → List ℕ → Why → Type 0
-IsMountWhy a b (Damaged second at) = stored a b ≡ Err (record { second = second; at = at })
+IsMountWhy a b (Damaged second at) = store_of a b ≡ Err (record { second = second; at = at })
 IsMountWhy a b NoMemory = Unit {0}
 IsMountWhy a b DiskFault = Unit {0}
 IsMountWhy a b why = ⊥
@@ -54,7 +55,7 @@ MayRefuse why = ⊥
 
 -- why no script was read
 abbrev pub IsScriptWhy : Option (List ℕ) → Why → Type 0
-IsScriptWhy left (BadScript line) = IsFirstOutside left line
+IsScriptWhy left (BadScript line) = IsFirstOutsideScript left line
 IsScriptWhy left NoMemory = Unit {0}
 IsScriptWhy left ReadFault = Unit {0}
 IsScriptWhy left why = ⊥
@@ -62,13 +63,13 @@ IsScriptWhy left why = ⊥
 -- the kept world makes objects that hang together
 pub record IsBootable (kept : Kept) : Type 0 where
   pub few : length kept.objects ≤ 100000
-  pub whole : is_whole kept.objects ≡ true
-  pub fit : list_all fits kept.objects ≡ true
+  pub whole : is_whole_store kept.objects ≡ true
+  pub fit : list_all record_fits kept.objects ≡ true
   pub tuned : tune_fits kept.tune ≡ true
 
 -- the world of a kept one at this second, which its random numbers begin with too; nothing has happened in it yet
 abbrev pub booted_at : ℕ → Kept → World
-booted_at began kept = booted (loaded kept.objects) kept.tune began began
+booted_at began kept = world_booted (loaded kept.objects) kept.tune began began
 
 -- a script begins at the second 0
 abbrev pub booted_from : Kept → World
@@ -121,8 +122,8 @@ begun_at began log note = noted (unbegun_at began log) note
 
 -- the last dump of a run, by how the run ends if it was played whole
 abbrev pub PlaysTo : History → History → Option (List ℕ) → Ending → Type 0
-PlaysTo h k o Ending.died = Breaks dumping (by_porter Died ∷ []) h k o o
-PlaysTo h k o end = Plays dumping h k o o
+PlaysTo h k o Ending.died = Breaks dump_part (by_porter Died ∷ []) h k o o
+PlaysTo h k o end = Plays dump_part h k o o
 
 -- and how that dump came out
 abbrev pub ComesOutTo : History → History → Ending → Type 0

@@ -5,7 +5,7 @@ use Rattle.muck_model.specs.declared.event.Entry.{Entry}
 use Rattle.muck_model.specs.declared.event.Event.TheVariants.{Died}
 use Rattle.spec_events.specs.World.{World}
 use Rattle.spec_events.specs.Histories.{History, now, Longer, by_porter}
-use Rattle.muck_script.specs.Story.{Dumped, Part, outcomes_of, text_of}
+use Rattle.muck_script.specs.Story.{Dumped, Part, outcomes_of, transcript_of}
 use Rattle.muck_run.specs.Outcome.{IsPending}
 use Rattle.muck_run.specs.declared.playing.RunFault.{RunFault}
 use Rattle.muck_run.specs.declared.playing.RunFault.TheVariants.{NoMemory, WriteFault}
@@ -20,7 +20,7 @@ pub record Plays (f : Part) (h k : History) (before written : Option (List ℕ))
   pub entries : List Entry
   pub said : Says f (now h) entries
   pub history : Longer h k entries
-  pub text : Appends before written (text_of (now h) entries)
+  pub text : Appends before written (transcript_of (now h) entries)
   pub alive : (now k).dead ≡ false
 
 -- Only the first of those entries happened, and then the ending. Of the text of those that happened a front was written.
@@ -33,7 +33,7 @@ pub record Breaks (f : Part) (ending : List Entry) (h k : History) (before writt
   pub history : Longer h k (front ++ ending)
   pub told : List ℕ
   pub untold : List ℕ
-  pub text : told ++ untold ≡ text_of (now h) front
+  pub text : told ++ untold ≡ transcript_of (now h) front
   pub appended : Appends before written told
   pub alive : ending ≡ [] → (now k).dead ≡ false
 

@@ -5,17 +5,22 @@ use Rattle.muck_model.specs.Decimal.{decimal_of}
 use Rattle.muck_script.specs.declared.act.Act.TheVariants.{Nothing, Open, Send, Close, Wait, Dump}
 use Rattle.muck_links.specs.Lines.{line_most, lines}
 use Rattle.muck_script.specs.Lines.{lines_of}
-use Rattle.spec_live.specs.Output.{sent_lines, queue_most, bytes_of, lines_bytes, line_sent, lines_sent, sent, taken, lines_taken}
-use Rattle.spec_live.specs.Boards.{early_board, opened, closed, line_added, bytes_taken, told_one, leaving_one}
-use Rattle.spec_live.specs.Lives.{followed, reading, either, unchanged, tell, leave}
-use Rattle.spec_events.specs.World.{starting, booted}
+use Rattle.spec_live.specs.Objects.{object_in}
+use Rattle.spec_live.specs.Stood.{stands_in, stilled}
+use Rattle.spec_live.specs.Start.{first_objects, room_zero, player_one}
+use Rattle.spec_live.specs.Output.{sent_lines, queue_most, bytes_of, sent_lines_bytes, line_sent, lines_sent, text_sent, output_taken, lines_taken}
+use Rattle.spec_live.specs.Boards.{early_board, connection_opened, connection_closed, line_added, bytes_taken, told_one, leaving_one}
+use Rattle.spec_live.specs.Lives.{change_followed, reading, either, unchanged, tell, leave}
+use Rattle.spec_events.specs.World.{starting_world, world_booted}
 use Rattle.spec_commands.specs.Replies.{goodbye}
-use Rattle.spec_commands.specs.Talk.{welcome, at_login, quit, waits, parted, gone_away}
+use Rattle.spec_commands.specs.Talk.{welcome, at_login, quit, waits, player_parted, gone_away}
 use Rattle.muck_queue.specs.Queues.{empty_queue, next_due, is_busy, reader, ended_tied}
-use Rattle.spec_events.specs.Lines.{done}
+use Rattle.spec_hooks.specs.Causes.{causes}
+use Rattle.spec_events.specs.Hooked.{hooked, started_all}
+use Rattle.spec_events.specs.Lines.{first_line_done, spoken}
 use Rattle.spec_events.specs.Steps.{is_lawful, effect, next_ready, next_process}
 use Rattle.muck_script.specs.Script.{act_of, script_of, script_most}
-use Rattle.muck_script.specs.Story.{next_turn, turns, served, line_story, asked_dump, later, told, transcript}
+use Rattle.muck_script.specs.Story.{next_turn, turns, served, line_story, asked_dump, moment_later, event_told, transcript}
 
 lines_row : lines_of (97 ∷ 10 ∷ 10 ∷ 98 ∷ []) ≡ (97 ∷ []) ∷ [] ∷ (98 ∷ []) ∷ []
 lines_row = refl
@@ -152,21 +157,21 @@ unfolding act_of decimal_of script_most lines line_most
 whole_row = refl
 
 -- a script of one connection
-quit_row : transcript (Open 1 ∷ Send 1 (codes "quit") ∷ []) [] starting
+quit_row : transcript (Open 1 ∷ Send 1 (codes "quit") ∷ []) [] starting_world
     ≡ codes "1< Use: connect NAME PASSWORD, WHO or QUIT." ++ 10 ∷ codes "1< Come back later!" ++ 10 ∷ codes "1 closed" ++ 10 ∷ []
-unfolding starting booted early_board opened closed line_added bytes_taken told_one leaving_one followed reading either unchanged tell leave goodbye welcome quit waits done parted empty_queue next_due is_busy reader ended_tied gone_away bytes_of lines_bytes line_sent lines_sent sent taken lines_taken is_lawful effect next_ready next_process next_turn at_login sent_lines queue_most turns served line_story told digits asked_dump
+unfolding starting_world world_booted early_board connection_opened connection_closed line_added bytes_taken told_one leaving_one change_followed reading either unchanged tell leave goodbye welcome quit waits first_line_done player_parted empty_queue next_due is_busy reader ended_tied gone_away bytes_of sent_lines_bytes line_sent lines_sent text_sent output_taken lines_taken is_lawful effect next_ready next_process next_turn at_login sent_lines queue_most turns served line_story event_told digits asked_dump spoken hooked started_all causes stands_in stilled object_in first_objects room_zero player_one
 quit_row = refl
 
 -- nothing is written of a connection that the script closes, nor where there is none, nor of time that passes
-closed_row : transcript (Open 1 ∷ Close 1 ∷ Close 1 ∷ Wait 5 ∷ []) [] starting ≡ codes "1< Use: connect NAME PASSWORD, WHO or QUIT." ++ 10 ∷ []
-unfolding starting booted early_board opened closed line_added bytes_taken told_one leaving_one followed reading either unchanged tell leave goodbye welcome quit waits done parted empty_queue next_due is_busy reader ended_tied gone_away bytes_of lines_bytes line_sent lines_sent sent taken lines_taken is_lawful effect next_ready next_process next_turn at_login sent_lines queue_most turns served line_story told digits asked_dump
+closed_row : transcript (Open 1 ∷ Close 1 ∷ Close 1 ∷ Wait 5 ∷ []) [] starting_world ≡ codes "1< Use: connect NAME PASSWORD, WHO or QUIT." ++ 10 ∷ []
+unfolding starting_world world_booted early_board connection_opened connection_closed line_added bytes_taken told_one leaving_one change_followed reading either unchanged tell leave goodbye welcome quit waits first_line_done player_parted empty_queue next_due is_busy reader ended_tied gone_away bytes_of sent_lines_bytes line_sent lines_sent text_sent output_taken lines_taken is_lawful effect next_ready next_process next_turn at_login sent_lines queue_most turns served line_story event_told digits asked_dump spoken hooked started_all causes stands_in stilled object_in first_objects room_zero player_one
 closed_row = refl
 
 -- it is so many seconds later, as far as seconds go
-later_row : later 5 (record starting { moment = 7 }) ≡ 12
-unfolding starting booted
+later_row : moment_later 5 (record starting_world { moment = 7 }) ≡ 12
+unfolding starting_world world_booted
 later_row = refl
 
-last_row : later 5 (record starting { moment = 18446744073709551613 }) ≡ 18446744073709551615
-unfolding starting booted
+last_row : moment_later 5 (record starting_world { moment = 18446744073709551613 }) ≡ 18446744073709551615
+unfolding starting_world world_booted
 last_row = refl

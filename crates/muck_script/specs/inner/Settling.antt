@@ -3,14 +3,14 @@ use Rattle.std.specs.Prelude.{◌≡◌, ℤ, List, [], ◌∷◌, ◌++◌, Opt
 use Rattle.muck_model.specs.declared.event.Entry.{Entry}
 use Rattle.muck_model.specs.declared.event.Event.TheVariants.{Died}
 use Rattle.spec_events.specs.Histories.{History, Grew, by_porter}
-use Rattle.muck_script.specs.Story.{Turn, of_process, turn_entries}
+use Rattle.muck_script.specs.Story.{StoryTurn, of_process, turn_entries}
 
 -- what happens in a turn, if there is one
-abbrev pub entries_of : Option Turn → List Entry
+abbrev pub entries_of : Option StoryTurn → List Entry
 entries_of None = []
 entries_of (Some t) = turn_entries t
 
-abbrev pub slice_of : Option ℤ → Option Turn
+abbrev pub slice_of : Option ℤ → Option StoryTurn
 slice_of None = None
 slice_of (Some pid) = Some (of_process pid)
 

@@ -11,7 +11,7 @@ use Rattle.muf_model.specs.inner.Flat.{Flat}
 use Rattle.muf_model.specs.inner.Decode.{tree_of}
 use Rattle.muf_model.specs.inner.Stands.{TreeStands}
 use Rattle.muf_model.specs.Tree.{Definition}
-use Rattle.muf_model.specs.Source.{Source, calls_of, entered, handed}
+use Rattle.muf_model.specs.Source.{Source, calls_running, program_entered, handed}
 use Rattle.muf_model.specs.Unit.{calls_most}
 use Rattle.muf_frame.specs.declared.fault.PrimFault.{PrimFault}
 use Rattle.muf_frame.specs.declared.fault.PrimFault.TheVariants.{Fault as FrameFault, NoMemory as FrameNoMemory}
@@ -22,16 +22,16 @@ use Rattle.muck_queue.specs.declared.fault.QueueFault.TheVariants.{ProcessLimit 
 use Rattle.muf_running.specs.declared.entered.Entered.{Entered}
 use Rattle.muf_running.specs.inner.Fitting.{program_with, IsAtPrimitive}
 use Rattle.muf_running.specs.inner.Lending.{Apart, Differs}
-use Rattle.spec_prims.specs.Asking.{numbered}
-use Rattle.spec_prims.specs.Row.{Row, gives, refuses, breaks}
+use Rattle.spec_prims.specs.Asking.{object_numbered}
+use Rattle.spec_prims.specs.Row.{WorldAnswer, gives, refuses, breaks}
 use Rattle.spec_processes.specs.ProcessRows.{Effect, gives as effect_gives, waits, forks, enters, starts, refuses as effect_refuses}
 use Rattle.prim_proc.specs.inner.Applied.{HasStack, IsLeft, called_items}
 use Rattle.prim_proc.specs.declared.after.After.{After}
 use Rattle.prim_proc.specs.declared.after.After.TheVariants.{Go, Wait, Fork, Call, Queue}
 use Rattle.spec_events.specs.declared.starting.Call.{Call as Started}
 use Rattle.spec_events.specs.World.{World}
-use Rattle.spec_events.specs.Starting.{joined}
-use Rattle.spec_events.specs.Slices.{Deed, does, rests, fails, behind, child_of, queued_command}
+use Rattle.spec_events.specs.Starting.{process_joined}
+use Rattle.spec_events.specs.Slices.{SharedEffect, does, rests, fails, state_behind, child_of, queued_command}
 use Rattle.muck_turns.specs.declared.state.deeds.Done.{Done}
 use Rattle.muck_turns.specs.declared.state.deeds.Done.TheVariants.{Does as DoneDoes, Rests as DoneRests, Fails as DoneFails}
 use Rattle.muck_turns.specs.declared.state.deeds.DeedFault.{DeedFault}
@@ -39,14 +39,14 @@ use Rattle.muck_turns.specs.declared.state.deeds.DeedFault.TheVariants.{Fault, N
 use Rattle.muck_turns.specs.declared.state.calls.Entrance.{Entrance}
 
 -- a shared primitive was done or refused, where the process stood at s
-abbrev pub DoneAs : Deed World → Source → World → Done → Type 0
+abbrev pub DoneAs : SharedEffect World → Source → World → Done → Type 0
 DoneAs deed s w (DoneDoes t) = deed ≡ does t w
 DoneAs deed s w (DoneRests t) = deed ≡ rests t w
 DoneAs deed s w (DoneFails t f) = (t ≡ s) × (deed ≡ fails f w)
 
 -- a row was applied to a frame and to the world, or was refused, and then both are as they were, or broke off, and then the frame
 -- is; after want of memory nothing is said of them
-abbrev pub AppliedTo : Row → Shown → Shown → World → World → Result (Unit {0}) PrimFault → Type 0
+abbrev pub AppliedTo : WorldAnswer → Shown → Shown → World → World → Result (Unit {0}) PrimFault → Type 0
 AppliedTo (gives stack live) f g w v (Ok x) = (flat g ≡ record (flat f) { stack = stack }) × (v ≡ record w { live = live })
 AppliedTo (refuses e) f g w v (Err (FrameFault h)) = (h ≡ e) × (g ≡ f) × (v ≡ w)
 AppliedTo (breaks e live) f g w v (Err (FrameFault h)) = (h ≡ e) × (g ≡ f) × (v ≡ record w { live = live })
@@ -68,7 +68,7 @@ ProcessAppliedTo effect f g w v result = ⊥
 
 -- how QUEUE starts a program
 abbrev pub queued_call : Dbref → ℤ → List ℕ → Started
-queued_call player d argument = record { player = player; program = numbered d; trigger = nothing; command = queued_command; argument = argument }
+queued_call player d argument = record { player = player; program = object_numbered d; trigger = nothing; command = queued_command; argument = argument }
 
 -- the number of a child that joined, and -1 where it couldn't
 abbrev pub child_number : World × Result ℤ MufFault → ℤ
@@ -79,8 +79,8 @@ child_number (w, Err f) = negsuc 0
 abbrev pub Bears : Option Process → Source → World → World → ℤ → Type 0
 Bears None s w v n = ⊥
 Bears (Some p) s w v n =
-    (n ≡ child_number (joined (child_of w.moment (handed (int (pos 0)) s) p) w))
-    × (v ≡ (joined (child_of w.moment (handed (int (pos 0)) s) p) w).0)
+    (n ≡ child_number (process_joined (child_of w.moment (handed (int (pos 0)) s) p) w))
+    × (v ≡ (process_joined (child_of w.moment (handed (int (pos 0)) s) p) w).0)
 
 -- a frame of a process that stands at a primitive, but for its stack and its variables
 abbrev pub PassesOn : List Entered → Flat → Type 0
@@ -89,17 +89,17 @@ PassesOn es g = (f : Flat) × (s : Source) × Apart es f s × Differs f g × IsA
 -- the state in which a word is entered from the one at CALL
 abbrev pub target : Entrance → Source → Option Source
 target e s =
-    option_map (λ d. entered (program_with e.program e.code) d (behind (drop e.items s.stack) s)) (slice_get (tree_of e.code).words e.word)
+    option_map (λ d. program_entered (program_with e.program e.code) d (state_behind (drop e.items s.stack) s)) (slice_get (tree_of e.code).words e.word)
 
 -- it may be entered from there
 pub record MayEnter (e : Entrance) (s : Source) : Type 0 where
   pub items : e.items ≤ length s.stack
   pub stands : TreeStands e.code (tree_of e.code)
   pub word : e.word < length e.code.words
-  pub room : calls_of s.marks < calls_most
+  pub room : calls_running s.marks < calls_most
 
 -- a word is to be entered, or is refused
-abbrev pub Enters : Deed World → Source → World → Result Entrance DeedFault → Type 0
+abbrev pub Enters : SharedEffect World → Source → World → Result Entrance DeedFault → Type 0
 Enters deed s w (Ok e) = MayEnter e s × ((t : Source) → target e s ≡ Some t → deed ≡ does t w)
 Enters deed s w (Err (Fault f)) = deed ≡ fails f w
 Enters deed s w (Err NoMemory) = Unit {0}

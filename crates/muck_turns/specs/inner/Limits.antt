@@ -6,19 +6,19 @@ use Rattle.muf_model.specs.Unit.{Outcome, goes, asks, units}
 use Rattle.muf_model.specs.Chains.{taken}
 use Rattle.spec_events.specs.declared.starting.Agent.{Agent}
 use Rattle.spec_events.specs.World.{World}
-use Rattle.spec_events.specs.Slices.{Turn, on, rest, over, world_of, deed, after_deed, went, is_through, limit_fault, run_of, last_world}
+use Rattle.spec_events.specs.Slices.{Went, on, rest, over, world_of, deed, after_deed, unit_went, is_through, limit_fault, units_run, last_world}
 use Rattle.spec_events.specs.inner.Stints.{allowed, many_counted}
 use Rattle.muck_turns.specs.declared.state.limits.Allowance.{Allowance}
 use Rattle.muck_turns.specs.declared.state.limits.Allowance.TheVariants.{Through, Spent, Units}
 
 -- whether a process goes on
-abbrev pub goes_on : Turn → Bool
+abbrev pub goes_on : Went → Bool
 goes_on (on w) = true
 goes_on (rest w) = false
 goes_on (over w) = false
 
 -- a unit left the world so, and the process goes on or not
-pub record LeadsTo (b : Bool) (v : World) (t : Turn) : Type 0 where
+pub record LeadsTo (b : Bool) (v : World) (t : Went) : Type 0 where
   pub goes : goes_on t ≡ b
   pub world : world_of t ≡ v
 
@@ -29,9 +29,9 @@ Allows tune level left x (Spent f) = (0 < left) × (is_through tune left x ≡ f
 Allows tune level left x (Units n) = (0 < n) × (n ≤ allowed tune level left x)
 
 -- How units that were taken at once left a world that the state of the process is out of: n of them, beside the one that is asked for.
-abbrev pub ran : ℤ → Agent → ℕ → ℤ → Outcome → World → Turn
+abbrev pub ran : ℤ → Agent → ℕ → ℤ → Outcome → World → Went
 ran pid x n program (asks p t) w = after_deed pid x.player t (deed pid x p t (many_counted (suc n) pid w))
-ran pid x n program o w = went pid x.player program o (many_counted n pid w)
+ran pid x n program o w = unit_went pid x.player program o (many_counted n pid w)
 
 -- and how many they are with that one
 abbrev pub ran_units : ℕ → Outcome → ℕ
@@ -45,5 +45,5 @@ Runs pid x m s w v None = LeadsTo false v (ran pid x (taken m s) s.program.numbe
 
 -- units of a process that has n: it goes on with fewer, or is over
 abbrev pub Stops : Tune → ℤ → ℕ → World → World → Option ℕ → Type 0
-Stops tune pid n w v (Some left) = (left < n) × (last_world w (run_of tune n pid w) ≡ last_world v (run_of tune left pid v))
-Stops tune pid n w v None = last_world w (run_of tune n pid w) ≡ v
+Stops tune pid n w v (Some left) = (left < n) × (last_world w (units_run tune n pid w) ≡ last_world v (units_run tune left pid v))
+Stops tune pid n w v None = last_world w (units_run tune n pid w) ≡ v

@@ -5,7 +5,7 @@ ghost use Rattle.std.specs.Option.{option_copied};
 ghost use Rattle.std.specs.Str.{bytes_eq};
 ghost use Rattle.muf_model.specs.inner.Decode.{tree_of};
 ghost use Rattle.muf_running.specs.inner.Fitting.{IsAtPrimitive};
-ghost use Rattle.spec_events.specs.Slices.{behind, called_word, form_called, is_offered, program_called};
+ghost use Rattle.spec_events.specs.Slices.{state_behind, called_word, form_called, is_offered, program_called};
 ghost use Rattle.muck_library.specs.Library.{formed};
 ghost use Rattle.prim_proc.specs.inner.Applied.{called_items};
 ghost use Rattle.muck_turns.specs.inner.Deeds.{target, DoneAs, Enters, IsWord, MayEnter};
@@ -48,7 +48,7 @@ impl State {
     ) -> Result<Done, NoMemory>
         requires at { IsAtPrimitive running.now }
         requires items { called_items name ≤ length running.stack }
-        ensures { IfOk result (λ done. DoneAs (program_called actor (behind (drop (called_items name) running.stack) running) program.0 name self.old) running self.new done) }
+        ensures { IfOk result (λ done. DoneAs (program_called actor (state_behind (drop (called_items name) running.stack) running) program.0 name self.old) running self.new done) }
     {
         match self.call(&actor, &running, program, name.as_ref()) {
             Ok(entrance) => {
@@ -70,7 +70,7 @@ impl State {
         name: Option<&Text>,
     ) -> Result<Entrance, DeedFault>
         requires { called_items (option_copied name) ≤ length running.now.stack }
-        ensures { Enters (program_called actor.now (behind (drop (called_items (option_copied name.entry)) running.now.stack) running.now) program.0 (option_copied name.entry) self.old) running.now self.new result }
+        ensures { Enters (program_called actor.now (state_behind (drop (called_items (option_copied name.entry)) running.now.stack) running.now) program.0 (option_copied name.entry) self.old) running.now self.new result }
     {
         let asked = Request {
             program,
@@ -88,7 +88,7 @@ impl State {
         asked: Request<'_>,
     ) -> Result<Entrance, DeedFault>
         requires { asked.items ≤ length running.now.stack }
-        ensures { Enters (form_called actor.now (behind (drop asked.entry.items running.now.stack) running.now) asked.entry.program.0 (option_copied asked.entry.name) (formed self.old.live.objects asked.entry.program self.old.library) self.old) running.now self.new result }
+        ensures { Enters (form_called actor.now (state_behind (drop asked.entry.items running.now.stack) running.now) asked.entry.program.0 (option_copied asked.entry.name) (formed self.old.live.objects asked.entry.program self.old.library) self.old) running.now self.new result }
     {
         let Request {
             program,

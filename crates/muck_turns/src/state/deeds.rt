@@ -1,14 +1,14 @@
 // What shared primitives do.
 ghost use Rattle.std.specs.Prelude.{◌≡◌, ◌+◌, ◌≤◌, drop, length, IfOk};
 ghost use Rattle.muf_model.specs.inner.Flat.{Flat};
-ghost use Rattle.muf_model.specs.Source.{Source, passed};
+ghost use Rattle.muf_model.specs.Source.{Source, item_passed};
 ghost use Rattle.muck_perm.specs.inner.Guards.{world_of};
 ghost use Rattle.muf_frame.specs.inner.Shown.{Shown, flat, locked_by};
 ghost use Rattle.muf_running.specs.inner.Fitting.{IsAtPrimitive};
 ghost use Rattle.muf_running.specs.inner.Lending.{Apart, Differs, with_frame};
 ghost use Rattle.spec_prims.specs.Shared.{shared};
 ghost use Rattle.prim_common.specs.inner.Applied.{Applied};
-ghost use Rattle.spec_events.specs.Slices.{acting, behind, deed, row_done};
+ghost use Rattle.spec_events.specs.Slices.{acting, state_behind, deed, row_done};
 ghost use Rattle.muck_turns.specs.inner.Deeds.{AppliedTo, DoneAs, PassesOn};
 
 use crate::state::State;
@@ -159,7 +159,7 @@ fn apply_by_family(
 /// The process behind the primitive at which it stands.
 pub fn passed(programs: Programs, frame: FrameBox) -> Running
     requires { PassesOn programs (flat frame) }
-    ensures { (f : Flat) (s : Source) → Apart programs f s → Differs f (flat frame) → result ≡ passed (with_frame (flat frame) s) }
+    ensures { (f : Flat) (s : Source) → Apart programs f s → Differs f (flat frame) → result ≡ item_passed (with_frame (flat frame) s) }
 {
     let mut next = Running::rejoin(programs, frame);
     next.pass();
@@ -170,7 +170,7 @@ pub fn passed(programs: Programs, frame: FrameBox) -> Running
 pub fn behind(running: Running, items: usize) -> Running
     requires at { IsAtPrimitive running.now }
     requires items { items ≤ length running.stack }
-    ensures state { result ≡ behind (drop items running.stack) running }
+    ensures state { result ≡ state_behind (drop items running.stack) running }
     ensures most { length (drop items running.stack) + items ≤ 1024 }
 {
     let (programs, mut frame) = running.take_apart();

@@ -5,7 +5,7 @@ ghost use Rattle.muck_model.specs.declared.event.Event.{Event};
 ghost use Rattle.muck_store.specs.inner.Changes.{LeavesOut, KeepsUndue};
 ghost use Rattle.muck_store.specs.Forms.{persist};
 ghost use Rattle.spec_live.specs.Saving.{pending, all_saving};
-ghost use Rattle.spec_events.specs.World.{on_dumps, on_live, askers_of, over};
+ghost use Rattle.spec_events.specs.World.{on_dumps, on_live, askers_of, dump_over};
 ghost use Rattle.spec_events.specs.Dumping.{told_each, resaved};
 ghost use Rattle.spec_events.specs.Steps.{happened};
 
@@ -63,7 +63,7 @@ impl State {
     // The dump that runs is over, and a text is sent to each connection that asked for it.
     #[tactic(auto, unfolding(spec_events::specs::Dumping::told_each))]
     fn tell_askers(&mut self, text: &[u8]) -> Result<(), NoMemory>
-        ensures { OnOk result (self.new ≡ on_dumps over (on_live (told_each (askers_of self.old.dumps) text.now) self.old)) }
+        ensures { OnOk result (self.new ≡ on_dumps dump_over (on_live (told_each (askers_of self.old.dumps) text.now) self.old)) }
     {
         match self.dumps.end() {
             Some(askers) => self.tell_each(askers.as_slice(), text),

@@ -3,7 +3,7 @@ ghost use Rattle.std.specs.Prelude.{◌≡◌, OnOk, IfOk};
 ghost use Rattle.muck_model.specs.declared.edit.EditState.{EditState};
 ghost use Rattle.spec_live.specs.Lives.{tell};
 ghost use Rattle.spec_commands.specs.Finding.{actor_of};
-ghost use Rattle.spec_commands.specs.Editing.{IsOpen, is_open, edited};
+ghost use Rattle.spec_commands.specs.Editing.{IsOpen, is_editor_open, edited_by_line};
 ghost use Rattle.spec_events.specs.World.{on_live};
 ghost use Rattle.spec_events.specs.Lines.{with_editor, next_editor, flaw_text, compiled, edited_line, in_editor};
 
@@ -36,7 +36,7 @@ impl State {
 
     // Whether an editor is open.
     fn is_open(&mut self, player: Dbref, state: &EditState) -> bool
-        ensures answer { result ≡ is_open state.now self.old.live }
+        ensures answer { result ≡ is_editor_open state.now self.old.live }
         ensures same { self.new ≡ self.old }
     {
         let actor = actor_of(&self.db, player);
@@ -76,9 +76,9 @@ impl State {
         line: &Line,
     ) -> Result<EditStep, NoMemory>
         requires { IsOpen editor.old.state self.old.live }
-        ensures world { OnOk result (self.new ≡ record self.old { live = (edited d (actor_of self.old.live.objects player) editor.old.state line.now self.old.live).0 }) }
-        ensures state { OnOk result (editor.new.state ≡ (edited d (actor_of self.old.live.objects player) editor.old.state line.now self.old.live).1) }
-        ensures step { IfOk result (λ step. step ≡ (edited d (actor_of self.old.live.objects player) editor.old.state line.now self.old.live).2) }
+        ensures world { OnOk result (self.new ≡ record self.old { live = (edited_by_line d (actor_of self.old.live.objects player) editor.old.state line.now self.old.live).0 }) }
+        ensures state { OnOk result (editor.new.state ≡ (edited_by_line d (actor_of self.old.live.objects player) editor.old.state line.now self.old.live).1) }
+        ensures step { IfOk result (λ step. step ≡ (edited_by_line d (actor_of self.old.live.objects player) editor.old.state line.now self.old.live).2) }
     {
         let actor = actor_of(&self.db, player);
         let mut guard = Guard::new(self.alloc, &mut self.db, &mut self.board, actor);

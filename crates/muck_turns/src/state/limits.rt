@@ -1,6 +1,6 @@
 // How many units a process may take.
 ghost use Rattle.std.specs.Prelude.{◌≡◌, ◌≤◌, ◌<◌, true, false, IfNone, Option};
-ghost use Rattle.spec_events.specs.Slices.{are_spent, is_through, limit_fault, section_most, units_most};
+ghost use Rattle.spec_events.specs.Slices.{are_spent, is_through, limit_fault, section_most, units_most_at};
 ghost use Rattle.spec_events.specs.inner.Stints.{allowed, unbroken, unspent};
 ghost use Rattle.muck_turns.specs.inner.Limits.{Allows};
 
@@ -61,7 +61,7 @@ fn limit_fault(tune: &Tune, level: u8, agent: &Agent) -> Option<MufFault>
 
 // The most units at a level, where there is a limit.
 fn units_most(tune: &Tune, level: u8) -> Option<u32>
-    ensures { result ≡ units_most tune.now level }
+    ensures { result ≡ units_most_at tune.now level }
 {
     match level {
         0 | 1 => Some(tune.m1_units),

@@ -1,15 +1,19 @@
 // Lines that are done.
-ghost use Rattle.std.specs.Prelude.{◌≡◌, IfOk, OnOk, Some};
+ghost use Rattle.std.specs.Prelude.{◌≡◌, IfOk, OnOk, Some, None};
 ghost use Rattle.muck_model.specs.declared.event.Event.{Event};
 ghost use Rattle.muck_queue.specs.Queues.{reader};
 ghost use Rattle.spec_live.specs.Boards.{editor_in};
 ghost use Rattle.spec_commands.specs.Finding.{actor_of};
-ghost use Rattle.spec_events.specs.Lines.{command, typed, left_by, followed_up, given_line, in_world, is_abort, line_for, with_editor, editor_on};
-ghost use Rattle.spec_events.specs.Steps.{happened};
-ghost use Rattle.spec_events.specs.World.{on_live};
+ghost use Rattle.spec_commands.specs.inner.Rising.{IsRising};
+ghost use Rattle.spec_live.specs.Stood.{IsStill};
+ghost use Rattle.muck_turns.specs.inner.Hooks.{AreTold, said_of};
+ghost use Rattle.spec_events.specs.Lines.{spoken, line_spoken, spoken_by, command, typed, processes_after_line, followed_up, given_line, in_world, is_abort, line_for, with_editor, editor_on};
+ghost use Rattle.spec_events.specs.Steps.{happened, hooked_by};
+ghost use Rattle.spec_events.specs.World.{on_live, connection};
 
 use crate::commands::{actor_of, play};
 use crate::state::State;
+use crate::state::hook::Speech;
 use cmd_common::copy_lines;
 use muck_model::{Dbref, EditState, Line, LineList, NoMemory};
 use muck_perm::Guard;
@@ -18,23 +22,49 @@ use spec_commands::Outcome;
 use spec_events::Call;
 
 impl State {
-    /// The first waiting line of a connection is done. It goes to the process that reads from the connection, where there is one.
+    /// The first waiting line of a connection is done, and what is hooked to that starts. The line goes to the process that reads from the connection, where there is one.
     pub fn do_line(&mut self, d: u32) -> Result<(), NoMemory>
-        ensures { OnOk result (self.new ≡ happened self.old 0 (Event.Exec d)) }
+        requires told { AreTold self.old.live.objects }
+        requires still { IsStill self.old.live.objects }
+        requires rising { IsRising self.old.live.board.connections }
+        ensures { OnOk result (self.new ≡ hooked_by self.old (Event.Exec d) (happened self.old 0 (Event.Exec d))) }
+    {
+        let before = self.player_of(d);
+        let said = self.first_line(d)?;
+        let turned = self.came(d, before);
+        self.hook(turned, said)
+    }
+
+    // The line alone, and what was said by it.
+    fn first_line(&mut self, d: u32) -> Result<Option<Speech>, NoMemory>
+        ensures world { OnOk result (self.new ≡ happened self.old 0 (Event.Exec d)) }
+        ensures said { IfOk result (λ said. said_of said ≡ spoken d (connection d self.old) self.old) }
     {
         match self.board.take_line(d) {
-            None => Ok(()),
+            None => Ok(None),
             Some((player, line)) => self.bring(d, player, line),
         }
     }
 
     // A line goes to the process that reads from its connection, or is done.
-    fn bring(&mut self, d: u32, player: Option<Dbref>, line: Line) -> Result<(), NoMemory>
-        ensures { OnOk result (self.new ≡ line_for (reader d self.old.queue) player (editor_in d self.old.live.board) d line self.old) }
+    fn bring(
+        &mut self,
+        d: u32,
+        player: Option<Dbref>,
+        line: Line,
+    ) -> Result<Option<Speech>, NoMemory>
+        ensures world { OnOk result (self.new ≡ line_for (reader d self.old.queue) player (editor_in d self.old.live.board) d line self.old) }
+        ensures said { IfOk result (λ said. said_of said ≡ line_spoken (reader d self.old.queue) player (editor_in d self.old.live.board) d line self.old) }
     {
         match (self.queue.reader(d), player) {
-            (Some(pid), _) => self.give_line(d, pid, line),
-            (None, None) => self.at_login(d, line.as_slice()),
+            (Some(pid), _) => {
+                self.give_line(d, pid, line)?;
+                Ok(None)
+            }
+            (None, None) => {
+                self.at_login(d, line.as_slice())?;
+                Ok(None)
+            }
             (None, Some(player)) => self.obey(d, player, &line),
         }
     }
@@ -54,28 +84,35 @@ impl State {
     }
 
     // A line of a player, who edits a program or gives a command.
-    fn obey(&mut self, d: u32, player: Dbref, line: &Line) -> Result<(), NoMemory>
-        ensures { OnOk result (self.new ≡ command (Some player) (editor_in d self.old.live.board) d line.now self.old) }
+    fn obey(&mut self, d: u32, player: Dbref, line: &Line) -> Result<Option<Speech>, NoMemory>
+        ensures world { OnOk result (self.new ≡ command (Some player) (editor_in d self.old.live.board) d line.now self.old) }
+        ensures said { IfOk result (λ said. said_of said ≡ line_spoken None (Some player) (editor_in d self.old.live.board) d line.now self.old) }
     {
         match self.board.take_editor(d) {
-            Some(state) => self.in_editor(d, player, state, line),
+            Some(state) => {
+                self.in_editor(d, player, state, line)?;
+                Ok(None)
+            }
             None => self.in_world(d, player, line),
         }
     }
 
     // A command of a player is done, with what follows from the objects that it changed and what is to follow it.
     #[tactic(auto, unfolding(spec_events::specs::Lines::in_world))]
-    fn in_world(&mut self, d: u32, player: Dbref, line: &Line) -> Result<(), NoMemory>
-        ensures { OnOk result (self.new ≡ in_world d player line.now self.old) }
+    fn in_world(&mut self, d: u32, player: Dbref, line: &Line) -> Result<Option<Speech>, NoMemory>
+        ensures world { OnOk result (self.new ≡ in_world d player line.now self.old) }
+        ensures said { IfOk result (λ said. said_of said ≡ spoken_by player (typed self.old.queue d (actor_of self.old.live.objects player) line.now self.old.live)) }
     {
         let outcome = self.play(d, player, line)?;
+        let said = self.speech(player, &outcome)?;
         self.settle();
-        self.follow_up(d, player, outcome)
+        self.follow_up(d, player, outcome)?;
+        Ok(said)
     }
 
     // Does the line, and answers what is to follow.
     fn play(&mut self, d: u32, player: Dbref, line: &Line) -> Result<Outcome, NoMemory>
-        ensures world { OnOk result (self.new ≡ record self.old { live = (typed self.old.queue d (actor_of self.old.live.objects player) line.now self.old.live).0; queue = left_by d (actor_of self.old.live.objects player) line.now self.old.live self.old.queue }) }
+        ensures world { OnOk result (self.new ≡ record self.old { live = (typed self.old.queue d (actor_of self.old.live.objects player) line.now self.old.live).0; queue = processes_after_line d (actor_of self.old.live.objects player) line.now self.old.live self.old.queue }) }
         ensures outcome { IfOk result (λ outcome. outcome ≡ (typed self.old.queue d (actor_of self.old.live.objects player) line.now self.old.live).1) }
     {
         let actor = actor_of(&self.db, player);
@@ -120,7 +157,7 @@ impl State {
                 self.board.set_tune(tune);
                 Ok(())
             }
-            Outcome::Done | Outcome::NotMine => Ok(()),
+            Outcome::Done | Outcome::Said { .. } | Outcome::NotMine => Ok(()),
         }
     }
 

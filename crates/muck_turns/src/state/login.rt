@@ -1,10 +1,10 @@
 // The login screen.
 ghost use Rattle.std.specs.Prelude.{◌≡◌, IfOk, OnOk};
-ghost use Rattle.spec_live.specs.Lives.{followed, reading};
+ghost use Rattle.spec_live.specs.Lives.{change_followed, reading};
 ghost use Rattle.spec_events.specs.World.{on_live};
 ghost use Rattle.spec_commands.specs.Replies.{has_connected};
 ghost use Rattle.spec_commands.specs.Messages.{look_typed};
-ghost use Rattle.spec_commands.specs.Finding.{actor_of, shown_others, looked};
+ghost use Rattle.spec_commands.specs.Finding.{actor_of, shown_others, place_looked_at};
 ghost use Rattle.spec_commands.specs.Talking.{who_shown};
 ghost use Rattle.spec_commands.specs.Talk.{at_login, connecting, logged_in, proved, let_in, quit};
 
@@ -74,7 +74,7 @@ impl State {
         }
     }
 
-    #[tactic(auto, unfolding(spec_commands::specs::Talk::refused_login, spec_live::specs::Lives::followed, spec_live::specs::Lives::enter))]
+    #[tactic(auto, unfolding(spec_commands::specs::Talk::refused_login, spec_live::specs::Lives::change_followed, spec_live::specs::Lives::enter))]
     fn let_in(&mut self, d: u32, player: Option<Dbref>) -> Result<(), NoMemory>
         ensures { OnOk result (self.new ≡ on_live (let_in d player) self.old) }
     {
@@ -89,9 +89,9 @@ impl State {
     }
 
     // The others where a player is see that it has connected, and it looks.
-    #[tactic(auto, unfolding(spec_commands::specs::Replies::has_connected, spec_live::specs::Lives::followed, spec_live::specs::Lives::reading))]
+    #[tactic(auto, unfolding(spec_commands::specs::Replies::has_connected, spec_live::specs::Lives::change_followed, spec_live::specs::Lives::reading))]
     fn arrive(&mut self, d: u32, player: Dbref) -> Result<(), NoMemory>
-        ensures { OnOk result (self.new ≡ on_live (reading (λ w. actor_of w.objects player) (λ a. followed (shown_others player has_connected) (looked d a look_typed))) self.old) }
+        ensures { OnOk result (self.new ≡ on_live (reading (λ w. actor_of w.objects player) (λ a. change_followed (shown_others player has_connected) (place_looked_at d a look_typed))) self.old) }
     {
         let actor = actor_of(&self.db, player);
         let mut guard = Guard::new(self.alloc, &mut self.db, &mut self.board, actor);
@@ -110,7 +110,7 @@ impl State {
         Ok(())
     }
 
-    #[tactic(auto, unfolding(spec_commands::specs::Talk::quit, spec_commands::specs::Replies::goodbye, spec_live::specs::Lives::followed, spec_live::specs::Lives::leave))]
+    #[tactic(auto, unfolding(spec_commands::specs::Talk::quit, spec_commands::specs::Replies::goodbye, spec_live::specs::Lives::change_followed, spec_live::specs::Lives::leave))]
     fn quit(&mut self, d: u32) -> Result<(), NoMemory>
         ensures { OnOk result (self.new ≡ on_live (quit d) self.old) }
     {

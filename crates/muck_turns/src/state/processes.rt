@@ -10,8 +10,8 @@ ghost use Rattle.muf_frame.specs.inner.Shown.{flat, locked_by};
 ghost use Rattle.muf_running.specs.inner.Fitting.{IsAtPrimitive};
 ghost use Rattle.spec_processes.specs.ProcessRows.{processed};
 ghost use Rattle.spec_events.specs.declared.starting.Agent.{Agent};
-ghost use Rattle.spec_events.specs.Starting.{joined};
-ghost use Rattle.spec_events.specs.Slices.{acting, behind, child_of, forked, place_in, process_done, queued};
+ghost use Rattle.spec_events.specs.Starting.{process_joined};
+ghost use Rattle.spec_events.specs.Slices.{acting, state_behind, child_of, forked, place_of_use, process_done, queued};
 ghost use Rattle.muck_turns.specs.inner.Deeds.{Bears, child_number, queued_call, DoneAs, ProcessAppliedTo};
 
 use crate::state::State;
@@ -76,7 +76,7 @@ impl State {
 
     // Where a primitive of processes is used.
     fn place_in(&self, pid: i32, running: &Running) -> Result<Place, NoMemory>
-        ensures { IfOk result (λ place. place ≡ place_in pid running.now self.now) }
+        ensures { IfOk result (λ place. place ≡ place_of_use pid running.now self.now) }
     {
         let callers = running.callers(self.alloc)?;
         Ok(Place {
@@ -105,7 +105,7 @@ impl State {
     // FORK, from the state behind it: a child joins the processes, and the parent gets its number.
     fn fork(&mut self, pid: i32, running: Running) -> Result<Running, NoMemory>
         requires { is_some (process pid self.old.queue) ≡ true }
-        ensures { IfOk result (λ next. (s : Source) (stack : List Datum) → running ≡ behind stack s → length stack < 1024 → DoneAs (forked pid stack s self.old) s self.new (Done.Does next)) }
+        ensures { IfOk result (λ next. (s : Source) (stack : List Datum) → running ≡ state_behind stack s → length stack < 1024 → DoneAs (forked pid stack s self.old) s self.new (Done.Does next)) }
     {
         let number = self.bear(pid, &running)?;
         let mut next = running;
@@ -132,8 +132,8 @@ impl State {
 
     // A child joins the processes; answers its number, and -1 where there is no room for it.
     fn join_child(&mut self, child: Process) -> Result<i32, NoMemory>
-        ensures number { IfOk result (λ n. n ≡ child_number (joined child self.old)) }
-        ensures world { OnOk result (self.new ≡ (joined child self.old).0) }
+        ensures number { IfOk result (λ n. n ≡ child_number (process_joined child self.old)) }
+        ensures world { OnOk result (self.new ≡ (process_joined child self.old).0) }
     {
         match self.join(child) {
             Ok(number) => Ok(number),

@@ -1,10 +1,12 @@
 // Slices of whose units a watch is told.
 ghost use Rattle.std.specs.Prelude.{◌≡◌, OnOk, IfOk};
 ghost use Rattle.muck_model.specs.declared.event.Event.{Event};
-ghost use Rattle.muf_debug.specs.Views.{seen_at};
+ghost use Rattle.muf_debug.specs.Views.{view_at};
 ghost use Rattle.muf_debug.specs.Watching.{SeesAll};
-ghost use Rattle.spec_events.specs.Slices.{last_world, run_of};
-ghost use Rattle.spec_events.specs.Steps.{happened};
+ghost use Rattle.spec_events.specs.Slices.{last_world, units_run};
+ghost use Rattle.spec_events.specs.Steps.{happened, hooked_by};
+ghost use Rattle.muck_turns.specs.inner.Hooks.{AreTold};
+ghost use Rattle.spec_live.specs.Stood.{IsStill};
 ghost use Rattle.spec_views.specs.Views.{views_of};
 ghost use Rattle.muck_turns.specs.inner.Limits.{Stops};
 ghost use Rattle.muck_turns.specs.inner.Seeing.{SeesNext, views};
@@ -14,11 +16,12 @@ use crate::state::limits::{Allowance, next_allowance};
 use muck_model::{NoMemory, Tune};
 use muf_debug::{View, Watch};
 use muf_running::Running;
+use spec_hooks::Turned;
 use std::alloc::Global;
 
 // The watch is told of a process before a unit.
 fn show<W: Watch>(alloc: Global, pid: i32, running: &Running, watch: &mut W) -> Result<(), NoMemory>
-    ensures { OnOk result (W.tells watch.old (seen_at pid running.now) watch.new) }
+    ensures { OnOk result (W.tells watch.old (view_at pid running.now) watch.new) }
 {
     let view = View::of(alloc, pid, running)?;
     watch.saw(&view);
@@ -27,8 +30,19 @@ fn show<W: Watch>(alloc: Global, pid: i32, running: &Running, watch: &mut W) -> 
 
 impl State {
     /// The same slice as [`State::slice`] makes, of each of whose units the watch is told before it runs, whatever the watch is.
-    #[tactic(auto, unfolding(spec_events::specs::Slices::sliced))]
     pub fn slice_seen<W: Watch>(&mut self, pid: i32, watch: &mut W) -> Result<(), NoMemory>
+        requires told { AreTold self.old.live.objects }
+        requires still { IsStill self.old.live.objects }
+        ensures same { OnOk result (self.new ≡ hooked_by self.old (Event.Slice pid) (happened self.old 0 (Event.Slice pid))) }
+        ensures seen { OnOk result (SeesAll W.tells (views_of pid self.old) watch.old watch.new) }
+    {
+        self.take_slice_seen(pid, watch)?;
+        self.hook(Turned::Nobody, None)
+    }
+
+    // That alone.
+    #[tactic(auto, unfolding(spec_events::specs::Slices::sliced))]
+    fn take_slice_seen<W: Watch>(&mut self, pid: i32, watch: &mut W) -> Result<(), NoMemory>
         ensures same { OnOk result (self.new ≡ happened self.old 0 (Event.Slice pid)) }
         ensures seen { OnOk result (SeesAll W.tells (views_of pid self.old) watch.old watch.new) }
     {
@@ -48,7 +62,7 @@ impl State {
         most: u64,
         watch: &mut W,
     ) -> Result<(), NoMemory>
-        ensures same { OnOk result (self.new ≡ last_world self.old (run_of tune.now most pid self.old)) }
+        ensures same { OnOk result (self.new ≡ last_world self.old (units_run tune.now most pid self.old)) }
         ensures seen { OnOk result (SeesAll W.tells (views tune.now most pid self.old) watch.old watch.new) }
     {
         let mut left = most;

@@ -2,9 +2,11 @@
 ghost use Rattle.std.specs.Prelude.{◌≡◌, OnOk, IfOk};
 ghost use Rattle.muck_model.specs.declared.event.Event.{Event};
 ghost use Rattle.muf_model.specs.Chains.{StandsAt};
-ghost use Rattle.muf_model.specs.Unit.{fault};
-ghost use Rattle.spec_events.specs.Slices.{acting, after_deed, broken, deed, last_world, out, run_of, seat, went};
-ghost use Rattle.spec_events.specs.Steps.{happened};
+ghost use Rattle.muf_model.specs.Unit.{fault_met};
+ghost use Rattle.spec_events.specs.Slices.{acting, after_deed, broken, deed, last_world, out, units_run, seat, unit_went};
+ghost use Rattle.spec_events.specs.Steps.{happened, hooked_by};
+ghost use Rattle.muck_turns.specs.inner.Hooks.{AreTold};
+ghost use Rattle.spec_live.specs.Stood.{IsStill};
 ghost use Rattle.muck_turns.specs.inner.Limits.{LeadsTo, Runs, Stops};
 
 use crate::state::State;
@@ -14,14 +16,25 @@ use muck_model::{Dbref, NoMemory, Tune};
 use muf_model::{MufFault, Prim};
 use muf_running::{Ran, Running, Stint};
 use spec_events::{Agent, error_text};
+use spec_hooks::Turned;
 use spec_rights::Actor;
 
 impl State {
     /// A slice of a process, which wakes, and then nobody claims it any more. It takes its units until it is over or waits, or the
     /// slice is through, outside preempt, or one would be too many. Each unit costs what it touches. Before and after those that
     /// run at once the process is looked for, which is a pass over at most 400.
-    #[tactic(auto, unfolding(spec_events::specs::Slices::sliced))]
     pub fn slice(&mut self, pid: i32) -> Result<(), NoMemory>
+        requires told { AreTold self.old.live.objects }
+        requires still { IsStill self.old.live.objects }
+        ensures { OnOk result (self.new ≡ hooked_by self.old (Event.Slice pid) (happened self.old 0 (Event.Slice pid))) }
+    {
+        self.take_slice(pid)?;
+        self.hook(Turned::Nobody, None)
+    }
+
+    // That alone.
+    #[tactic(auto, unfolding(spec_events::specs::Slices::sliced))]
+    fn take_slice(&mut self, pid: i32) -> Result<(), NoMemory>
         ensures { OnOk result (self.new ≡ happened self.old 0 (Event.Slice pid)) }
     {
         let tune = self.board.tune();
@@ -34,7 +47,7 @@ impl State {
 
     // The units of a process that has so many.
     fn take_units(&mut self, tune: &Tune, pid: i32, most: u64) -> Result<(), NoMemory>
-        ensures { OnOk result (self.new ≡ last_world self.old (run_of tune.now most pid self.old)) }
+        ensures { OnOk result (self.new ≡ last_world self.old (units_run tune.now most pid self.old)) }
     {
         let mut left = most;
         while let Some(units) = self.stint(tune, pid, left)? {
@@ -157,7 +170,7 @@ impl State {
         running: Running,
         raised: MufFault,
     ) -> Result<bool, NoMemory>
-        ensures { IfOk result (λ goes_on. LeadsTo goes_on self.new (went pid player running.program.number (fault raised running) self.old)) }
+        ensures { IfOk result (λ goes_on. LeadsTo goes_on self.new (unit_went pid player running.program.number (fault_met raised running) self.old)) }
     {
         let program = running.program();
         match running.raise(self.alloc, &raised)? {

@@ -3,10 +3,10 @@ ghost use Rattle.std.specs.Prelude.{◌≡◌, OnOk, Some};
 ghost use Rattle.spec_live.specs.Lives.{place_at, tell};
 ghost use Rattle.spec_rights.specs.Asking.{refused};
 ghost use Rattle.muf_model.specs.inner.Decode.{tree_of};
-ghost use Rattle.muf_model.specs.Faults.{text_of};
+ghost use Rattle.muf_model.specs.Faults.{fault_text};
 ghost use Rattle.muf_model.specs.inner.Stands.{TreeStands};
 ghost use Rattle.spec_events.specs.World.{on_live};
-ghost use Rattle.spec_events.specs.Starting.{begun, by_command, first_mode, form_started, joined, launched, start_told};
+ghost use Rattle.spec_events.specs.Starting.{program_begun, by_command, first_mode, form_started, process_joined, launched, start_told};
 ghost use Rattle.muck_turns.specs.inner.Deeds.{Begins, IsAdding, StartsAs};
 
 use crate::state::State;
@@ -48,7 +48,7 @@ impl State {
 
     // Starts a program from the connection d; where it isn't started the connection is told why.
     fn start(&mut self, d: u32, call: Call) -> Result<(), NoMemory>
-        ensures { OnOk result (self.new ≡ start_told d (begun (by_command d call.program self.old) call self.old)) }
+        ensures { OnOk result (self.new ≡ start_told d (program_begun (by_command d call.program self.old) call self.old)) }
     {
         let manner = Manner {
             descr: Some(d),
@@ -75,7 +75,7 @@ impl State {
 
     // A connection is told of a fault.
     fn tell_fault(&mut self, d: u32, fault: &MufFault) -> Result<(), NoMemory>
-        ensures { OnOk result (self.new ≡ on_live (tell d (text_of fault.now)) self.old) }
+        ensures { OnOk result (self.new ≡ on_live (tell d (fault_text fault.now)) self.old) }
     {
         let text = fault.text(self.alloc)?;
         self.tell(d, text.as_slice())
@@ -84,9 +84,9 @@ impl State {
     /// Starts a program from its built form, which is made where it isn't there yet, and answers the number of its
     /// process. `NotCompiled` comes where it can't be built or has no word, `ProcessLimit` where there are too many
     /// processes; then no process has come.
-    #[tactic(auto, unfolding(spec_events::specs::Starting::begun))]
+    #[tactic(auto, unfolding(spec_events::specs::Starting::program_begun))]
     pub(crate) fn begin(&mut self, manner: Manner, call: Call) -> Result<i32, DeedFault>
-        ensures { Begins (begun manner call self.old) self.new result }
+        ensures { Begins (program_begun manner call self.old) self.new result }
     {
         match self.library.formed(self.alloc, &self.db, call.program)? {
             None => Err(DeedFault::Fault(MufFault::NotCompiled)),
@@ -95,7 +95,7 @@ impl State {
     }
 
     // Where an object is, nothing where it isn't there.
-    fn place_of(&self, x: Dbref) -> Dbref
+    pub(crate) fn place_of(&self, x: Dbref) -> Dbref
         ensures { result ≡ place_at x self.now.live }
     {
         match self.db.get(x) {
@@ -151,7 +151,7 @@ impl State {
 
     /// A process joins the others, where there is room for it.
     pub(crate) fn join(&mut self, process: Process) -> Result<i32, DeedFault>
-        ensures { Begins (joined process self.old) self.new result }
+        ensures { Begins (process_joined process self.old) self.new result }
     {
         let tune = self.board.tune();
         let added = self.queue.add(process, &tune);

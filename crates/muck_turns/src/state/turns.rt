@@ -1,7 +1,7 @@
 // What a turn chooses.
 ghost use Rattle.std.specs.Prelude.{◌≡◌, find, option_copied};
 ghost use Rattle.std.specs.List.{list_any};
-ghost use Rattle.spec_events.specs.Steps.{has_due, has_line, is_dump_due, is_free, may_idle};
+ghost use Rattle.spec_events.specs.Steps.{has_due, has_line, is_dump_due, has_line_to_do, may_idle};
 
 use crate::state::State;
 use muck_board::Connection;
@@ -13,14 +13,14 @@ impl State {
     /// The lowest connection with a line that may be done: no process keeps it busy. It goes over the connections, at most
     /// 256, and for each that has such a line over the processes, at most 400.
     pub fn first_free(&self) -> Option<&Connection>
-        ensures { option_copied result ≡ find (is_free self.now) self.now.live.board.connections }
+        ensures { option_copied result ≡ find (has_line_to_do self.now) self.now.live.board.connections }
     {
         self.board.connections().iter().find(|c| self.is_free(c))
     }
 
     // Whether a line waits on a connection that may be done, and no process keeps it busy.
     fn is_free(&self, connection: &Connection) -> bool
-        ensures { result ≡ is_free self.now connection.now }
+        ensures { result ≡ has_line_to_do self.now connection.now }
     {
         connection.is_ready() && !self.queue.is_busy(connection.number())
     }
@@ -44,7 +44,7 @@ impl State {
 
     // Whether a line waits on some connection that may be done.
     fn is_any_free(&self) -> bool
-        ensures { result ≡ list_any (is_free self.now) self.now.live.board.connections }
+        ensures { result ≡ list_any (has_line_to_do self.now) self.now.live.board.connections }
     {
         self.board.connections().iter().any(|c| self.is_free(c))
     }

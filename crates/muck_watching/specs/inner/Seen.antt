@@ -7,11 +7,11 @@ use Rattle.muck_model.specs.declared.event.Entry.{Entry}
 use Rattle.muck_model.specs.declared.event.Event.TheVariants.{Died}
 use Rattle.spec_events.specs.Histories.{History, now, entered, Longer, by_porter}
 use Rattle.muck_script.specs.declared.act.Act.{Act}
-use Rattle.muck_script.specs.Story.{Dumped, Part, outcomes_of, plain, line_story, lines_story}
+use Rattle.muck_script.specs.Story.{Dumped, Part, outcomes_of, plain_part, line_story, lines_story}
 use Rattle.muf_debug.specs.Shown.{Tracer, handed_out, with_break, without_break}
 use Rattle.muck_debugging.specs.declared.act.DebugAct.{DebugAct}
 use Rattle.muck_debugging.specs.declared.act.DebugAct.TheVariants.{Plain, Break, Clear, Trace}
-use Rattle.muck_debugging.specs.Seen.{views_in, passed, Piece, pieces_of, ended, text_of_all, units_of_all, plain_acts, debug_pieces}
+use Rattle.muck_debugging.specs.Seen.{views_in, views_passed, SeenPiece, pieces_of, line_ended, text_of_all, units_of_all, plain_acts, debug_pieces}
 use Rattle.muck_debugging.specs.Laws.{are_texts}
 use Rattle.muck_run.specs.Outcome.{IsPending}
 use Rattle.muck_run.specs.inner.Plays.{Says, ending_of}
@@ -19,11 +19,11 @@ use Rattle.muck_run.specs.declared.playing.RunFault.{RunFault}
 use Rattle.muck_run.specs.declared.playing.RunFault.TheVariants.{NoMemory, WriteFault}
 use Rattle.muck_why.specs.declared.why.Why.{Why}
 use Rattle.muck_why.specs.declared.why.Why.TheVariants.{BadScript, NoMemory as OutOfMemory, ReadFault}
-use Rattle.muck_watching.specs.Debugged.{IsFirstOutside}
+use Rattle.muck_watching.specs.Debugged.{IsFirstOutsideDebug}
 
 -- why no script of `debug` was read
 abbrev pub IsDebugWhy : Option (List ℕ) → Why → Type 0
-IsDebugWhy left (BadScript line) = IsFirstOutside left line
+IsDebugWhy left (BadScript line) = IsFirstOutsideDebug left line
 IsDebugWhy left OutOfMemory = Unit {0}
 IsDebugWhy left ReadFault = Unit {0}
 IsDebugWhy left why = ⊥
@@ -39,13 +39,13 @@ pub record HandsOut (t u : Tracer) (h k : History) (before written : Option (Lis
   pub handed : u ≡ handed_out t
   pub still : k ≡ h
   pub texts : are_texts t.kept ≡ true
-  pub text : Appends before written (flat_map ended t.kept)
+  pub text : Appends before written (flat_map line_ended t.kept)
 
 -- only a front of them is written
 pub record CutsOff (t : Tracer) (h k : History) (before written : Option (List ℕ)) : Type 0 where
   pub whole : t.refused ≡ false
   pub still : k ≡ h
-  pub text : AppendsFront before written (flat_map ended t.kept)
+  pub text : AppendsFront before written (flat_map line_ended t.kept)
 
 -- so it goes, by the answer, or memory is wanted, as it may have been before
 abbrev pub Shows : {T : Type 0} → Tracer → Tracer → History → History → Option (List ℕ) → Option (List ℕ) → Result T RunFault → Type 0
@@ -60,7 +60,7 @@ pub record PlaysSeen (f : Part) (t u : Tracer) (h k : History) (before written :
   pub history : Longer h k entries
   pub text : Appends before written (text_of_all (pieces_of t (now h) entries))
   pub texts : are_texts (units_of_all (pieces_of t (now h) entries)) ≡ true
-  pub tracer : u ≡ passed (views_in (now h) entries) t
+  pub tracer : u ≡ views_passed (views_in (now h) entries) t
   pub alive : (now k).dead ≡ false
 
 -- Only the first of them happened, and then the ending; of the text of those a front was written.
@@ -89,7 +89,7 @@ plain_of (Trace on) = None
 
 -- nothing happens
 abbrev pub nothing : Part
-nothing = plain (λ w. [])
+nothing = plain_part (λ w. [])
 
 abbrev pub act_part : Option Act → Part
 act_part act = option_map_or line_story act nothing
@@ -106,7 +106,7 @@ pub record PlaysLines (acts : List DebugAct) (t : Tracer) (h k : History) (befor
   pub entries : List Entry
   pub said : Says (lines_story (plain_acts acts)) (now h) entries
   pub history : Longer h k entries
-  pub pieces : List Piece
+  pub pieces : List SeenPiece
   pub made : (later : List Dumped) → debug_pieces acts (outcomes_of entries ++ later) (now h) t ≡ pieces
   pub text : Appends before written (text_of_all pieces)
   pub texts : are_texts (units_of_all pieces) ≡ true

@@ -6,8 +6,8 @@ use Rattle.muck_model.specs.declared.event.Event.TheVariants.{Claim, StopSeen, D
 use Rattle.spec_events.specs.World.{World}
 use Rattle.spec_events.specs.Steps.{has_claim}
 use Rattle.spec_events.specs.Logged.{is_dump, events_of, NoNotes, NoCounts}
-use Rattle.spec_events.specs.Own.{Stage, next, stage_of}
-use Rattle.muck_machine.specs.inner.Seats.{Sight, Chair, Rests, SameLists}
+use Rattle.spec_events.specs.Own.{Stage, next_stage, stage_of}
+use Rattle.muck_work.specs.inner.Seats.{Sight, Chair, Rests, SameLists}
 use Rattle.muck_work.specs.declared.jobs.Job.{Job}
 use Rattle.muck_work.specs.declared.jobs.Job.TheVariants.{Line, Claim as JobClaim, Idle as JobIdle, Died as JobDied}
 use Rattle.muck_work.specs.inner.Holds.{HasClaimed}
@@ -55,7 +55,7 @@ IsSaid Stops event = Unit {0}
 
 -- it did so, and may, and it is no dump
 abbrev pub DidAs : ℕ → Task → Did → Event → Type 0
-DidAs party task did event = (next party (stage_for task) event ≡ Some (stage_after did)) × IsSaid did event × (is_dump event ≡ false)
+DidAs party task did event = (next_stage party (stage_for task) event ≡ Some (stage_after did)) × IsSaid did event × (is_dump event ≡ false)
 
 -- what is to be sliced is claimed
 abbrev pub IsOpen : ℕ → Task → World → Type 0

@@ -4,8 +4,8 @@ use Rattle.turn_lock.specs.Histories.{StartsWith}
 use Rattle.muck_model.specs.declared.event.Event.TheVariants.{StopSeen, Died}
 use Rattle.spec_events.specs.declared.logged.Logged.{Logged}
 use Rattle.spec_events.specs.Logged.{bare_item, events_of, NoNotes, NoCounts}
-use Rattle.spec_events.specs.Own.{IsWellFormed, IsOver}
-use Rattle.muck_machine.specs.inner.Seats.{Chair, Rests, Left, SameLists}
+use Rattle.spec_events.specs.Own.{IsWellFormed, IsPartyOver}
+use Rattle.muck_work.specs.inner.Seats.{Chair, Rests, Left, SameLists}
 use Rattle.muck_worker.specs.declared.working.Why.{Why}
 use Rattle.muck_worker.specs.declared.working.Why.TheVariants.{Fine, NoMemory, Spent}
 
@@ -26,5 +26,5 @@ pub record WorkerDone (why : Why) (party : ℕ) (me me' : Chair) : Type 0 where
   pub counts : NoCounts me'.0.own
   pub fine : why ≡ Fine → (front : List Logged) × (me'.0.own ≡ front ++ bare_item (record { party = party; event = StopSeen }) ∷ [])
   pub dead : why ≡ NoMemory → (front : List Logged) × (me'.0.own ≡ front ++ bare_item (record { party = party; event = Died }) ∷ [])
-  pub over : ¬ (why ≡ Spent) → IsOver party (events_of me'.0.own)
+  pub over : ¬ (why ≡ Spent) → IsPartyOver party (events_of me'.0.own)
   pub spent : why ≡ Spent → 2 ^ 62 ≤ length me'.0.seen

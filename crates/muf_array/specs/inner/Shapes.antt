@@ -11,7 +11,7 @@ use Rattle.muf_model.specs.declared.value.MapKey.TheVariants.{Number, Name}
 use Rattle.muf_model.specs.Datum.{Datum, items, dict, data_of}
 use Rattle.muf_model.specs.Entries.{key_datum}
 use Rattle.muf_model.specs.Answer.{Made, makes, rejects}
-use Rattle.muf_model.specs.ArrayRows.{key_of, placed, entries_in, at_key, valued, set_in, inserted_in, word_of, counted, first, keys, values, exploded}
+use Rattle.muf_model.specs.ArrayRows.{map_key_of, values_keyed, entries_in, at_key, valued, set_in, inserted_in, item_word, items_counted, array_first, keys, values, exploded}
 use Rattle.muf_array.specs.declared.entries.Part.{Part}
 use Rattle.muf_array.specs.declared.entries.Part.TheVariants.{Key, Value}
 use Rattle.muf_array.specs.declared.changes.Change.{Change}
@@ -41,8 +41,8 @@ may_have _ k = false
 
 -- what a primitive makes of a list or dictionary alone
 unfoldable pub row_of_held : Primitive → Datum → Made
-row_of_held ArrayCount = counted
-row_of_held ArrayFirst = first
+row_of_held ArrayCount = items_counted
+row_of_held ArrayFirst = array_first
 row_of_held ArrayKeys = keys
 row_of_held ArrayVals = values
 row_of_held _ = exploded
@@ -61,7 +61,7 @@ values_in a = map (λ e. e.1) (entries_in a)
 
 -- the entries of a list of these values
 abbrev pub listed : List Datum → List (MapKey × Datum)
-listed ds = placed 0 (data_of ds)
+listed ds = values_keyed 0 (data_of ds)
 
 abbrev pub changed : Change → Datum → Datum → MapKey → Made
 changed Set = set_in
@@ -102,7 +102,7 @@ refusal (rejects f) = Some f
 
 -- the key at a depth
 abbrev pub key_in : ℕ → List Datum → Option MapKey
-key_in n stack = option_and_then key_of (slice_get stack n)
+key_in n stack = option_and_then map_key_of (slice_get stack n)
 
 abbrev pub pair_before : Option MapKey → Datum → Option (List (MapKey × Datum)) → Option (List (MapKey × Datum))
 pair_before (Some k) x (Some ps) = Some ((k, x) ∷ ps)
@@ -110,7 +110,7 @@ pair_before _ x _ = None
 
 -- the text of a value, or the empty one
 abbrev pub text_in : Datum → List ℕ
-text_in d = unwrap_or (word_of d) []
+text_in d = unwrap_or (item_word d) []
 
 -- what comes before a text at a place
 abbrev pub lead : List ℕ → ℕ → List ℕ
@@ -125,7 +125,7 @@ led s (t ∷ ts) = s ++ (t ++ led s ts)
 -- so many keys with their values, those nearest the top first
 abbrev pub pairs_in : ℕ → List Datum → Option (List (MapKey × Datum))
 pairs_in zero stack = Some []
-pairs_in (suc n) (x ∷ k ∷ below) = pair_before (key_of k) x (pairs_in n below)
+pairs_in (suc n) (x ∷ k ∷ below) = pair_before (map_key_of k) x (pairs_in n below)
 pairs_in (suc n) _ = None
 
 abbrev pub pairs_before : List (MapKey × Datum) → Option (List (MapKey × Datum)) → Option (List (MapKey × Datum))

@@ -11,9 +11,9 @@ use Rattle.muf_compile.specs.declared.fault.CompileKind.TheVariants.{NoWord, Bad
 use Rattle.muf_compile.specs.declared.fault.Refusal.{Refusal}
 use Rattle.muf_compile.specs.Acts.{cost_of}
 use Rattle.muf_compile.specs.Faults.{refuse, and_then}
-use Rattle.muf_compile.specs.Reading.{Known, read, nothing_known}
+use Rattle.muf_compile.specs.Reading.{Known, word_read, nothing_known}
 use Rattle.muf_compile.specs.inner.Knowing.{known_of}
-use Rattle.muf_compile.specs.Growth.{counted}
+use Rattle.muf_compile.specs.Growth.{units_added}
 use Rattle.muf_compile.specs.inner.Built.{Built}
 use Rattle.muf_compile.specs.inner.Build.{build, misfit}
 
@@ -29,9 +29,9 @@ compiled_of c = record { known = known_of c.known; built = c.builder; units = c.
 -- a word more
 abbrev pub compiled_step : Token → Compiled → Result Compiled Refusal
 compiled_step t c =
-    and_then (read (length c.built.words) t c.known) (λ r.
+    and_then (word_read (length c.built.words) t c.known) (λ r.
     and_then (build r.1.line r.1.act c.built) (λ b.
-    and_then (counted r.1.line (cost_of r.1.act) c.units) (λ n.
+    and_then (units_added r.1.line (cost_of r.1.act) c.units) (λ n.
     Ok (record { known = r.0; built = b; units = n }))))
 
 -- the code of a whole program, whose last word stands at this line

@@ -6,8 +6,8 @@ use Rattle.muf_model.specs.Datum.{Datum, int, text, object}
 use Rattle.muf_model.specs.Answer.{Answer, gives, stores, calls, refuses, Made, plain}
 use Rattle.muf_model.specs.declared.prims.Primitive.{Primitive}
 use Rattle.muf_model.specs.Needs.{Needs}
-use Rattle.muf_model.specs.Prims.{level_of}
-use Rattle.muf_model.specs.Rows.{used, primitive}
+use Rattle.muf_model.specs.Prims.{primitive_level}
+use Rattle.muf_model.specs.Rows.{primitive_used, primitive}
 use Rattle.muf_model.specs.inner.Flat.{Flat}
 use Rattle.muf_frame.specs.declared.fault.PrimFault.{PrimFault}
 use Rattle.muf_frame.specs.declared.fault.PrimFault.TheVariants.{Fault, NoMemory}
@@ -40,7 +40,7 @@ AppliedOr a old new (Err NoMemory) = Unit {0}
 
 -- the frame is as a primitive of these needs answers, which makes that of the items that it takes
 abbrev pub Used : Primitive → Option Needs → (List Datum → Made) → Shown → Shown → Result (Unit {0}) MufFault → Type 0
-Used p needs f old new result = Answered (used (level_of p) needs (Some (plain f)) (scope_of 0 (flat old)) (flat old).stack) old new result
+Used p needs f old new result = Answered (primitive_used (primitive_level p) needs (Some (plain f)) (scope_of 0 (flat old)) (flat old).stack) old new result
 
 -- the frame is as a primitive answers that needs no world
 abbrev pub IsRow : Primitive → Shown → Shown → Result (Unit {0}) MufFault → Type 0
@@ -51,7 +51,7 @@ IsRowOr p old new result = AppliedOr (primitive p (scope_of 0 (flat old)) (flat 
 
 -- the same, after which want of memory says nothing
 abbrev pub UsedOr : Primitive → Option Needs → (List Datum → Made) → Shown → Shown → Result (Unit {0}) PrimFault → Type 0
-UsedOr p needs f old new result = AppliedOr (used (level_of p) needs (Some (plain f)) (scope_of 0 (flat old)) (flat old).stack) old new result
+UsedOr p needs f old new result = AppliedOr (primitive_used (primitive_level p) needs (Some (plain f)) (scope_of 0 (flat old)) (flat old).stack) old new result
 
 -- the integer that a value is
 abbrev pub as_int : Datum → Option ℤ

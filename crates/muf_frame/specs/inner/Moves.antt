@@ -1,11 +1,11 @@
 -- What calls, variables and faults do to the data of a frame.
 use Rattle.std.specs.Prelude.{◌≡◌, Bool, true, false, ℕ, suc, ◌+◌, ◌-◌, List, [], ◌∷◌, ◌++◌, length, take, drop, reverse, nat_lt, if◌then◌else◌, ℤ, negsuc, Option, Some, None, slice_set}
 use Rattle.muf_model.specs.declared.fault.MufFault.{MufFault}
-use Rattle.muf_model.specs.Faults.{text_of, is_final}
+use Rattle.muf_model.specs.Faults.{fault_text, is_final}
 use Rattle.muf_model.specs.Datum.{Datum, text}
 use Rattle.muf_model.specs.Answer.{Scope, owned_first, call_first}
-use Rattle.muf_model.specs.Source.{owned_by, with_owned, zeros, fitted}
-use Rattle.muf_model.specs.Unit.{lowest}
+use Rattle.muf_model.specs.Source.{variables_owned_by, with_owned, zeros, fitted}
+use Rattle.muf_model.specs.Unit.{lowest_items}
 use Rattle.muf_model.specs.inner.Flat.{FlatMark, loop, guard, back, leave, Flat}
 use Rattle.muf_frame.specs.inner.Shown.{locked_by}
 
@@ -15,7 +15,7 @@ fresh argument = record { stack = text argument ∷ []; common = zeros 4; owned 
 
 -- the variables of a program, as many as it has, those that it had before with their values
 abbrev pub owning : ℤ → ℕ → Flat → Flat
-owning number count f = record f { owned = with_owned number (fitted count (owned_by number f.owned)) f.owned }
+owning number count f = record f { owned = with_owned number (fitted count (variables_owned_by number f.owned)) f.owned }
 
 -- a word begins at a place, with so many variables that are 0
 abbrev pub begun : ℤ → ℕ → ℕ → Flat → Flat
@@ -40,7 +40,7 @@ bound n f = record f {
 abbrev pub scope_of : ℕ → Flat → Scope
 scope_of words f = record {
   common = f.common;
-  owned = owned_by f.program f.owned;
+  owned = variables_owned_by f.program f.owned;
   variables = drop f.base f.variables;
   program = f.program;
   words = words;
@@ -52,7 +52,7 @@ abbrev pub with_variable : ℕ → Datum → Flat → Flat
 with_variable v x f =
     if nat_lt v owned_first then record f { common = slice_set f.common v x }
     else (if nat_lt v call_first
-    then record f { owned = with_owned f.program (slice_set (owned_by f.program f.owned) (v - owned_first) x) f.owned }
+    then record f { owned = with_owned f.program (slice_set (variables_owned_by f.program f.owned) (v - owned_first) x) f.owned }
     else record f { variables = slice_set f.variables (f.base + (v - call_first)) x })
 
 -- the frame behind its innermost mark, which stands before the others
@@ -68,13 +68,13 @@ abbrev pub unwound : List ℕ → ℕ → Flat → List FlatMark → Option (ℕ
 unwound bytes k s [] = None
 unwound bytes k s (loop t again after ∷ ms) = unwound bytes k (behind (loop t again after) ms s) ms
 unwound bytes k s (guard locked place ∷ ms) =
-    Some (k, record s { stack = text bytes ∷ lowest locked s.stack; place = place; marks = ms })
+    Some (k, record s { stack = text bytes ∷ lowest_items locked s.stack; place = place; marks = ms })
 unwound bytes k s (back base place ∷ ms) = unwound bytes k (behind (back base place) ms s) ms
 unwound bytes k s (leave caller base place ∷ ms) = unwound bytes (suc k) (behind (leave caller base place) ms s) ms
 
 -- a fault, of which those that are final go past every TRY
 abbrev pub caught : MufFault → Flat → Option (ℕ × Flat)
-caught f s = if is_final f then None else unwound (text_of f) 0 s s.marks
+caught f s = if is_final f then None else unwound (fault_text f) 0 s s.marks
 
 -- whether there is a TRY
 abbrev pub has_guard : List FlatMark → Bool

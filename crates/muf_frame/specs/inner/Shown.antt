@@ -6,7 +6,7 @@ use Rattle.muf_model.specs.declared.value.Value.{Value}
 use Rattle.muf_model.specs.Datum.{data_of, pairs_of}
 use Rattle.muf_model.specs.inner.View.{view}
 use Rattle.muf_model.specs.Source as source
-use Rattle.muf_model.specs.Unit.{numbered, keyed}
+use Rattle.muf_model.specs.Unit.{values_numbered, keyed}
 use Rattle.muf_model.specs.inner.Flat.{FlatMark, loop, guard, back, leave, Flat}
 use Rattle.muf_frame.specs.declared.frame.Owned.{Owned}
 use Rattle.muf_frame.specs.declared.mark.Mark.{Mark}
@@ -31,7 +31,7 @@ pub record Shown : Type 0 where
 abbrev pub flat_turns : Turns → source.Turns
 flat_turns Plain = source.plain
 flat_turns (Indices next last step) = source.indices next last step
-flat_turns (Values of at) = source.pairs (drop at (numbered 0 (data_of (arc_value of))))
+flat_turns (Values of at) = source.pairs (drop at (values_numbered 0 (data_of (arc_value of))))
 flat_turns (Pairs of at) = source.pairs (drop at (keyed (pairs_of (arc_value of))))
 
 abbrev pub flat_mark : Mark → FlatMark

@@ -14,7 +14,7 @@ use Rattle.muf_model.specs.contracts.code.Word as word_type
 use Rattle.muf_model.specs.declared.code.Word.{Word}
 use Rattle.muf_model.specs.declared.code.Word.TheVariants.{Exit}
 use Rattle.muf_model.specs.Datum.{Datum, int, text, object, variable, address, lock, items, dict, mark, Data, no_data, datum, Pairs, no_pairs, pair}
-use Rattle.muf_model.specs.Tree.{Fork, if_word, try_word, Ring, begin_word, for_word, each_word, Block, stop, word, when, fork, ring, End, closes, hops}
+use Rattle.muf_model.specs.Tree.{Fork, if_word, try_word, Ring, begin_word, for_word, each_word, Block, stop, word, when, fork, ring, BlockEnd, closes, hops}
 
 -- ---- values
 
@@ -251,14 +251,14 @@ block_written (fork k line a mid b next) rest =
     a_fork k line mid ∷ block_written a (block_written b (block_written next rest))
 block_written (ring k line a c last next) rest = a_ring k line c last ∷ block_written a (block_written next rest)
 
-abbrev pub end_written : End → List BlockPiece → List BlockPiece
+abbrev pub end_written : BlockEnd → List BlockPiece → List BlockPiece
 end_written (closes c line) rest = a_closer c line ∷ rest
 end_written (hops k line next end) rest = a_hop k line ∷ block_written next (end_written end rest)
 
 -- what was read
 pub data BlockShape : Type 0 where
   a_block : Block → BlockShape
-  an_end : End → BlockShape
+  an_end : BlockEnd → BlockShape
 
 -- a piece, before what was read behind it
 abbrev pub block_taken : BlockPiece → List BlockShape → List BlockShape
@@ -279,7 +279,7 @@ abbrev pub first_block : List BlockShape → Block
 first_block (a_block b ∷ shapes) = b
 first_block _ = stop
 
-abbrev pub first_end : List BlockShape → End
+abbrev pub first_end : List BlockShape → BlockEnd
 first_end (an_end e ∷ shapes) = e
 first_end _ = closes Semicolon 0
 
@@ -293,7 +293,7 @@ block_again (fork k line a mid b next) rest =
 block_again (ring k line a c last next) rest =
     ap (block_taken (a_ring k line c last)) (block_again a (block_written next rest) ∙ ap (λ shapes. a_block a ∷ shapes) (block_again next rest))
 
-pub end_again : (e : End) (rest : List BlockPiece) → block_read (end_written e rest) ≡ an_end e ∷ block_read rest
+pub end_again : (e : BlockEnd) (rest : List BlockPiece) → block_read (end_written e rest) ≡ an_end e ∷ block_read rest
 end_again (closes c line) rest = refl
 end_again (hops k line next end) rest =
     ap (block_taken (a_hop k line)) (block_again next (end_written end rest) ∙ ap (λ shapes. a_block next ∷ shapes) (end_again end rest))
@@ -301,7 +301,7 @@ end_again (hops k line next end) rest =
 pub same_written_block : (b : Block) → first_block (block_read (block_written b [])) ≡ b
 same_written_block b = ap first_block (block_again b [])
 
-pub same_written_end : (e : End) → first_end (block_read (end_written e [])) ≡ e
+pub same_written_end : (e : BlockEnd) → first_end (block_read (end_written e [])) ≡ e
 same_written_end e = ap first_end (end_again e [])
 
 abbrev block_piece_code : Coded BlockPiece
@@ -312,6 +312,6 @@ abbrev pub block_code : Coded Block
 block_code =
     code_by (List BlockPiece) (coded_list block_piece_code) (λ b. block_written b []) (λ ps. first_block (block_read ps)) same_written_block
 
-abbrev pub end_code : Coded End
+abbrev pub end_code : Coded BlockEnd
 end_code =
     code_by (List BlockPiece) (coded_list block_piece_code) (λ e. end_written e []) (λ ps. first_end (block_read ps)) same_written_end

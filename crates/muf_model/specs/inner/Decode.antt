@@ -7,7 +7,7 @@ use Rattle.muf_model.specs.declared.code.Instr.TheVariants.{Plain, Close, When, 
 use Rattle.muf_model.specs.declared.code.Placed.{Placed}
 use Rattle.muf_model.specs.declared.code.CodeWord.{CodeWord}
 use Rattle.muf_model.specs.declared.code.Code.{Code}
-use Rattle.muf_model.specs.Tree.{Fork, if_word, try_word, Ring, begin_word, for_word, each_word, Block, stop, word, when, fork, ring, End, closes, hops, Definition, Tree}
+use Rattle.muf_model.specs.Tree.{Fork, if_word, try_word, Ring, begin_word, for_word, each_word, Block, stop, word, when, fork, ring, BlockEnd, closes, hops, Definition, Tree}
 
 -- where ELSE or CATCH goes
 abbrev pub target_of : Instr → ℕ
@@ -58,12 +58,12 @@ block (suc fuel) code place limit =
 -- what remains at a place
 pub record Rest : Type 0 where
   pub now : Block
-  pub end : End
+  pub end : BlockEnd
 
 abbrev pub before : Rest → (Block → Block) → Rest
 before r f = record { now = f r.now; end = r.end }
 
-abbrev pub ending : End → Rest
+abbrev pub ending : BlockEnd → Rest
 ending e = record { now = stop; end = e }
 
 abbrev pub rest_at : List Placed → (ℕ → ℕ → Block) → (ℕ → Rest) → ℕ → ℕ → Instr → Rest
@@ -89,11 +89,11 @@ abbrev pub remains_at : List Placed → ℕ → Rest
 remains_at code place = rest (length code) code place
 
 -- the word that ends items, and its line
-abbrev pub end_closer : End → Closer
+abbrev pub end_closer : BlockEnd → Closer
 end_closer (closes c line) = c
 end_closer (hops k line next end) = Semicolon
 
-abbrev pub end_line : End → ℕ
+abbrev pub end_line : BlockEnd → ℕ
 end_line (closes c line) = line
 end_line (hops k line next end) = 0
 

@@ -1,7 +1,7 @@
 -- The nesting of a running program: which marks enclose a place of it.
 use Rattle.std.specs.Prelude.{◌≡◌, ◌⊎◌, List, [], ◌∷◌}
 use Rattle.muf_model.specs.declared.code.Closer.TheVariants.{Semicolon}
-use Rattle.muf_model.specs.Tree.{if_word, try_word, Ring, begin_word, for_word, each_word, Block, End, closes, hops}
+use Rattle.muf_model.specs.Tree.{if_word, try_word, Ring, begin_word, for_word, each_word, Block, BlockEnd, closes, hops}
 use Rattle.muf_model.specs.inner.Nesting.{Place, outside, inside, turn_of, EndsTurn, NestedBlock, NestedTree}
 use Rattle.muf_model.specs.Source.{Turns, plain, indices, pairs, Mark, looping, trying, calling, entering, Source}
 use Rattle.muf_model.specs.Unit.{Outcome, goes, ended, faulted, asks, stuck}
@@ -42,7 +42,7 @@ IsAtWord (entering caller saved next end ∷ ms) = Unit {0}
 
 -- What ends the items has the marks that it asks for: `;` none of its word, REPEAT and UNTIL that of their loop, CATCH
 -- that of its TRY, and ELSE those of what follows.
-abbrev pub NestedEnd : End → List Mark → Type 0
+abbrev pub NestedEnd : BlockEnd → List Mark → Type 0
 NestedEnd (closes Semicolon line) ms = IsAtWord ms
 NestedEnd (closes c line) (looping t round d last next end ∷ ms) = closes c line ≡ closes d last
 NestedEnd (closes c line) ms = ⊥

@@ -7,7 +7,7 @@ use Rattle.muf_model.specs.declared.code.Placed.{Placed}
 use Rattle.muf_model.specs.declared.code.CodeWord.{CodeWord}
 use Rattle.muf_model.specs.declared.code.Code.{Code}
 use Rattle.muf_model.specs.inner.Nesting.{NestedTree}
-use Rattle.muf_model.specs.Tree.{Fork, if_word, try_word, Ring, begin_word, for_word, each_word, Block, stop, word, when, fork, ring, End, closes, hops, Definition, Tree}
+use Rattle.muf_model.specs.Tree.{Fork, if_word, try_word, Ring, begin_word, for_word, each_word, Block, stop, word, when, fork, ring, BlockEnd, closes, hops, Definition, Tree}
 
 -- the instruction that opens a choice, with the place behind its ELSE or CATCH
 abbrev pub fork_instr : Fork → ℕ → Instr
@@ -46,13 +46,13 @@ Stands code place (ring k line body c last next) follows =
     × Stands code to next follows
 
 -- what stands where the items stop
-abbrev pub EndStands : List Placed → ℕ → End → Type 0
+abbrev pub EndStands : List Placed → ℕ → BlockEnd → Type 0
 EndStands code place (closes c line) = IsAt code place line (Close c)
 EndStands code place (hops k line next end) =
     (to : ℕ) × IsAt code place line (hop_instr k to) × (place < to) × Stands code to next (λ p. EndStands code p end)
 
 -- the items that remain stand at a place
-abbrev pub Remains : List Placed → ℕ → Block → End → Type 0
+abbrev pub Remains : List Placed → ℕ → Block → BlockEnd → Type 0
 Remains code place now end = Stands code place now (λ p. EndStands code p end)
 
 -- a word of the code stands for a definition

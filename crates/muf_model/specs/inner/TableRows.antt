@@ -3,16 +3,16 @@ use Rattle.std.specs.Prelude.{◌≡◌, ℕ, not, ◌==◌, List, [], ◌∷◌
 use Rattle.std.specs.List.{filter}
 use Rattle.muf_model.specs.declared.prims.Primitive.{Primitive}
 use Rattle.muf_model.specs.declared.prims.Primitive.TheVariants.{SetName, Set, SetLink, NewRoom, NewObject, NewExit, Recycle, SetOwn, SetLockStr, ParseMpi, Online, ConDbref, Descriptors, ConBoot, Fork, Kill, Queue, EventSend, Mode, SetMode, Preempt, Foreground, Background}
-use Rattle.muf_model.specs.Prims.{name_of, level_of, primitives, named_in_any_case}
+use Rattle.muf_model.specs.Prims.{name_of, primitive_level, primitives, named_in_any_case}
 
 abbrev needs_more : List Primitive
-needs_more = filter (λ p. not (level_of p == 1)) primitives
+needs_more = filter (λ p. not (primitive_level p == 1)) primitives
 
 unfoldable pub TableRows : Type 0
 TableRows =
     (length primitives ≡ 168)
     -- all others have level 1
-    × (map {B = Primitive × List ℕ × ℕ} (λ p. (p, name_of p, level_of p)) needs_more ≡
+    × (map {B = Primitive × List ℕ × ℕ} (λ p. (p, name_of p, primitive_level p)) needs_more ≡
     (SetName, codes "SETNAME", 2)
     ∷ (Set, codes "SET", 2)
     ∷ (SetLink, codes "SETLINK", 2)

@@ -10,14 +10,14 @@ use Rattle.muf_model.specs.declared.fault.MufFault.TheVariants.{CallsFull, Abort
 use Rattle.muf_model.specs.declared.prims.Primitive.{Primitive as Name}
 use Rattle.muf_model.specs.declared.prims.Primitive.TheVariants.{Pop, Dup, Depth, Add, Divide, Modulo, Execute, Abort, Rotate, BitShift, OpenMark, CloseMark, Greater, StrCat, StrCmp, StringCmp, InStr, InString, RInString, Explode, Split, RSplit, StripTail, IntToStr}
 use Rattle.muf_model.specs.Datum.{Datum, int, text, items, data_of}
-use Rattle.muf_model.specs.Texts.{cut, first_place, last_place, number_in}
-use Rattle.muf_model.specs.TextRows.{sized, number, two_parts, counted_texts, of_text, of_texts, of_sought, subst, first_compared, middle}
-use Rattle.muf_model.specs.Tree.{try_word, begin_word, for_word, each_word, Block, stop, word, fork, ring, End, closes, Definition}
+use Rattle.muf_model.specs.Texts.{text_cut, first_place, last_place, number_in_text}
+use Rattle.muf_model.specs.TextRows.{text_within, number, two_parts, counted_texts, of_text, of_texts, of_sought, subst, first_compared, text_middle}
+use Rattle.muf_model.specs.Tree.{try_word, begin_word, for_word, each_word, Block, stop, word, fork, ring, BlockEnd, closes, Definition}
 use Rattle.muf_model.specs.Source.{Mark, Source, started}
 use Rattle.muf_model.specs.Unit.{Outcome, goes, ended, faulted, asks, stuck, unit}
 
 -- whether nothing but the `;` of the first word is left
-abbrev pub at_end : Block → End → List Mark → Bool
+abbrev pub at_end : Block → BlockEnd → List Mark → Bool
 at_end stop (closes Semicolon line) [] = true
 at_end now end marks = false
 
@@ -122,8 +122,8 @@ pub record Rows : Type 0 where
   pub explodes_from_the_left : of_sought Explode (codes "aaab") (codes "aa") ≡ counted_texts ([] ∷ codes "ab" ∷ [])
   pub explodes_nothing : of_sought Explode [] (codes ":") ≡ counted_texts ([] ∷ [])
   -- what is put in isn't read again
-  pub substitutes : subst (codes "aaa") (codes "b") (codes "aa") ≡ sized (codes "ba")
-  pub substitutes_once : subst (codes "xaxa") (codes "aa") (codes "a") ≡ sized (codes "xaaxaa")
+  pub substitutes : subst (codes "aaa") (codes "b") (codes "aa") ≡ text_within (codes "ba")
+  pub substitutes_once : subst (codes "xaxa") (codes "aa") (codes "a") ≡ text_within (codes "xaaxaa")
   pub splits : of_sought Split (codes "aXbX") (codes "X") ≡ two_parts (codes "a") (codes "bX")
   pub splits_last : of_sought RSplit (codes "aXbX") (codes "X") ≡ two_parts (codes "aXb") []
   pub finds : of_sought InString (codes "ABAB") (codes "b") ≡ number (pos 2)
@@ -133,13 +133,13 @@ pub record Rows : Type 0 where
   pub compares_longer : of_texts StrCmp (codes "ab") (codes "a") ≡ number (pos 98)
   pub compares_unlike : of_texts StringCmp (codes "A") (codes "c") ≡ number (negsuc 1)
   pub compares_first : first_compared (codes "abc") (codes "abd") (pos 2) ≡ number (pos 0)
-  pub strips : of_text StripTail (codes " a ") ≡ sized (codes " a")
-  pub middle_at_the_end : middle (codes "abc") (pos 3) (pos 9) ≡ sized (codes "c")
-  pub middle_past_the_end : middle (codes "abc") (pos 4) (pos 1) ≡ sized []
+  pub strips : of_text StripTail (codes " a ") ≡ text_within (codes " a")
+  pub middle_at_the_end : text_middle (codes "abc") (pos 3) (pos 9) ≡ text_within (codes "c")
+  pub middle_past_the_end : text_middle (codes "abc") (pos 4) (pos 1) ≡ text_within []
   -- a whole text in 32 bits is a number
-  pub numbers : map number_in (codes "-07" ∷ codes "7x" ∷ codes "" ∷ codes "-" ∷ codes "+7" ∷ codes "-2147483648" ∷ codes "2147483648" ∷ []) ≡ negsuc 6 ∷ pos 0 ∷ pos 0 ∷ pos 0 ∷ pos 0 ∷ negsuc 2147483647 ∷ pos 0 ∷ []
+  pub numbers : map number_in_text (codes "-07" ∷ codes "7x" ∷ codes "" ∷ codes "-" ∷ codes "+7" ∷ codes "-2147483648" ∷ codes "2147483648" ∷ []) ≡ negsuc 6 ∷ pos 0 ∷ pos 0 ∷ pos 0 ∷ pos 0 ∷ negsuc 2147483647 ∷ pos 0 ∷ []
   pub too_many_loops : run [] [] (begins 513) ≡ fails CallsFull
 
 pub rows : Rows
-unfolding digits cut first_place last_place
+unfolding digits text_cut first_place last_place
 rows = record { by_zero = refl; least_by_minus_one = refl; least_rest = refl; sum_wraps = refl; toward_zero = refl; rest_has_sign = refl; shift_out = refl; shift_right = refl; shift_sign = refl; rotates_up = refl; rotates_down = refl; counts = refl; counts_none = refl; counts_by_zero = refl; counts_to_the_last = refl; continues = refl; each_pair = refl; begin_until = refl; locked_part = refl; block_items_go = refl; break_leaves_try = refl; break_drops_try = refl; called_fault = refl; executes = refl; executes_none = refl; nearest_mark = refl; depth_above = refl; joins = refl; minus_three = refl; explodes = refl; explodes_from_the_left = refl; explodes_nothing = refl; substitutes = refl; substitutes_once = refl; splits = refl; splits_last = refl; finds = refl; finds_last = refl; finds_nothing = refl; compares_longer = refl; compares_unlike = refl; compares_first = refl; strips = refl; middle_at_the_end = refl; middle_past_the_end = refl; numbers = refl; too_many_loops = refl }

@@ -14,11 +14,11 @@ use Rattle.muf_model.specs.declared.fault.MufFault.TheVariants.{StackEmpty, Stac
 use Rattle.muf_model.specs.declared.prims.Primitive.{Primitive as Name}
 use Rattle.muf_model.specs.Prims.{is_local}
 use Rattle.muf_model.specs.Datum.{Datum, int, variable, address, items, dict}
-use Rattle.muf_model.specs.Measures.{is_true}
+use Rattle.muf_model.specs.Measures.{is_true_item}
 use Rattle.muf_model.specs.Answer.{Answer, gives, stores, calls, refuses, variable_at, stack_most, too_few}
 use Rattle.muf_model.specs.Rows.{primitive}
 use Rattle.muf_model.specs.Source.{Turns, indices, pairs}
-use Rattle.muf_model.specs.Unit.{calls_most, open_most, constant, has_turn, next_index, numbered, keyed}
+use Rattle.muf_model.specs.Unit.{calls_most, open_most, constant, has_turn, next_index, values_numbered, keyed}
 use Rattle.muf_model.specs.inner.Flat.{FlatMark, loop, guard, back, leave, Flat}
 use Rattle.muf_frame.specs.inner.Shown.{locked_by, calls_by, opened_by}
 use Rattle.muf_frame.specs.inner.Answers.{int_at}
@@ -73,7 +73,7 @@ next_turn s (leave caller base place ∷ ms) = stuck
 abbrev pub tested : List Datum → Flat → (Flat → Next) → (Flat → Next) → Next
 tested [] s then_go else_go = fault StackEmpty s
 tested (x ∷ rest) s then_go else_go =
-    if is_true x then then_go (record s { stack = rest }) else else_go (record s { stack = rest })
+    if is_true_item x then then_go (record s { stack = rest }) else else_go (record s { stack = rest })
 
 abbrev pub test : Flat → (Flat → Next) → (Flat → Next) → Next
 test s then_go else_go =
@@ -198,7 +198,7 @@ open_for after s =
 
 -- what a FOREACH goes over
 abbrev pub keys_of : Datum → Option Turns
-keys_of (items ds) = Some (pairs (numbered 0 ds))
+keys_of (items ds) = Some (pairs (values_numbered 0 ds))
 keys_of (dict ps) = Some (pairs (keyed ps))
 keys_of _ = None
 

@@ -1,7 +1,7 @@
 -- A running program taken into its programs and its frame.
 use Rattle.std.specs.Prelude.{◌≡◌, List, drop}
 use Rattle.muf_model.specs.inner.Flat.{Flat, decode}
-use Rattle.muf_model.specs.Source.{Source, locked_of, calls_of}
+use Rattle.muf_model.specs.Source.{Source, locked_of, calls_running}
 use Rattle.muf_frame.specs.inner.Shown.{locked_by, calls_by}
 use Rattle.muf_running.specs.declared.entered.Entered.{Entered}
 use Rattle.muf_running.specs.inner.Fitting.{codes_of, ProgramsFit}
@@ -10,7 +10,7 @@ use Rattle.muf_running.specs.inner.Fitting.{codes_of, ProgramsFit}
 pub record Shows (f : Flat) (s : Source) : Type 0 where
   pub stack : f.stack ≡ s.stack
   pub locked : locked_by f.marks ≡ locked_of s.marks
-  pub calls : calls_by f.marks ≡ calls_of s.marks
+  pub calls : calls_by f.marks ≡ calls_running s.marks
   pub program : f.program ≡ s.program.number
   pub common : f.common ≡ s.common
   pub owned : f.owned ≡ s.owned

@@ -4,7 +4,7 @@ use Rattle.muf_model.specs.declared.fault.MufFault.{MufFault}
 use Rattle.muf_model.specs.Chains.{StandsAt}
 use Rattle.muf_model.specs.inner.Flat.{Flat, decode}
 use Rattle.muf_model.specs.Source.{Source}
-use Rattle.muf_model.specs.Unit.{Outcome, goes, ended, faulted, asks, fault}
+use Rattle.muf_model.specs.Unit.{Outcome, goes, ended, faulted, asks, fault_met}
 use Rattle.muf_run.specs.declared.run.Local.{Local}
 use Rattle.muf_run.specs.declared.run.Local.TheVariants as local
 use Rattle.muf_running.specs.declared.entered.Entered.{Entered}
@@ -29,8 +29,8 @@ AskedAt (Faulted f) = Unit {0}
 
 -- what a fault makes of a process: the state at which a TRY caught it, or none
 abbrev pub Raised : MufFault → Source → Option Source → Type 0
-Raised f s (Some r) = (k : ℕ) × (fault f s ≡ goes k r)
-Raised f s None = fault f s ≡ faulted f
+Raised f s (Some r) = (k : ℕ) × (fault_met f s ≡ goes k r)
+Raised f s None = fault_met f s ≡ faulted f
 
 -- the process that so many programs were left in stands for this state
 abbrev pub LeftAt : ℕ → List Entered → Flat → Source → Type 0

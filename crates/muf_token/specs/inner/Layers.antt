@@ -10,7 +10,7 @@ use Rattle.muf_token.specs.declared.piece.Piece.{Piece}
 use Rattle.muf_token.specs.declared.layers.Lent.{Lent}
 use Rattle.muf_token.specs.declared.layers.Entry.{Entry}
 use Rattle.muf_token.specs.declared.layers.Layers.{Layers}
-use Rattle.muf_token.specs.Pieces.{lowered, pieces}
+use Rattle.muf_token.specs.Pieces.{lowered, source_pieces}
 use Rattle.muf_token.specs.Expansion.{Definitions}
 
 -- what a name stands for, and since when
@@ -71,7 +71,7 @@ told m = told_in m.stamps.entries m.names.entries
 -- what an object lends to a name by its list
 abbrev pub lents_of : ℤ → List Definition → List ℕ → List Lent
 lents_of d [] q = []
-lents_of d (x ∷ list) q = if bytes_eq (lowered x.name) q then record { object = d; body = pieces x.text } ∷ lents_of d list q else lents_of d list q
+lents_of d (x ∷ list) q = if bytes_eq (lowered x.name) q then record { object = d; body = source_pieces x.text } ∷ lents_of d list q else lents_of d list q
 
 -- those of an object
 abbrev pub of_object : ℤ → List Lent → List Lent

@@ -6,16 +6,16 @@ use Rattle.muf_token.specs.declared.place.Found.{Found}
 use Rattle.muf_token.specs.declared.fault.TokenFault.{TokenFault}
 use Rattle.muf_token.specs.declared.fault.TokenFault.TheVariants.{Refused, NoMemory}
 use Rattle.muf_token.specs.declared.fault.Refusal.{Refusal}
-use Rattle.muf_token.specs.Pieces.{below, next_line, Front, broken, found, ended, piece_here, word_found, quoted}
+use Rattle.muf_token.specs.Pieces.{lines_below, line_number_below, Front, broken, found, ended, piece_here, word_found, quoted}
 
 -- the text from a place on
 abbrev pub text_at : Place → List ℕ
-text_at place = place.here.now ++ below place.below.now
+text_at place = place.here.now ++ lines_below place.below.now
 
 -- the first byte at a place, and the place behind it
 abbrev pub IsFirst : Place → Option (ℕ × Place) → Type 0
 IsFirst place None = text_at place ≡ []
-IsFirst place (Some (b, behind)) = (text_at place ≡ b ∷ text_at behind) × (behind.line ≡ (if b == 10 then next_line place.line else place.line))
+IsFirst place (Some (b, behind)) = (text_at place ≡ b ∷ text_at behind) × (behind.line ≡ (if b == 10 then line_number_below place.line else place.line))
 
 -- a piece begins at this place, or the text ends there; or a fault comes before it
 abbrev pub IsLead : Front → Result Place Refusal → Type 0

@@ -7,7 +7,7 @@ use Rattle.muf_token.specs.declared.place.Place.{Place}
 use Rattle.muf_token.specs.declared.piece.Piece.{Piece}
 use Rattle.muf_token.specs.declared.directive.Name.{Name as RustName}
 use Rattle.muf_token.specs.inner.Places.{text_at}
-use Rattle.muf_token.specs.Directives.{Spot, Name, Body}
+use Rattle.muf_token.specs.Directives.{Spot, Name, DefinitionBody}
 
 -- the line and the text of a place
 abbrev pub spot_of : Place → Spot
@@ -25,5 +25,5 @@ name_of n = record { line = n.line; name = n.name; behind = spot_of n.behind }
 abbrev pub IsName : Result Name Refusal → Result RustName TokenFault → Type 0
 IsName step result = IsAnswer name_of step result
 
-abbrev pub IsBody : Result Body Refusal → Result (List Piece × Place) TokenFault → Type 0
+abbrev pub IsBody : Result DefinitionBody Refusal → Result (List Piece × Place) TokenFault → Type 0
 IsBody step result = IsAnswer (λ (b : List Piece × Place). (b.0, spot_of b.1)) step result

@@ -12,7 +12,7 @@ use Rattle.muf_frame.specs.declared.fault.PrimFault.TheVariants.{Fault, NoMemory
 use Rattle.muf_frame.specs.inner.Shown.{Shown, flat}
 use Rattle.muck_perm.specs.declared.guard.Guard.{Guard}
 use Rattle.muck_perm.specs.inner.Guards.{Same, Kept, world_of}
-use Rattle.spec_prims.specs.Row.{Row, gives, refuses, breaks, Doing}
+use Rattle.spec_prims.specs.Row.{WorldAnswer, gives, refuses, breaks, WorldDoing}
 use Rattle.prim_common.specs.declared.made.Made.{Made}
 use Rattle.prim_common.specs.declared.made.Made.TheVariants.{Nothing, One, Many}
 
@@ -23,7 +23,7 @@ Untouched old new = (world_of new ≡ world_of old) × Kept old new
 -- The frame has the stack of the row and the guard its world; or the row refuses, and both are as they were; or it breaks off,
 -- the frame is as it was and the guard has its world. After want of memory nothing is said of them, but that the guard holds the
 -- same places.
-abbrev pub Applied : Row → Shown → Shown → Guard → Guard → Result (Unit {0}) PrimFault → Type 0
+abbrev pub Applied : WorldAnswer → Shown → Shown → Guard → Guard → Result (Unit {0}) PrimFault → Type 0
 Applied (gives stack w) f g old new (Ok x) = (flat g ≡ record (flat f) { stack = stack }) × (world_of new ≡ w) × Kept old new
 Applied (gives stack w) f g old new (Err (Fault h)) = ⊥
 Applied (refuses e) f g old new (Ok x) = ⊥
@@ -40,7 +40,7 @@ items_of (Many items) = map view items.items
 
 -- the items of the row are made, and the guard has its world; or the row refuses, and nothing has changed; or it breaks off, and
 -- the guard has its world
-abbrev pub Makes : Row → Guard → Guard → Result Made PrimFault → Type 0
+abbrev pub Makes : WorldAnswer → Guard → Guard → Result Made PrimFault → Type 0
 Makes (gives items w) old new (Ok made) = (items_of made ≡ items) × (world_of new ≡ w) × Kept old new
 Makes (gives items w) old new (Err (Fault h)) = ⊥
 Makes (refuses e) old new (Ok made) = ⊥
@@ -55,11 +55,11 @@ Given n items f g (Ok x) = (length (items ++ drop n (flat f).stack) ≤ stack_mo
 Given n items f g (Err e) = (n < length items) × (stack_most < length (items ++ drop n (flat f).stack)) × (e ≡ StackFull) × (g ≡ f)
 
 -- what a primitive says of its arguments, and what it does with them; one without a row isn't there yet
-abbrev pub argued_of : Option Doing → Actor → List Datum → Live → Option MufFault
+abbrev pub argued_of : Option WorldDoing → Actor → List Datum → Live → Option MufFault
 argued_of None a items w = None
 argued_of (Some doing) a items w = doing.argued a items w
 
-abbrev pub does_of : Option Doing → Actor → List Datum → Live → Row
+abbrev pub does_of : Option WorldDoing → Actor → List Datum → Live → WorldAnswer
 does_of None a items w = refuses NotCompiled
 does_of (Some doing) a items w = doing.does a items w
 

@@ -8,7 +8,7 @@ use Rattle.muf_model.specs.declared.needs.Need.{Need}
 use Rattle.muf_model.specs.Datum.{Datum}
 use Rattle.muf_model.specs.Needs.{Many, Needs}
 use Rattle.muf_model.specs.Ladder.{short, times, miscounted, unfit, absent, distant}
-use Rattle.spec_prims.specs.Asking.{is_there, near_fault}
+use Rattle.spec_prims.specs.Asking.{is_number_there, near_fault}
 use Rattle.prim_common.specs.declared.items.Asked.{Asked}
 use Rattle.prim_common.specs.declared.items.Asked.TheVariants.{Kind, There, Near}
 use Rattle.prim_common.specs.declared.parts.Parts.{Parts}
@@ -23,7 +23,7 @@ Passes (Some e) (Err f) = f ≡ e
 -- what is asked of an item
 abbrev pub item_fault : Asked → Actor → List Entry → Need → Datum → Option MufFault
 item_fault Kind a es = unfit
-item_fault There a es = absent (is_there es)
+item_fault There a es = absent (is_number_there es)
 item_fault Near a es = distant (near_fault a es)
 
 -- how many an integer counts, where there is one

@@ -12,14 +12,14 @@ use Rattle.muf_model.specs.declared.fault.MufFault.TheVariants.{BadArgument, Wor
 use Rattle.muf_model.specs.declared.value.Value.TheVariants.{Ref}
 use Rattle.muf_frame.specs.declared.fault.PrimFault.{PrimFault}
 use Rattle.muf_frame.specs.declared.fault.PrimFault.TheVariants.{Fault, NoMemory}
-use Rattle.spec_prims.specs.Asking.{fault_of}
+use Rattle.spec_prims.specs.Asking.{fault_of_denial}
 use Rattle.prim_common.specs.declared.made.Made.{Made}
 use Rattle.prim_common.specs.declared.made.Made.TheVariants.{One}
 
 -- leave for the act, or the fault of the rule that denies it
 abbrev pub Leaves : Act → Guard → Result Pass PrimFault → Type 0
 Leaves act g (Ok pass) = IsLeave pass act g
-Leaves act g (Err (Fault f)) = fault_of (verdict (objects_of g) g.actor act) ≡ Some f
+Leaves act g (Err (Fault f)) = fault_of_denial (verdict (objects_of g) g.actor act) ≡ Some f
 Leaves act g (Err NoMemory) = ⊥
 
 -- the number of what was made, or why nothing was

@@ -11,9 +11,9 @@ use Rattle.muf_frame.specs.declared.fault.PrimFault.{PrimFault}
 use Rattle.muf_frame.specs.declared.fault.PrimFault.TheVariants.{Fault, NoMemory}
 use Rattle.muf_frame.specs.inner.Shown.{Shown}
 use Rattle.muck_queue.specs.declared.mode.Wait.TheVariants.{ForLine, ForEvent}
-use Rattle.muck_queue.specs.Queues.{Queue, process, on_process, without, resting, sleeping, in_mode, told_event, without_event, events_of, events_most}
+use Rattle.muck_queue.specs.Queues.{Queue, process, on_process, without_process, resting, sleeping, process_in_mode, told_event, without_event, events_of, events_most}
 use Rattle.spec_processes.specs.declared.place.Place.{Place}
-use Rattle.spec_processes.specs.ProcessRows.{Effect, gives, waits, forks, enters, starts, refuses, Doing, oldest, process_row}
+use Rattle.spec_processes.specs.ProcessRows.{Effect, gives, waits, forks, enters, starts, refuses, ProcessDoing, oldest, process_row}
 use Rattle.prim_proc.specs.inner.Applied.{HasStack, called_items}
 use Rattle.prim_proc.specs.declared.after.After.{After}
 use Rattle.prim_proc.specs.declared.after.After.TheVariants.{Go, Wait}
@@ -39,8 +39,8 @@ abbrev pub effect_of : Plan → Place → Live → Queue → Effect
 effect_of Nothing x w q = gives [] w q
 effect_of (Give item) x w q = gives (view item ∷ []) w q
 effect_of Draw x w q = gives (int (pos (random_word w / 2)) ∷ []) (draw w) q
-effect_of (Kill i) x w q = gives (int (pos 1) ∷ []) w (without i q)
-effect_of (SetMode mode) x w q = gives [] w (on_process x.pid (in_mode mode) q)
+effect_of (Kill i) x w q = gives (int (pos 1) ∷ []) w (without_process i q)
+effect_of (SetMode mode) x w q = gives [] w (on_process x.pid (process_in_mode mode) q)
 effect_of (Send i name value) x w q =
     if nat_le events_most (events_of i q) then refuses TooHeavy else gives [] w (on_process i (told_event x.moment (name, view value)) q)
 effect_of Receive x w q = oldest (events_in x.pid q) x w q
@@ -57,7 +57,7 @@ Plans effect x w q (Err (Fault f)) = effect ≡ refuses f
 Plans effect x w q (Err NoMemory) = Unit {0}
 
 -- what a primitive does; one without a row isn't there
-abbrev pub does_of : Option Doing → Doing
+abbrev pub does_of : Option ProcessDoing → ProcessDoing
 does_of None x a p items w q = refuses NotCompiled
 does_of (Some doing) x a p items w q = doing x a p items w q
 
@@ -92,7 +92,7 @@ abbrev pub Received : Place → List Datum → Shown → Shown → Queue → Que
 Received x rest f g old new after = GivenOf (events_in x.pid old) x rest f g old new after
 
 -- the primitives that give an item and change nothing
-abbrev pub fact_row : Primitive → Option Doing
+abbrev pub fact_row : Primitive → Option ProcessDoing
 fact_row Pid = process_row Pid
 fact_row Mode = process_row Mode
 fact_row SysTime = process_row SysTime

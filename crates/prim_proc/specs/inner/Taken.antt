@@ -5,7 +5,7 @@ use Rattle.spec_live.specs.Lives.{Live}
 use Rattle.spec_rights.specs.declared.act.Actor.{Actor}
 use Rattle.muf_model.specs.declared.fault.MufFault.TheVariants.{BadType}
 use Rattle.muf_model.specs.Datum.{Datum, int, text, object}
-use Rattle.spec_processes.specs.ProcessRows.{Effect, refuses, entering}
+use Rattle.spec_processes.specs.ProcessRows.{Effect, refuses, program_entering}
 
 -- a number, a program and the text upon them
 abbrev pub started_in : List Datum → Option (ℤ × ℤ × List ℕ)
@@ -20,4 +20,4 @@ sent_in stack = None
 -- a word of a program is entered, where that is one item
 abbrev pub entering_at : Live → Actor → Option Dbref → Option (List ℕ) → Effect
 entering_at w a None name = refuses BadType
-entering_at w a (Some d) name = entering w a d.0 name
+entering_at w a (Some d) name = program_entering w a d.0 name

@@ -4,10 +4,10 @@ use Rattle.muf_model.specs.Datum.{Datum, variable, address}
 use Rattle.muf_model.specs.declared.prims.Primitive.{Primitive}
 use Rattle.muf_model.specs.declared.prims.Primitive.TheVariants.{Pop, Dup, DupTrue, Swap, Over, Rot, Rotate, Pick, Put, Nip, Tuck, DupN, LDup, PopN, Reverse, Depth, OpenMark, CloseMark, Fetch, Store, IsInt, IsString, IsDbref, IsArray, IsDictionary, IsAddress, IsLock, Abort}
 use Rattle.muf_model.specs.Answer.{Answer, calls, refuses, whole}
-use Rattle.muf_model.specs.Needs.{counts, any, an_int}
+use Rattle.muf_model.specs.Needs.{counts, anything, an_int}
 use Rattle.muf_model.specs.Ladder.{times}
-use Rattle.muf_model.specs.Rows.{used}
-use Rattle.muf_model.specs.Measures.{is_true}
+use Rattle.muf_model.specs.Rows.{primitive_used}
+use Rattle.muf_model.specs.Measures.{is_true_item}
 use Rattle.muf_model.specs.StackRows.{is_mark, by_count}
 use Rattle.muf_frame.specs.declared.fault.PrimFault.{PrimFault}
 use Rattle.muf_frame.specs.declared.fault.PrimFault.TheVariants.{Fault, NoMemory}
@@ -27,7 +27,7 @@ Does a old new (Err NoMemory) = Unit {0}
 -- an answer by the count on the top, and by what stands below that, with so many fixed items
 abbrev pub counting : ℕ → Shown → (List Datum → ℕ → Answer) → Answer
 counting fixed f answer =
-    used 1 (counts (an_int ∷ times (fixed - 1) (any ∷ [])) (any ∷ []) []) (Some (whole (by_count answer))) (scope_of 0 (flat f)) (flat f).stack
+    primitive_used 1 (counts (an_int ∷ times (fixed - 1) (anything ∷ [])) (anything ∷ []) []) (Some (whole (by_count answer))) (scope_of 0 (flat f)) (flat f).stack
 
 -- whether a mark is there
 abbrev pub mark_in : Option Datum → Bool
@@ -36,7 +36,7 @@ mark_in None = false
 
 -- whether a true item is there
 abbrev pub true_in : Option Datum → Bool
-true_in (Some x) = is_true x
+true_in (Some x) = is_true_item x
 true_in None = false
 
 -- the variable and the address that a value is

@@ -5,7 +5,7 @@ use Rattle.spec_rights.specs.declared.act.Actor.{Actor}
 use Rattle.spec_rights.specs.Verdict.{is_master}
 use Rattle.spec_commands.specs.declared.outcome.Outcome.{Outcome}
 use Rattle.spec_commands.specs.declared.outcome.Outcome.TheVariants.{Done, NotMine, Dump, Stop, Retune}
-use Rattle.spec_admin.specs.Parameters.{IsInRange}
+use Rattle.muck_model.specs.Parameters.{IsInRange}
 
 -- By a wizard alone the world is dumped, stopped or tuned, and what was in its range stays so. Nothing else follows.
 abbrev pub MayFollow : Actor → Tune → Outcome → Type 0

@@ -25,9 +25,9 @@ player_two = record player_one { name = codes "Two"; owner = dbref_of 2; flags =
 -- One and Two stand in Room Zero, as a dump has them
 abbrev pub both_there : List Entry
 both_there =
-    record { object = room_zero; contents = 2 ∷ 1 ∷ []; exits = []; mark = None; saving = Done } ∷
-    record { object = player_one; contents = []; exits = []; mark = None; saving = Done } ∷
-    record { object = player_two; contents = []; exits = []; mark = None; saving = Done } ∷ []
+    record { object = room_zero; contents = 2 ∷ 1 ∷ []; exits = []; mark = None; saving = Done; stood = None } ∷
+    record { object = player_one; contents = []; exits = []; mark = None; saving = Done; stood = None } ∷
+    record { object = player_two; contents = []; exits = []; mark = None; saving = Done; stood = None } ∷ []
 
 -- and these players are connected, on the connections from d on
 abbrev pub seats : ℕ → List ℕ → List Connection

@@ -8,26 +8,26 @@ use Rattle.muck_model.specs.declared.dbref.Denial.{Denial}
 use Rattle.muck_model.specs.declared.dbref.Kind.TheVariants.{Thing}
 use Rattle.muck_prop.specs.Order.{path_cmp}
 use Rattle.muck_prop.specs.Store.{PropMap}
-use Rattle.spec_live.specs.Objects.{dbref_of, object_at, number_in, kind_in, object_in, list_in, place_in, owner_in, is_vehicle_in, flags_in, fits_in, path_in, changed_at}
-use Rattle.spec_live.specs.Chain.{walk, has, without, follower}
-use Rattle.spec_live.specs.Moving.{set_down, moved, judged, move_check}
+use Rattle.spec_live.specs.Objects.{dbref_of, object_at, number_in, kind_in, object_in, list_in, place_in, owner_in, is_vehicle_in, flags_in, fits_in, places_from, changed_at}
+use Rattle.spec_live.specs.Chain.{walk, has, without_number, follower}
+use Rattle.spec_live.specs.Moving.{set_down, moved, move_judged, move_check}
 use Rattle.spec_live.specs.Saving.{next_in, links_in, due_from, relinked}
-use Rattle.spec_live.specs.Output.{sent_lines, queue_most, lines_bytes, line_sent, lines_sent, sent}
+use Rattle.spec_live.specs.Output.{sent_lines, queue_most, sent_lines_bytes, line_sent, lines_sent, text_sent}
 use Rattle.spec_live.specs.Start.{room_zero, player_one}
 use Rattle.spec_live.specs.Worth.{message_of, message_at, kept_opens, opens_at}
 use Rattle.spec_live.specs.Boards.{early_board, told_one}
-use Rattle.spec_live.specs.Lives.{Live, Change, followed, reading, either, where_so, unchanged, tell}
+use Rattle.spec_live.specs.Lives.{Live, Change, change_followed, reading, either, where_so, unchanged, tell}
 use Rattle.spec_rights.specs.declared.act.Act.TheVariants.{Take}
 use Rattle.spec_rights.specs.Verdict.{when, or_else, verdict}
-use Rattle.spec_rights.specs.Asking.{answered, asked}
+use Rattle.spec_rights.specs.Asking.{denial_answered, asked}
 use Rattle.spec_rights.specs.Changing.{moved_to}
 use Rattle.spec_commands.specs.declared.typed.Typed.{Typed}
-use Rattle.spec_commands.specs.declared.word.Message.{Message}
-use Rattle.spec_commands.specs.declared.word.Message.TheVariants.{Success, OthersSuccess}
+use Rattle.spec_live.specs.declared.message.Message.{Message}
+use Rattle.spec_live.specs.declared.message.Message.TheVariants.{Success, OthersSuccess}
 use Rattle.spec_commands.specs.Messages.{message_name, message_path, spoken_some, with_message}
 use Rattle.spec_commands.specs.Replies.{taken_reply}
-use Rattle.spec_commands.specs.Finding.{is_so, message_shown, message_to_others, shown_others}
-use Rattle.spec_commands.specs.Going.{both_shown, moving, not_taken, taken}
+use Rattle.spec_commands.specs.Finding.{is_object_so, message_shown, message_to_others, shown_others}
+use Rattle.spec_commands.specs.Going.{both_shown, thing_moving, not_taken, thing_taken}
 use Rattle.spec_commands.specs.inner.Company.{held, seats, player_two, queues}
 use Rattle.spec_commands.specs.inner.EditRows.{one}
 use Rattle.spec_commands.specs.inner.TalkRows.{holding}
@@ -47,7 +47,7 @@ abbrev typed : Typed
 typed = record { word = codes "get"; rest = codes "ball" }
 
 abbrev after_taking : Live
-after_taking = taken 1 one typed ball hall
+after_taking = thing_taken 1 one typed ball hall
 
 unfoldable pub GoingRows : Type 0
 GoingRows =
@@ -85,20 +85,20 @@ abbrev aloud : Change
 aloud = message_to_others one typed OthersSuccess ball
 
 abbrev into_hand : Change
-into_hand = moving 1 ball (dbref_of 1) (tell 1 taken_reply)
+into_hand = thing_moving 1 ball (dbref_of 1) (tell 1 taken_reply)
 
 abbrev by_leave : Option Denial → Live
-by_leave denial = answered denial (not_taken 1 one typed ball) (λ w. into_hand (aloud (message_shown 1 one typed Success ball w))) hall
+by_leave denial = denial_answered denial (not_taken 1 one typed ball) (λ w. into_hand (aloud (message_shown 1 one typed Success ball w))) hall
 
 taken_so : after_taking ≡ into_hand hall
-unfolding taken asked where_so reading either followed is_so object_at number_in kind_in object_in room_zero player_one both_shown message_shown message_to_others
+unfolding thing_taken asked where_so reading either change_followed is_object_so object_at number_in kind_in object_in room_zero player_one both_shown message_shown message_to_others
 taken_so =
     ap by_leave allowed
     ∙ ap (λ w. into_hand (aloud w)) (unsaid Success (tell 1))
     ∙ ap into_hand (unsaid OthersSuccess (λ text. shown_others (dbref_of 1) (32 ∷ text)))
 
 pub going_rows : GoingRows
-unfolding GoingRows moving moved_to moved where_so reading either followed tell told_one sent_lines queue_most lines_bytes line_sent lines_sent sent set_down judged move_check next_in links_in due_from relinked follower walk has without changed_at path_in fits_in flags_in is_vehicle_in owner_in place_in list_in object_at number_in kind_in object_in room_zero player_one early_board taken_reply
+unfolding GoingRows thing_moving moved_to moved where_so reading either change_followed tell told_one sent_lines queue_most sent_lines_bytes line_sent lines_sent text_sent set_down move_judged move_check next_in links_in due_from relinked follower walk has without_number changed_at places_from fits_in flags_in is_vehicle_in owner_in place_in list_in object_at number_in kind_in object_in room_zero player_one early_board taken_reply
 going_rows = (
   ap (λ (w : Live). queues w.board.connections) taken_so,
   ap (λ (w : Live). list_in false w.objects 1) taken_so,

@@ -3,47 +3,47 @@ use Rattle.std.specs.Prelude.{◌≡◌, ℕ, Bool, true, false, not, List, [], 
 use Rattle.std.specs.Option.{option_map, option_map_or, option_and_then}
 use Rattle.std.specs.FinMap.{get, empty, get-empty}
 use Rattle.std.proofs.Common.{ap, ◌∙◌}
-use Rattle.muck_model.specs.Numbers.{dbref_of as number_named}
+use Rattle.muck_model.specs.Numbers.{dbref_written as number_named}
 use Rattle.muck_model.specs.declared.dbref.Dbref.{Dbref}
 use Rattle.muck_model.specs.declared.dbref.Denial.{Denial}
 use Rattle.muck_model.specs.declared.dbref.Kind.TheVariants.{Exit}
 use Rattle.muck_prop.specs.Order.{path_cmp}
 use Rattle.muck_prop.specs.Store.{PropMap}
-use Rattle.muck_match.specs.Words.{is_same, begins_with, placed, aliases}
-use Rattle.muck_match.specs.Scenery.{place_in as sight_place, things_in, exit_order}
-use Rattle.muck_match.specs.Exits.{takes, rest_behind, hits_in, runs, hits_at, hits, exit_for}
+use Rattle.muck_match.specs.Words.{is_same, begins_alike, texts_placed, aliases}
+use Rattle.muck_match.specs.Scenery.{place_in_scenery as sight_place, things_in, exit_order}
+use Rattle.muck_match.specs.Exits.{alias_takes, rest_behind, hits_in, leads_to_program, hits_at, hits, exit_for}
 use Rattle.spec_live.specs.declared.object.Object.{Object}
 use Rattle.spec_live.specs.declared.saving.Saving.TheVariants.{Done as Saved}
-use Rattle.spec_live.specs.Objects.{Entry, dbref_of, object_at, number_in, kind_in, object_in, list_in, place_in, is_vehicle_in, flags_in, fits_in, path_in, changed_at}
-use Rattle.spec_live.specs.Chain.{walk, has, without, follower}
-use Rattle.spec_live.specs.Moving.{set_down, moved, judged, move_check}
+use Rattle.spec_live.specs.Objects.{Entry, dbref_of, object_at, number_in, kind_in, object_in, list_in, place_in, is_vehicle_in, flags_in, fits_in, places_from, changed_at}
+use Rattle.spec_live.specs.Chain.{walk, has, without_number, follower}
+use Rattle.spec_live.specs.Moving.{set_down, moved, move_judged, move_check}
 use Rattle.spec_live.specs.Saving.{next_in, links_in, due_from, relinked}
 use Rattle.spec_live.specs.Seen.{scenery_of, listed_in, places_of}
-use Rattle.spec_live.specs.Output.{sent_lines, queue_most, lines_bytes, line_sent, lines_sent, sent}
+use Rattle.spec_live.specs.Output.{sent_lines, queue_most, sent_lines_bytes, line_sent, lines_sent, text_sent}
 use Rattle.spec_live.specs.Start.{room_zero, player_one}
 use Rattle.spec_live.specs.Worth.{message_of, message_at, kept_opens, opens_at}
 use Rattle.spec_live.specs.Boards.{early_board, told_one, told_others}
-use Rattle.spec_live.specs.Lives.{Live, Change, followed, ◌▸◌, reading, either, where_so, unchanged, tell, tell_but, tell_others}
+use Rattle.spec_live.specs.Lives.{Live, Change, change_followed, ◌▸◌, reading, either, where_so, unchanged, tell, tell_but, tell_others}
 use Rattle.spec_rights.specs.declared.act.Actor.{Actor}
 use Rattle.spec_rights.specs.declared.act.Act.TheVariants.{Walk}
 use Rattle.spec_rights.specs.Levels.{level_at, owns, controls_as, command_level, flag_at, name_shown}
 use Rattle.spec_rights.specs.Verdict.{when, or_else, verdict}
-use Rattle.spec_rights.specs.Asking.{answered, asked}
+use Rattle.spec_rights.specs.Asking.{denial_answered, asked}
 use Rattle.spec_rights.specs.Changing.{moved_to}
 use Rattle.spec_commands.specs.declared.outcome.Outcome.{Outcome}
 use Rattle.spec_commands.specs.declared.outcome.Outcome.TheVariants.{Done}
 use Rattle.spec_commands.specs.declared.typed.Typed.{Typed}
-use Rattle.spec_commands.specs.declared.word.Message.{Message}
-use Rattle.spec_commands.specs.declared.word.Message.TheVariants.{Success, OthersSuccess, Drop, OthersDrop, Describe}
+use Rattle.spec_live.specs.declared.message.Message.{Message}
+use Rattle.spec_live.specs.declared.message.Message.TheVariants.{Success, OthersSuccess, Drop, OthersDrop, Describe}
 use Rattle.spec_commands.specs.Messages.{message_name, message_path, spoken_some, with_message}
 use Rattle.spec_commands.specs.Replies.{cant_go, has_left, has_arrived, contents_head}
-use Rattle.spec_commands.specs.Finding.{is_so, message_shown, message_to_others, shown_others, listed, listed_under, seen_in, room_shown, looked}
-use Rattle.spec_commands.specs.Going.{Play, ended, gone, both_shown, failed, link_at, led, tried, walked}
+use Rattle.spec_commands.specs.Finding.{is_object_so, message_shown, message_to_others, shown_others, names_listed, listed_under, seen_in, room_shown, place_looked_at}
+use Rattle.spec_commands.specs.Going.{Play, ended, player_gone, both_shown, failed, link_at, led, tried, exit_walked}
 use Rattle.spec_commands.specs.Commands.{played}
 use Rattle.spec_commands.specs.inner.Company.{held, seats, player_two, queues}
 
 abbrev holding : List ℕ → List ℕ → Object → Entry
-holding contents exits o = record { object = o; contents = contents; exits = exits; mark = None; saving = Saved }
+holding contents exits o = record { object = o; contents = contents; exits = exits; mark = None; saving = Saved; stood = None }
 
 -- One and Two stand in Room Zero, from which exit `#5` leads to Den `#3`; there is Three, and Four is in Attic `#6`
 abbrev square : Live
@@ -124,38 +124,38 @@ unfolding message_at object_at number_in kind_in object_in room_zero player_one
 quiet_door m = ap (λ value. option_and_then message_of value) (no_prop (message_path (message_name m)))
 
 quiet_behind : (m : Message) → message_at (message_path (message_name m)) door arrived.objects ≡ None
-unfolding message_at followed reading shown_others tell_others tell_but moved_to moved set_down next_in links_in due_from relinked follower walk has without changed_at place_in list_in object_at number_in kind_in object_in room_zero player_one
+unfolding message_at change_followed reading shown_others tell_others tell_but moved_to moved set_down next_in links_in due_from relinked follower walk has without_number changed_at place_in list_in object_at number_in kind_in object_in room_zero player_one
 quiet_behind m = ap (λ value. option_and_then message_of value) (no_prop (message_path (message_name m)))
 
 quiet_den : message_at (message_path (message_name Describe)) den named.objects ≡ None
-unfolding message_at followed reading shown_others tell tell_others tell_but moved_to moved set_down next_in links_in due_from relinked follower walk has without changed_at place_in list_in object_at number_in kind_in object_in room_zero player_one
+unfolding message_at change_followed reading shown_others tell tell_others tell_but moved_to moved set_down next_in links_in due_from relinked follower walk has without_number changed_at place_in list_in object_at number_in kind_in object_in room_zero player_one
 quiet_den = ap (λ value. option_and_then message_of value) (no_prop (message_path (message_name Describe)))
 
 abbrev leads : Play
 leads = reading (link_at door) (led 2 two typed door (codes "in"))
 
 abbrev by_leave : Option Denial → Live × Outcome
-by_leave denial = answered denial (λ denial. ended Done (failed 2 two typed cant_go door)) (λ w. leads (both_shown 2 two typed Success OthersSuccess door w)) square
+by_leave denial = denial_answered denial (λ denial. ended Done (failed 2 two typed cant_go door)) (λ w. leads (both_shown 2 two typed Success OthersSuccess door w)) square
 
 abbrev dropped_there : Live → Live × Outcome
-dropped_there w = (looked 2 two typed (both_shown 2 two typed Drop OthersDrop door w), Done)
+dropped_there w = (place_looked_at 2 two typed (both_shown 2 two typed Drop OthersDrop door w), Done)
 
 tried_so : after_walking ≡ leads square
-unfolding played walked tried asked where_so reading either followed is_so object_at number_in kind_in object_in list_in place_in walk room_zero player_one scenery_of listed_in places_of both_shown message_shown message_to_others exit_for hits hits_at hits_in runs takes rest_behind is_same begins_with placed aliases sight_place things_in exit_order number_named
+unfolding played exit_walked tried asked where_so reading either change_followed is_object_so object_at number_in kind_in object_in list_in place_in walk room_zero player_one scenery_of listed_in places_of both_shown message_shown message_to_others exit_for hits hits_at hits_in leads_to_program alias_takes rest_behind is_same begins_alike texts_placed aliases sight_place things_in exit_order number_named
 tried_so =
     ap by_leave allowed
     ∙ ap (λ w. leads (message_to_others two typed OthersSuccess door w)) (unsaid Success door (tell 2) square (quiet_door Success))
     ∙ ap leads (unsaid OthersSuccess door aloud square (quiet_door OthersSuccess))
 
 led_so : leads square ≡ dropped_there arrived
-unfolding led gone ended moved_to move_check judged where_so reading either followed is_so object_at number_in kind_in object_in list_in place_in path_in fits_in flags_in is_vehicle_in walk has room_zero player_one
+unfolding led player_gone ended moved_to move_check move_judged where_so reading either change_followed is_object_so object_at number_in kind_in object_in list_in place_in places_from fits_in flags_in is_vehicle_in walk has room_zero player_one
 led_so = refl
 
 abbrev looks : Live → Live × Outcome
-looks w = (looked 2 two typed w, Done)
+looks w = (place_looked_at 2 two typed w, Done)
 
 seen_so : dropped_there arrived ≡ (company_shown named, Done)
-unfolding both_shown message_shown message_to_others looked room_shown reading followed shown_others tell tell_others tell_but moved_to moved set_down next_in links_in due_from relinked follower walk has without changed_at place_in list_in object_at number_in kind_in object_in room_zero player_one
+unfolding both_shown message_shown message_to_others place_looked_at room_shown reading change_followed shown_others tell tell_others tell_but moved_to moved set_down next_in links_in due_from relinked follower walk has without_number changed_at place_in list_in object_at number_in kind_in object_in room_zero player_one
 seen_so =
     ap (λ w. looks (message_to_others two typed OthersDrop door w)) (unsaid Drop door (tell 2) arrived (quiet_behind Drop))
     ∙ ap looks (unsaid OthersDrop door aloud arrived (quiet_behind OthersDrop))
@@ -165,7 +165,7 @@ walked_so : after_walking ≡ (company_shown named, Done)
 walked_so = tried_so ∙ led_so ∙ seen_so
 
 pub walk_rows : WalkRows
-unfolding WalkRows followed reading either unchanged tell tell_others tell_but told_one told_others sent_lines queue_most lines_bytes line_sent lines_sent sent shown_others has_left has_arrived contents_head seen_in listed listed_under name_shown level_at owns controls_as command_level flag_at listed_in moved_to moved set_down next_in links_in due_from relinked follower walk has without changed_at place_in list_in object_at number_in kind_in object_in room_zero player_one early_board
+unfolding WalkRows change_followed reading either unchanged tell tell_others tell_but told_one told_others sent_lines queue_most sent_lines_bytes line_sent lines_sent text_sent shown_others has_left has_arrived contents_head seen_in names_listed listed_under name_shown level_at owns controls_as command_level flag_at listed_in moved_to moved set_down next_in links_in due_from relinked follower walk has without_number changed_at place_in list_in object_at number_in kind_in object_in room_zero player_one early_board
 walk_rows = (
   ap (λ (p : Live × Outcome). queues p.0.board.connections) walked_so,
   ap (λ (p : Live × Outcome). p.1) walked_so,

@@ -5,14 +5,14 @@ use Rattle.spec_live.specs.Lives.{tell}
 use Rattle.spec_live.specs.Objects.{dbref_of, object_at, number_in, kind_in, object_in}
 use Rattle.spec_live.specs.Start.{room_zero, player_one}
 use Rattle.spec_commands.specs.Editing.{editor_exited}
-use Rattle.spec_commands.specs.Finding.{is_so}
+use Rattle.spec_commands.specs.Finding.{is_object_so}
 use Rattle.spec_commands.specs.inner.EditRows.{desk}
-use Rattle.spec_events.specs.World.{World, starting, on_live}
+use Rattle.spec_events.specs.World.{World, starting_world, on_live}
 use Rattle.spec_events.specs.Lines.{with_editor, in_editor, command}
 
 -- where One's program `#3` is
 abbrev there : World
-there = record starting { live = desk 1 }
+there = record starting_world { live = desk 1 }
 
 -- on that object, where lines come behind such a line
 abbrev on : ℕ → Option ℕ → EditState
@@ -28,5 +28,5 @@ EditorRows =
     Exits (on 9 None) × Exits (on 1 None) × Exits (on 3 (Some 1))
 
 pub editor_rows : EditorRows
-unfolding EditorRows object_at number_in kind_in object_in room_zero player_one is_so editor_exited in_editor
+unfolding EditorRows object_at number_in kind_in object_in room_zero player_one is_object_so editor_exited in_editor
 editor_rows = (λ line. refl, λ line. refl, λ line. refl)

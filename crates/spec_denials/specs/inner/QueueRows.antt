@@ -3,7 +3,7 @@ use Rattle.std.specs.Prelude.{◌≡◌, true, false, pos, List, [], ◌∷◌, 
 use Rattle.muck_model.specs.declared.dbref.Dbref.{Dbref}
 use Rattle.spec_live.specs.Objects.{dbref_of, nothing}
 use Rattle.muck_queue.specs.declared.mode.Wait.TheVariants.{ForLine}
-use Rattle.muck_queue.specs.Queues.{Queue, number_most, next_due, claimed, without, is_full, added, reader, ended_tied, ended_running, trigger_cleared}
+use Rattle.muck_queue.specs.Queues.{Queue, number_most, next_due, claimed, without_process, is_queue_full, process_added, reader, ended_tied, ended_running, trigger_cleared}
 use Rattle.muck_queue.specs.inner.Rows.{sample, tied_to, numbers, three, limits, of_two, ties, runners}
 
 -- 1 is tied to the connection 7 and runs, and 3 to 8, where it waits for a line
@@ -20,10 +20,10 @@ QueueRows =
     × (next_due 9 (claimed (pos 2) 7 three) ≡ Some (pos 4))
     × (next_due 2 three ≡ None)
     -- no number is given again
-    × (numbers (added (sample (pos 0) 8) (without (pos 4) three)) ≡ pos 1 ∷ pos 2 ∷ pos 5 ∷ [])
+    × (numbers (process_added (sample (pos 0) 8) (without_process (pos 4) three)) ≡ pos 1 ∷ pos 2 ∷ pos 5 ∷ [])
     -- as many of a player as may be
-    × (is_full (dbref_of 1) (limits 3 1) of_two ≡ true)
-    × (is_full (dbref_of 3) (limits 3 1) of_two ≡ false)
+    × (is_queue_full (dbref_of 1) (limits 3 1) of_two ≡ true)
+    × (is_queue_full (dbref_of 3) (limits 3 1) of_two ≡ false)
     -- who reads the line of a connection
     × (reader 8 reading ≡ Some (pos 3))
     × (reader 7 reading ≡ None)
@@ -35,5 +35,5 @@ QueueRows =
     × (triggers (trigger_cleared (dbref_of 5) of_two) ≡ dbref_of 4 ∷ dbref_of 4 ∷ [])
 
 pub queue_rows : QueueRows
-unfolding QueueRows number_most next_due claimed without is_full added reader ended_tied ended_running trigger_cleared
+unfolding QueueRows number_most next_due claimed without_process is_queue_full process_added reader ended_tied ended_running trigger_cleared
 queue_rows = (refl, refl, refl, refl, refl, refl, refl, refl, refl, refl, refl, refl)

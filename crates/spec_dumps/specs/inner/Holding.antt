@@ -10,7 +10,7 @@ use Rattle.muck_log.specs.Store.{Chosen, LogState, IsMounted}
 use Rattle.spec_events.specs.World.{World}
 use Rattle.spec_events.specs.Histories.{History, Grew}
 use Rattle.spec_events.specs.Logged.{is_dump}
-use Rattle.spec_dumps.specs.Fronts.{event_at, last_cut, at_cut, number_at, IsFront, Fits, Overflows, dumped_on, file_most}
+use Rattle.spec_dumps.specs.Fronts.{event_at, last_cut, at_cut, batch_number_at, IsFront, Fits, Overflows, dumped_on, file_most}
 use Rattle.spec_dumps.specs.Survival.{HoldsAt, HoldsBy, IsSafe}
 
 -- k is the history h and then entries that are none of a dump, without a note
@@ -69,7 +69,7 @@ pub record IsDumped {D : Type 0} (images : D → ℕ → List ℕ → Type 0) (f
   pub front : IsFront h.start mounted h.entries h.notes last before
   pub fits : Fits before (at_cut h.start h.entries)
   pub is : x ≡ dumped_on before (at_cut h.start h.entries)
-  pub number : number_at mounted h.entries (last_cut h.entries) ≡ x.held.number
+  pub number : batch_number_at mounted h.entries (last_cut h.entries) ≡ x.held.number
   pub consistent : IsConsistent (at_cut h.start h.entries).live.objects
 
 -- the count of faults of a disk rose since the note before that one

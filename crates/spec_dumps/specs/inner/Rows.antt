@@ -5,7 +5,7 @@ use Rattle.muck_model.specs.declared.event.Event.TheVariants.{Cut, Stored, DumpF
 use Rattle.muck_model.specs.declared.note.Note.{Note}
 use Rattle.muck_log.specs.Store.{Chosen}
 use Rattle.spec_live.specs.Boards.{first_tune}
-use Rattle.spec_events.specs.World.{World, booted}
+use Rattle.spec_events.specs.World.{World, world_booted}
 use Rattle.spec_events.specs.Histories.{by_porter}
 use Rattle.spec_dumps.specs.Fronts.{IsFront}
 use Rattle.spec_dumps.specs.Survival.{HoldsAt, HoldsBy, HasCause, IsDelta}
@@ -16,7 +16,7 @@ left_by test disk t c = test disk t c ≡ true
 
 -- a world of no objects
 abbrev pub bare : World
-bare = booted [] first_tune 0 0
+bare = world_booted [] first_tune 0 0
 
 -- two disks on which nothing was ever written
 abbrev pub nothing_left : Bool → ℕ → List ℕ → Type 0

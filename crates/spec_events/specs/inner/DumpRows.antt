@@ -3,12 +3,12 @@ use Rattle.std.specs.Prelude.{◌≡◌, ℕ, true, false, List, [], ◌∷◌, 
 use Rattle.std.specs.Fmt.{digits}
 use Rattle.muck_model.specs.declared.event.Event.{Event}
 use Rattle.muck_model.specs.declared.event.Event.TheVariants.{Moment, Cut, Stored, DumpFailed}
-use Rattle.spec_live.specs.Output.{no_output, sent_lines, queue_most, lines_bytes, line_sent, lines_sent, sent}
+use Rattle.spec_live.specs.Output.{no_output, sent_lines, queue_most, sent_lines_bytes, line_sent, lines_sent, text_sent}
 use Rattle.spec_live.specs.Connections.{Connection}
 use Rattle.spec_live.specs.Boards.{first_tune, early_board, told_one}
 use Rattle.spec_live.specs.Lives.{on_board, tell}
 use Rattle.spec_commands.specs.inner.Company.{queues}
-use Rattle.spec_events.specs.World.{World, booted, starting, asked_by, on_live, on_dumps}
+use Rattle.spec_events.specs.World.{World, world_booted, starting_world, asked_by, on_live, on_dumps}
 use Rattle.spec_events.specs.Dumping.{told_each}
 use Rattle.spec_events.specs.Steps.{is_lawful, effect}
 use Rattle.spec_events.specs.Histories.{after, by_porter}
@@ -19,7 +19,7 @@ silent d = record { number = d; player = None; waiting = []; editor = None; leav
 
 -- the connections 1 and 2 are there
 abbrev pub two_there : World
-two_there = on_live (on_board (λ b. record b { connections = silent 1 ∷ silent 2 ∷ [] })) starting
+two_there = on_live (on_board (λ b. record b { connections = silent 1 ∷ silent 2 ∷ [] })) starting_world
 
 -- the connection d asks for a dump
 abbrev pub asks_dump : ℕ → World → World
@@ -60,5 +60,5 @@ DumpRows =
     × (is_lawful (behind (Moment 900 ∷ []) two_there) (record { party = 9; event = Cut 1 }) ≡ true)
 
 pub dump_rows : DumpRows
-unfolding DumpRows digits sent_lines queue_most lines_bytes line_sent lines_sent sent first_tune early_board told_one tell told_each booted starting is_lawful effect
+unfolding DumpRows digits sent_lines queue_most sent_lines_bytes line_sent lines_sent text_sent first_tune early_board told_one tell told_each world_booted starting_world is_lawful effect
 dump_rows = (refl, refl, refl, refl, refl, refl, refl, refl, refl, refl, refl, refl)

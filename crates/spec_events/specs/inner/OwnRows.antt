@@ -1,10 +1,10 @@
 -- Worked own entries, which the checker computes.
 use Rattle.std.specs.Prelude.{◌≡◌, true, false, pos, [], ◌∷◌, codes, refl, is_some}
 use Rattle.muck_model.specs.declared.event.Event.TheVariants.{Opened, Input, Closed, Moment, Exec, Claim, Slice, Lost, Idle, Take, Cut, Stored, DumpFailed, Halt, StopSeen, Died}
-use Rattle.spec_events.specs.World.{booted, starting}
+use Rattle.spec_events.specs.World.{world_booted, starting_world}
 use Rattle.spec_events.specs.Steps.{is_lawful, effect}
 use Rattle.spec_events.specs.Histories.{by_porter}
-use Rattle.spec_events.specs.Own.{stage_of, IsWellFormed, is_over, IsOver}
+use Rattle.spec_events.specs.Own.{stage_of, IsWellFormed, is_over, IsPartyOver}
 
 unfoldable pub OwnRows : Type 0
 OwnRows =
@@ -35,9 +35,9 @@ OwnRows =
     × (is_some (stage_of 3 (Died ∷ Idle ∷ [])) ≡ false)
     × (is_some (stage_of 10 (Idle ∷ [])) ≡ false)
     -- over is what ends with the stop, with what became of the last dump, or with Died; and no open claim or dump is
-    × IsOver 0 (Halt ∷ StopSeen ∷ Cut 1 ∷ DumpFailed 1 ∷ [])
-    × IsOver 3 (Claim (pos 1) ∷ Died ∷ [])
-    × IsOver 9 (Idle ∷ StopSeen ∷ [])
+    × IsPartyOver 0 (Halt ∷ StopSeen ∷ Cut 1 ∷ DumpFailed 1 ∷ [])
+    × IsPartyOver 3 (Claim (pos 1) ∷ Died ∷ [])
+    × IsPartyOver 9 (Idle ∷ StopSeen ∷ [])
     × (is_over 3 (Claim (pos 1) ∷ []) ≡ false)
     × (is_over 3 (Claim (pos 1) ∷ Slice (pos 1) ∷ []) ≡ false)
     × (is_over 9 (Cut 1 ∷ []) ≡ false)
@@ -45,10 +45,10 @@ OwnRows =
     × (is_over 0 (StopSeen ∷ Cut 1 ∷ []) ≡ false)
     × (is_over 0 (Moment 1 ∷ []) ≡ false)
     -- any party sees the stop once the world is stopping
-    × (is_lawful starting (record { party = 3; event = StopSeen }) ≡ false)
-    × (is_lawful (effect starting (by_porter Halt)) (record { party = 3; event = StopSeen }) ≡ true)
-    × (is_lawful (effect (effect starting (by_porter Halt)) (by_porter Died)) (by_porter StopSeen) ≡ false)
+    × (is_lawful starting_world (record { party = 3; event = StopSeen }) ≡ false)
+    × (is_lawful (effect starting_world (by_porter Halt)) (record { party = 3; event = StopSeen }) ≡ true)
+    × (is_lawful (effect (effect starting_world (by_porter Halt)) (by_porter Died)) (by_porter StopSeen) ≡ false)
 
 pub own_rows : OwnRows
-unfolding OwnRows stage_of booted starting is_lawful effect
+unfolding OwnRows stage_of world_booted starting_world is_lawful effect
 own_rows = (refl, refl, refl, refl, refl, refl, refl, refl, refl, refl, refl, refl, refl, refl, refl, refl, refl, refl, refl, refl, refl, refl, refl, refl, refl, refl, refl, refl, refl, refl, refl, refl, refl, refl)

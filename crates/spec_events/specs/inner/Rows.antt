@@ -1,7 +1,7 @@
 -- Worked slices, which the checker computes.
 use Rattle.std.specs.Prelude.{◌≡◌, ℕ, pos, List, [], ◌∷◌, ◌++◌, length, map, replicate, codes, refl, Some, None}
 use Rattle.std.specs.Fmt.{digits}
-use Rattle.spec_live.specs.Output.{sent_lines, queue_most, lines_bytes, line_sent, lines_sent, sent}
+use Rattle.spec_live.specs.Output.{sent_lines, queue_most, sent_lines_bytes, line_sent, lines_sent, text_sent}
 use Rattle.spec_live.specs.Objects.{dbref_of, object_at, number_in, kind_in, flags_in, place_in, object_in, list_in, changed_at}
 use Rattle.spec_live.specs.Boards.{first_tune, early_board, told_one, told_player}
 use Rattle.spec_live.specs.Lives.{unchanged, tell, tell_player}
@@ -15,19 +15,19 @@ use Rattle.muf_model.specs.declared.code.Word.TheVariants.{Literal, Variable, Pr
 use Rattle.muf_model.specs.declared.prims.Primitive.TheVariants.{Pop, Fetch, Swap, Subtract, IntToStr, Notify, Call, Preempt, Sleep}
 use Rattle.muf_model.specs.Tree.{Block, stop, word, fork, try_word, Tree}
 use Rattle.muf_model.specs.Source.{last_word}
-use Rattle.spec_prims.specs.Asking.{level_fault, is_there, near_fault}
+use Rattle.spec_prims.specs.Asking.{level_fault, is_number_there, near_fault}
 use Rattle.spec_prims.specs.Shared.{first_fault, shared}
 use Rattle.muck_library.specs.Library.{form_at, formed}
 use Rattle.muck_queue.specs.declared.mode.Mode.TheVariants.{Preempt as PreemptMode}
-use Rattle.muck_queue.specs.Queues.{empty_queue, number_most, is_full, added, on_process, in_mode, without}
+use Rattle.muck_queue.specs.Queues.{empty_queue, number_most, is_queue_full, process_added, on_process, process_in_mode, without_process}
 use Rattle.spec_commands.specs.inner.Company.{queues}
 use Rattle.spec_commands.specs.inner.EditRows.{desk}
 use Rattle.spec_processes.specs.ProcessRows.{processed}
 use Rattle.spec_events.specs.declared.starting.Call.{Call as Started}
-use Rattle.spec_events.specs.World.{World, booted, starting, on_live, on_queue}
+use Rattle.spec_events.specs.World.{World, world_booted, starting_world, on_live, on_queue}
 use Rattle.spec_events.specs.Starting.{by_command, new_process, word_started}
 use Rattle.spec_events.specs.Following.{swept, settled}
-use Rattle.spec_events.specs.Slices.{acting, row_done, program_called, process_done, deed, program_error, turn, run_of, sliced}
+use Rattle.spec_events.specs.Slices.{acting, row_done, program_called, process_done, deed, program_error, unit_taken, units_run, sliced}
 
 -- these words, one behind the other, all in line 1
 abbrev pub in_turn : List Word → Block → Block
@@ -44,7 +44,7 @@ by_one = record { player = dbref_of 1; program = dbref_of 3; trigger = dbref_of 
 
 -- the only process is that of this program, which belongs to this player
 abbrev pub running_of : ℕ → Tree → World
-running_of owner tree = (word_started (by_command 1 (dbref_of 3) starting) by_one tree (last_word tree.words) (record starting { live = desk owner })).0
+running_of owner tree = (word_started (by_command 1 (dbref_of 3) starting_world) by_one tree (last_word tree.words) (record starting_world { live = desk owner })).0
 
 -- to One, so that it is at the highest level
 abbrev pub running : Tree → World
@@ -102,7 +102,7 @@ section_of n = words (Primitive Preempt ∷ sevens n)
 
 -- a section begins
 abbrev pub in_section : World → World
-in_section w = on_queue (on_process (pos 1) (in_mode PreemptMode)) w
+in_section w = on_queue (on_process (pos 1) (process_in_mode PreemptMode)) w
 
 -- `5 sleep`
 abbrev pub sleep_five : List Word
@@ -137,5 +137,5 @@ Rows =
     × (counts_of (sliced (pos 1) (sliced (pos 1) (short (running (words (Primitive Preempt ∷ sevens 8 ++ sleep_five ++ sevens 9)))))) ≡ [])
 
 pub rows : Rows
-unfolding Rows digits sent_lines queue_most lines_bytes line_sent lines_sent sent object_at number_in kind_in flags_in place_in object_in list_in changed_at first_tune early_board told_one told_player unchanged tell tell_player room_zero player_one first_objects level_at owner_at flag_at owns controls_as effective inherits level user controls controls_or empty_queue number_most is_full added on_process without booted starting new_process form_at formed acting level_fault is_there near_fault first_fault shared row_done processed program_called process_done deed program_error swept settled turn run_of sliced
+unfolding Rows digits sent_lines queue_most sent_lines_bytes line_sent lines_sent text_sent object_at number_in kind_in flags_in place_in object_in list_in changed_at first_tune early_board told_one told_player unchanged tell tell_player room_zero player_one first_objects level_at owner_at flag_at owns controls_as effective inherits level user controls controls_or empty_queue number_most is_queue_full process_added on_process without_process world_booted starting_world new_process form_at formed acting level_fault is_number_there near_fault first_fault shared row_done processed program_called process_done deed program_error swept settled unit_taken units_run sliced
 rows = (refl, refl, refl, refl, refl, refl, refl, refl, refl, refl, refl, refl, refl)

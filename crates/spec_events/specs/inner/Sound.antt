@@ -1,7 +1,7 @@
 -- What the laws of histories keep of a world.
 use Rattle.std.specs.Prelude.{◌≡◌, false}
 use Rattle.spec_commands.specs.inner.Rising.{IsRising}
-use Rattle.spec_admin.specs.Parameters.{IsInRange}
+use Rattle.muck_model.specs.Parameters.{IsInRange}
 use Rattle.spec_events.specs.World.{World}
 
 -- alive, its connections stand by rising number, and what is tuned is in its range

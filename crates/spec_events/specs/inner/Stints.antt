@@ -2,14 +2,14 @@
 use Rattle.std.specs.Prelude.{ℕ, suc, ◌-◌, min, ℤ, if◌then◌else◌}
 use Rattle.std.specs.Option.{option_map_or}
 use Rattle.muck_model.specs.declared.tune.Tune.{Tune}
-use Rattle.muck_queue.specs.Queues.{on_process, counted, more, is_preempt}
+use Rattle.muck_queue.specs.Queues.{on_process, units_counted, more, is_preempt}
 use Rattle.spec_events.specs.declared.starting.Agent.{Agent}
 use Rattle.spec_events.specs.World.{World, on_queue}
-use Rattle.spec_events.specs.Slices.{section_most, units_most}
+use Rattle.spec_events.specs.Slices.{section_most, units_most_at}
 
 -- it took so many units more
 abbrev pub many_counted : ℕ → ℤ → World → World
-many_counted n pid w = on_queue (on_process pid (counted n)) w
+many_counted n pid w = on_queue (on_process pid (units_counted n)) w
 
 -- and so is for whom it acts
 abbrev pub counting : ℕ → Agent → Agent
@@ -21,7 +21,7 @@ unbroken tune left x = if is_preempt x.mode then section_most tune - x.section e
 
 -- those that its level leaves it, which are all that are left where there is no limit
 abbrev pub unspent : Tune → ℕ → ℕ → Agent → ℕ
-unspent tune level left x = option_map_or (λ most. most - x.units) (units_most tune level) left
+unspent tune level left x = option_map_or (λ most. most - x.units) (units_most_at tune level) left
 
 -- of so many units that are left, those that it takes without being asked again
 abbrev pub allowed : Tune → ℕ → ℕ → Agent → ℕ

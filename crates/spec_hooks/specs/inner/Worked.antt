@@ -1,5 +1,5 @@
 -- Worked hooks, which the checker computes.
-use Rattle.std.specs.Prelude.{◌≡◌, ℕ, ℤ, pos, List, [], ◌∷◌, ◌++◌, map, codes, refl, Some, None}
+use Rattle.std.specs.Prelude.{◌≡◌, ℕ, List, [], ◌∷◌, ◌++◌, codes, refl, Some, None}
 use Rattle.std.specs.List.{filter_map}
 use Rattle.std.specs.Option.{option_map_or}
 use Rattle.std.specs.FinMap.{entries, from_sorted, entries-from_sorted}
@@ -7,34 +7,27 @@ use Rattle.std.proofs.Common.{ap, ◌∙◌}
 use Rattle.muck_model.specs.declared.dbref.Dbref.{Dbref}
 use Rattle.muck_model.specs.declared.dbref.Kind.TheVariants.{Room, Program, Player}
 use Rattle.muck_model.specs.Decimal.{decimal_of}
-use Rattle.muck_model.specs.Numbers.{dbref_of as number_named}
+use Rattle.muck_model.specs.Numbers.{dbref_written as number_named}
 use Rattle.muck_prop.specs.declared.value.PropValue.{PropValue}
 use Rattle.muck_prop.specs.declared.value.PropValue.TheVariants.{Text}
 use Rattle.muck_prop.specs.Order.{path_cmp}
 use Rattle.muck_prop.specs.Store.{PropMap}
 use Rattle.spec_live.specs.declared.object.Object.{Object}
 use Rattle.spec_live.specs.declared.saving.Saving.TheVariants.{Done}
-use Rattle.spec_live.specs.Objects.{Entry, dbref_of, plain, object_at, number_in, kind_in, object_in, place_in, list_in}
+use Rattle.spec_live.specs.Objects.{Entry, dbref_of, bare_object, object_at, number_in, kind_in, object_in, place_in, list_in}
 use Rattle.spec_live.specs.Chain.{walk}
 use Rattle.spec_live.specs.Seen.{listed_in, places_of}
+use Rattle.spec_live.specs.Stood.{standing, stands_in}
 use Rattle.spec_live.specs.Boards.{first_tune, early_board}
 use Rattle.spec_live.specs.Lives.{Live}
 use Rattle.spec_live.specs.Start.{room_zero, player_one}
 use Rattle.spec_rights.specs.Levels.{level_at, owner_at, flag_at, is_player_at, effective}
 use Rattle.spec_commands.specs.inner.Company.{held, seats}
-use Rattle.muf_model.specs.declared.code.Offer.TheVariants.{All}
-use Rattle.muf_model.specs.Tree.{stop, Tree}
-use Rattle.muck_library.specs.Library.{form_at, formed}
-use Rattle.muck_queue.specs.Queues.{empty_queue, number_most, is_full, added}
-use Rattle.spec_events.specs.declared.starting.Call.{Call}
-use Rattle.spec_events.specs.World.{World, booted, starting}
-use Rattle.spec_events.specs.Starting.{new_process, begun}
 use Rattle.spec_hooks.specs.declared.cause.Cause.{Cause}
 use Rattle.spec_hooks.specs.declared.cause.Cause.TheVariants.{Arrive, Depart, Connect, Disconnect, Listen}
 use Rattle.spec_hooks.specs.declared.cause.Fire.{Fire}
 use Rattle.spec_hooks.specs.Causes.{causes}
 use Rattle.spec_hooks.specs.Firing.{directory, values_in, values_among, fired, fired_by, firing}
-use Rattle.spec_hooks.specs.Hooked.{hook_command, call_of, started_all, hooked}
 
 -- Properties that name programs.
 
@@ -69,16 +62,16 @@ abbrev pub room_hooked : Object
 room_hooked = record room_zero { props = props_of zero_hooks }
 
 abbrev pub den_hooked : Object
-den_hooked = record (plain Room (codes "Den") (dbref_of 1)) { place = dbref_of 0; props = props_of den_hooks }
+den_hooked = record (bare_object Room (codes "Den") (dbref_of 1)) { place = dbref_of 0; props = props_of den_hooks }
 
 abbrev pub program_of : ℕ → Object
-program_of owner = record (plain Program (codes "hook") (dbref_of owner)) { place = dbref_of 1; level = 1 }
+program_of owner = record (bare_object Program (codes "hook") (dbref_of owner)) { place = dbref_of 1; level = 1 }
 
 abbrev pub player_two : Object
-player_two = record (plain Player (codes "Two") (dbref_of 5)) { place = dbref_of 0; home = dbref_of 0; level = 1 }
+player_two = record (bare_object Player (codes "Two") (dbref_of 5)) { place = dbref_of 0; home = dbref_of 0; level = 1 }
 
 abbrev pub stored_as : List ℕ → Object → Entry
-stored_as contents o = record { object = o; contents = contents; exits = []; mark = None; saving = Done }
+stored_as contents o = record { object = o; contents = contents; exits = []; mark = None; saving = Done; stood = standing o }
 
 abbrev pub scene : ℕ → List Entry
 scene place = stored_as (1 ∷ 5 ∷ 2 ∷ []) room_hooked ∷ stored_as (4 ∷ 3 ∷ []) (one_at place) ∷ stored_as [] den_hooked ∷ stored_as [] (program_of 1) ∷ stored_as [] (program_of 5) ∷ stored_as [] player_two ∷ []
@@ -86,20 +79,6 @@ scene place = stored_as (1 ∷ 5 ∷ 2 ∷ []) room_hooked ∷ stored_as (4 ∷ 
 -- One is at this place, with so many connections
 abbrev pub live_at : ℕ → List ℕ → Live
 live_at place players = held (scene place) (seats 1 players)
-
--- `#3` is built, and `#4` has no word to begin with
-abbrev pub built : Tree
-built = record { words = record { name = codes "main"; offer = All; variables = 0; body = stop; last = 1 } ∷ []; variables = 0 }
-
-abbrev pub wordless : Tree
-wordless = record { words = []; variables = 0 }
-
-abbrev pub world_at : ℕ → List ℕ → World
-world_at place players = record starting { live = live_at place players; library = None ∷ None ∷ None ∷ Some built ∷ Some wordless ∷ [] }
-
--- so many processes may be there
-abbrev pub limited : ℕ → World → World
-limited most w = record w { live = record w.live { board = record w.live.board { tune = record w.live.board.tune { process_limit = most } } } }
 
 abbrev pub one : Dbref
 one = dbref_of 1
@@ -121,12 +100,6 @@ spoke = Listen one (dbref_of 0) hi
 abbrev pub fire : ℕ → ℕ → List ℕ → Fire
 fire program trigger arg = record { program = dbref_of program; trigger = dbref_of trigger; arg = arg }
 
-abbrev pub call_on : ℕ → Call
-call_on program = call_of moved_out (fire program 0 (codes "Depart"))
-
-abbrev pub processes : World → List (ℤ × ℤ × ℤ × ℤ)
-processes w = map (λ p. (p.number, p.player.0, p.program.0, p.trigger.0)) w.queue.processes
-
 unfoldable pub WorkedRows : Type 0
 WorkedRows =
     -- One goes to the Den, by however many steps
@@ -147,11 +120,6 @@ WorkedRows =
     × (firing (scene 0) (Connect one) ≡ fire 3 1 (codes "Connect") ∷ [])
     -- what is said is heard twice by Room Zero, and by the Den in it, but by no player
     × (firing (scene 0) spoke ≡ fire 3 0 hi ∷ fire 3 0 hi ∷ fire 3 2 hi ∷ [])
-    -- what has no word is passed over, and from the first one that a limit refuses all
-    × (processes (started_all (call_on 3 ∷ call_on 4 ∷ call_on 3 ∷ []) (world_at 0 [])) ≡ (pos 1, pos 1, pos 3, pos 0) ∷ (pos 2, pos 1, pos 3, pos 0) ∷ [])
-    × (processes (started_all (call_on 3 ∷ call_on 3 ∷ call_on 3 ∷ []) (limited 2 (world_at 0 []))) ≡ (pos 1, pos 1, pos 3, pos 0) ∷ (pos 2, pos 1, pos 3, pos 0) ∷ [])
-    -- all of it: who is gone to the Den
-    × (processes (hooked (world_at 0 (1 ∷ [])) (world_at 2 (1 ∷ [])) None) ≡ (pos 1, pos 1, pos 3, pos 0) ∷ (pos 2, pos 1, pos 3, pos 2) ∷ (pos 3, pos 1, pos 3, pos 0) ∷ [])
 
 -- Each is read as it is kept.
 
@@ -185,11 +153,11 @@ one_fires : (place : ℕ) (cause : Cause) → fired_by (scene place) cause (dbre
 unfolding object_at number_in kind_in object_in player_one
 one_fires place cause = fires_by (scene place) cause 1 (one_at place) one_hooks refl one_kept
 
-in_fires : firing (scene 2) moved_in ≡ fire 3 2 (codes "Arrive") ∷ fire 3 0 (codes "Arrive") ∷ []
+pub in_fires : firing (scene 2) moved_in ≡ fire 3 2 (codes "Arrive") ∷ fire 3 0 (codes "Arrive") ∷ []
 unfolding firing listed_in places_of walk object_at number_in kind_in object_in place_in list_in room_zero player_one level_at owner_at flag_at is_player_at effective number_named decimal_of
 in_fires = ap (λ fs. fs ++ (fired_by (scene 2) moved_in (dbref_of 0) ++ [])) (den_fires 2 moved_in) ∙ ap (λ fs. by_hooks (scene 2) moved_in 2 den_hooks ++ (fs ++ [])) (zero_fires 2 moved_in)
 
-out_fires : firing (scene 2) moved_out ≡ fire 3 0 (codes "Depart") ∷ []
+pub out_fires : firing (scene 2) moved_out ≡ fire 3 0 (codes "Depart") ∷ []
 unfolding firing listed_in places_of walk object_at number_in kind_in object_in place_in list_in room_zero player_one level_at owner_at flag_at is_player_at effective number_named decimal_of
 out_fires = ap (λ fs. fs ++ []) (zero_fires 2 moved_out)
 
@@ -201,12 +169,8 @@ heard_fires : firing (scene 0) spoke ≡ fire 3 0 hi ∷ fire 3 0 hi ∷ fire 3 
 unfolding firing listed_in places_of walk object_at number_in kind_in object_in place_in list_in room_zero player_one level_at owner_at flag_at is_player_at effective number_named decimal_of
 heard_fires = ap (λ fs. fs ++ (fired_by (scene 0) spoke (dbref_of 2) ++ [])) (zero_fires 0 spoke) ∙ ap (λ fs. by_hooks (scene 0) spoke 0 zero_hooks ++ (fs ++ [])) (den_fires 0 spoke)
 
--- the calls of these, behind the world
-abbrev all_called : List Fire → List Fire → World
-all_called out came = started_all (map (call_of moved_out) out ++ (map (call_of moved_in) came ++ [])) (world_at 2 (1 ∷ []))
-
 pub worked_rows : WorkedRows
-unfolding WorkedRows causes hooked started_all begun booted starting first_tune early_board object_at number_in kind_in object_in place_in room_zero player_one is_player_at empty_queue number_most is_full added new_process form_at formed hook_command
+unfolding WorkedRows causes stands_in first_tune early_board object_at number_in kind_in object_in place_in room_zero player_one is_player_at
 worked_rows = (
   refl,
   refl,
@@ -220,7 +184,4 @@ worked_rows = (
   out_fires,
   connect_fires,
   heard_fires,
-  refl,
-  refl,
-  ap (λ fs. processes (all_called fs (firing (scene 2) moved_in))) out_fires ∙ ap (λ fs. processes (all_called (fire 3 0 (codes "Depart") ∷ []) fs)) in_fires,
 )

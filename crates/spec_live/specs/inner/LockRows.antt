@@ -7,7 +7,7 @@ use Rattle.std.proofs.Common.{ap}
 use Rattle.muck_model.specs.declared.dbref.Dbref.{Dbref}
 use Rattle.muck_model.specs.declared.dbref.Kind.TheVariants.{Exit}
 use Rattle.muck_model.specs.Decimal.{decimal_of}
-use Rattle.muck_model.specs.Numbers.{dbref_of as number_named}
+use Rattle.muck_model.specs.Numbers.{dbref_written as number_named}
 use Rattle.muck_prop.specs.Order.{path_cmp, path_cmp_total}
 use Rattle.muck_prop.specs.Store.{PropMap}
 use Rattle.muck_prop.specs.declared.value.PropValue.{PropValue}

@@ -9,21 +9,22 @@ use Rattle.spec_live.specs.declared.saving.Saving.TheVariants.{Done, Due}
 use Rattle.spec_live.specs.declared.saving.Saving.{Saving}
 use Rattle.spec_live.specs.declared.fault.DbFault.TheVariants.{NoSuchObject, WouldLoop, WrongKind}
 use Rattle.spec_live.specs.Flags.{no_flags, vehicle}
-use Rattle.spec_live.specs.Chain.{walk, has, without, follower}
-use Rattle.spec_live.specs.Objects.{Entry, dbref_of, nothing, object_in, list_in, kind_in, place_in, path_in, fits_in, flags_in, is_vehicle_in, number_in, owner_in, home_in, changed_at, plain, garbage}
-use Rattle.spec_live.specs.Moving.{set_down, moved, judged, move_check}
+use Rattle.spec_live.specs.Chain.{walk, has, without_number, follower}
+use Rattle.spec_live.specs.Objects.{Entry, dbref_of, nothing, object_in, list_in, kind_in, place_in, places_from, fits_in, flags_in, is_vehicle_in, number_in, owner_in, home_in, changed_at, bare_object, garbage}
+use Rattle.spec_live.specs.Moving.{set_down, moved, move_judged, move_check}
 use Rattle.spec_live.specs.Saving.{next_in, links_in, due_from, relinked}
+use Rattle.spec_live.specs.Stood.{stilled, moves_from}
 use Rattle.spec_live.specs.Making.{free_in, objects_most, may_make, make_judged, owner_judged, create_check}
 use Rattle.spec_live.specs.Setting.{checked, holds_player, keeps_seats, flags_check}
 use Rattle.spec_live.specs.Recycling.{untied, wished_home, may_go, way_home, sent_home, exits_gone, vanished, taken_away, gone_entry, recycled}
 use Rattle.spec_live.specs.Start.{room_zero, player_one}
-use Rattle.spec_live.specs.Output.{Output, notice, lines_bytes, sent_lines, queue_most, newest, line_sent, lines_taken, notice_taken, taken}
+use Rattle.spec_live.specs.Output.{Output, notice, sent_lines_bytes, sent_lines, queue_most, newest, line_sent, lines_taken, notice_taken, output_taken}
 
 -- Objects.
 
 -- what `#1` owns, in that place, with this home and this link
 abbrev pub made : Kind → Dbref → Dbref → Dbref → Object
-made kind place home link = record (plain kind (codes "it") (dbref_of 1)) { place = place; home = home; link = link }
+made kind place home link = record (bare_object kind (codes "it") (dbref_of 1)) { place = place; home = home; link = link }
 
 abbrev pub owned_by : ℕ → Object → Object
 owned_by n o = record o { owner = dbref_of n }
@@ -32,7 +33,7 @@ abbrev pub with_seats : Object → Object
 with_seats o = record o { flags = record { 0 = vehicle } }
 
 abbrev pub holding : List ℕ → List ℕ → Object → Entry
-holding contents exits o = record { object = o; contents = contents; exits = exits; mark = None; saving = Done }
+holding contents exits o = record { object = o; contents = contents; exits = exits; mark = None; saving = Done; stood = None }
 
 abbrev pub link_in : List Entry → ℕ → Option Dbref
 link_in es k = option_map (λ o. o.link) (object_in es k)
@@ -75,7 +76,7 @@ abbrev pub bag_world : List Entry
 bag_world =
     holding (3 ∷ 1 ∷ []) [] room_zero ∷
     holding [] [] player_one ∷
-    gone_entry ∷
+    gone_entry (holding [] [] garbage) ∷
     holding (4 ∷ []) [] (made Thing (dbref_of 0) (dbref_of 0) nothing) ∷
     holding [] [] (made Thing (dbref_of 3) (dbref_of 0) nothing) ∷ []
 
@@ -101,6 +102,11 @@ pub record Rows : Type 0 where
   pub recycled_due_row : savings (recycled 2 den_world) ≡ Due ∷ Done ∷ Due ∷ Due ∷ Due ∷ []
   -- `#1` goes from the end of Room Zero to the front of the car: what stood before it is due with it, and nothing else
   pub moved_due_row : savings (moved 1 2 car_world) ≡ Done ∷ Due ∷ Due ∷ Done ∷ Done ∷ Done ∷ Done ∷ Done ∷ Done ∷ []
+  -- `#3` goes from the car to Room Zero, and the ball with it, which is no player
+  pub moves_row : moves_from 0 (moved 6 0 (moved 3 0 (stilled car_world))) ≡ record { player = dbref_of 3; from = dbref_of 2; to = dbref_of 0 } ∷ []
+  -- there and back again is no move, and nobody was there before the event
+  pub moves_back_row : moves_from 0 (moved 3 2 (moved 3 0 (stilled car_world))) ≡ []
+  pub moves_new_row : moves_from 0 (moved 3 0 car_world) ≡ []
   pub move_loop_row : move_check (dbref_of 3) (dbref_of 4) bag_world ≡ Err WouldLoop
   pub move_itself_row : move_check (dbref_of 3) (dbref_of 3) bag_world ≡ Err WouldLoop
   pub move_nowhere_row : move_check (dbref_of 3) (dbref_of 99999) bag_world ≡ Err NoSuchObject
@@ -120,12 +126,12 @@ pub record Rows : Type 0 where
   -- With one more the oldest goes, and the newest 10,922 stay.
   pub full_row : line_sent line full ≡ record { rest = []; flushed = true; lines = replicate 10922 line }
   -- the notice that was taken in part becomes the rest
-  pub notice_taken_row : taken 5 (record { rest = []; flushed = true; lines = line ∷ [] }) ≡ record { rest = codes "ut Flushed>" ++ 13 ∷ 10 ∷ []; flushed = false; lines = line ∷ [] }
+  pub notice_taken_row : output_taken 5 (record { rest = []; flushed = true; lines = line ∷ [] }) ≡ record { rest = codes "ut Flushed>" ++ 13 ∷ 10 ∷ []; flushed = false; lines = line ∷ [] }
   -- and a line likewise
-  pub line_taken_row : taken 4 (record { rest = codes "ab"; flushed = false; lines = codes "cdef" ∷ line ∷ [] }) ≡ record { rest = codes "ef" ++ 13 ∷ 10 ∷ []; flushed = false; lines = line ∷ [] }
+  pub line_taken_row : output_taken 4 (record { rest = codes "ab"; flushed = false; lines = codes "cdef" ∷ line ∷ [] }) ≡ record { rest = codes "ef" ++ 13 ∷ 10 ∷ []; flushed = false; lines = line ∷ [] }
   -- a text with byte 13 is two lines
   pub sent_lines_row : sent_lines (codes "one" ++ 13 ∷ codes "two") ≡ codes "one" ∷ codes "two" ∷ []
 
 pub rows : Rows
-unfolding recycled taken_away relinked due_from links_in next_in follower set_down untied vanished exits_gone sent_home way_home wished_home may_go gone_entry garbage moved changed_at kind_in object_in list_in place_in path_in fits_in flags_in is_vehicle_in home_in owner_in walk has without room_zero player_one move_check judged number_in create_check owner_judged make_judged may_make free_in objects_most flags_check checked keeps_seats holds_player newest lines_bytes line_sent queue_most taken notice_taken notice lines_taken sent_lines
-rows = record { recycled_den_row = refl; recycled_car_row = refl; recycled_ties_row = refl; recycled_due_row = refl; moved_due_row = refl; move_loop_row = refl; move_itself_row = refl; move_nowhere_row = refl; move_garbage_row = refl; move_room_zero_row = refl; move_player_row = refl; move_into_car_row = refl; create_row = refl; create_owned_row = refl; flags_seat_row = refl; newest_row = refl; full_row = refl; notice_taken_row = refl; line_taken_row = refl; sent_lines_row = refl }
+unfolding moves_from stilled recycled taken_away relinked due_from links_in next_in follower set_down untied vanished exits_gone sent_home way_home wished_home may_go gone_entry garbage moved changed_at kind_in object_in list_in place_in places_from fits_in flags_in is_vehicle_in home_in owner_in walk has without_number room_zero player_one move_check move_judged number_in create_check owner_judged make_judged may_make free_in objects_most flags_check checked keeps_seats holds_player newest sent_lines_bytes line_sent queue_most output_taken notice_taken notice lines_taken sent_lines
+rows = record { recycled_den_row = refl; recycled_car_row = refl; recycled_ties_row = refl; recycled_due_row = refl; moved_due_row = refl; moves_row = refl; moves_back_row = refl; moves_new_row = refl; move_loop_row = refl; move_itself_row = refl; move_nowhere_row = refl; move_garbage_row = refl; move_room_zero_row = refl; move_player_row = refl; move_into_car_row = refl; create_row = refl; create_owned_row = refl; flags_seat_row = refl; newest_row = refl; full_row = refl; notice_taken_row = refl; line_taken_row = refl; sent_lines_row = refl }

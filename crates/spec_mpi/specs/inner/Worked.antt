@@ -7,8 +7,8 @@ use Rattle.spec_live.specs.Start.{first_objects}
 use Rattle.spec_live.specs.Lives.{Live}
 use Rattle.spec_rights.specs.declared.act.Actor.{Actor}
 use Rattle.mpi.specs.declared.fault.MpiFault.TheVariants.{BadValue, Denied}
-use Rattle.spec_mpi.specs.Telling.{Answer}
-use Rattle.spec_mpi.specs.Messages.{heard, spoken}
+use Rattle.spec_mpi.specs.Telling.{MpiAnswer}
+use Rattle.spec_mpi.specs.Messages.{formula_heard, message_spoken}
 
 abbrev pub at_first : Live
 at_first = record { objects = first_objects; board = early_board 0 first_tune }
@@ -18,12 +18,12 @@ abbrev pub acting : ℕ → ℕ → Actor
 acting level user = record { level = level; user = dbref_of user; player = dbref_of 1 }
 
 -- what a text gives
-abbrev pub given : Actor → List ℕ → Answer
-given a text = (heard a (dbref_of 0) text map.empty at_first).0
+abbrev pub given : Actor → List ℕ → MpiAnswer
+given a text = (formula_heard a (dbref_of 0) text map.empty at_first).0
 
 -- what is shown of it
 abbrev pub seen : List ℕ → List ℕ
-seen text = (spoken (acting 4 1) (dbref_of 0) (codes "(@desc)") (codes "look") (codes "at") text at_first).0
+seen text = (message_spoken (acting 4 1) (dbref_of 0) (codes "(@desc)") (codes "look") (codes "at") text at_first).0
 
 pub record Worked : Type 0 where
   pub names : given (acting 4 1) (codes "{name:me}{loc:me}{owner:this}") ≡ Ok (codes "One#0*One")

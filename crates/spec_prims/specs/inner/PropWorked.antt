@@ -7,14 +7,14 @@ use Rattle.spec_live.specs.Start.{room_zero, player_one, first_objects}
 use Rattle.spec_rights.specs.declared.act.Actor.{Actor}
 use Rattle.spec_rights.specs.Levels.{owner_at, owns, controls_as}
 use Rattle.spec_rights.specs.Verdict.{is_near, controls}
-use Rattle.spec_rights.specs.Changing.{stored, unstored}
+use Rattle.spec_rights.specs.Changing.{property_stored, unstored}
 use Rattle.muf_model.specs.declared.fault.MufFault.TheVariants.{BadType, BadArgument, Denied}
 use Rattle.muf_model.specs.declared.prims.Primitive.TheVariants.{GetProp, GetPropStr, SetProp, AddProp, RemoveProp, NextProp, EnvProp}
 use Rattle.muf_model.specs.Datum.{Datum, int, text, object}
-use Rattle.spec_prims.specs.Asking.{level_fault, is_there, near_fault}
+use Rattle.spec_prims.specs.Asking.{level_fault, is_number_there, near_fault}
 use Rattle.spec_prims.specs.Row.{gives, refuses}
 use Rattle.spec_prims.specs.Shared.{first_fault, shared}
-use Rattle.spec_prims.specs.PropRows.{begins, name_fault}
+use Rattle.spec_prims.specs.PropRows.{listing_begins, directory_fault}
 use Rattle.spec_prims.specs.inner.Rows.{at_first, acting_at}
 
 -- the text of a path upon One
@@ -43,18 +43,18 @@ PropWorked =
     -- what is neither a text nor an integer isn't stored
     × (shared SetProp (acting_at 1 1) None 0 (object (pos 1) ∷ upon (codes "x")) at_first ≡ refuses BadType)
     -- what is stored, at which path, and what is added and removed
-    × (shared SetProp (acting_at 1 1) None 0 (int (pos 5) ∷ upon (codes "/A//b/")) at_first ≡ gives [] (stored (dbref_of 1) (codes "a" ∷ codes "b" ∷ []) (Number (pos 5)) at_first))
-    × (shared AddProp (acting_at 1 1) None 0 (int (pos 5) ∷ text (codes "t") ∷ upon (codes "x")) at_first ≡ gives [] (stored (dbref_of 1) (codes "x" ∷ []) (Text (codes "t")) at_first))
-    × (shared AddProp (acting_at 1 1) None 0 (int (pos 5) ∷ text [] ∷ upon (codes "x")) at_first ≡ gives [] (stored (dbref_of 1) (codes "x" ∷ []) (Number (pos 5)) at_first))
+    × (shared SetProp (acting_at 1 1) None 0 (int (pos 5) ∷ upon (codes "/A//b/")) at_first ≡ gives [] (property_stored (dbref_of 1) (codes "a" ∷ codes "b" ∷ []) (Number (pos 5)) at_first))
+    × (shared AddProp (acting_at 1 1) None 0 (int (pos 5) ∷ text (codes "t") ∷ upon (codes "x")) at_first ≡ gives [] (property_stored (dbref_of 1) (codes "x" ∷ []) (Text (codes "t")) at_first))
+    × (shared AddProp (acting_at 1 1) None 0 (int (pos 5) ∷ text [] ∷ upon (codes "x")) at_first ≡ gives [] (property_stored (dbref_of 1) (codes "x" ∷ []) (Number (pos 5)) at_first))
     × (shared RemoveProp (acting_at 1 1) None 0 (upon (codes "x")) at_first ≡ gives [] (unstored (dbref_of 1) (codes "x" ∷ []) at_first))
     -- the directory that a text speaks of, and the child behind which it goes on
     × (shared NextProp (acting_at 1 1) None 0 (upon (codes "a:/")) at_first ≡ refuses BadArgument)
-    × (begins (codes "a/b") ≡ (codes "a" ∷ [], Some (codes "a" ∷ codes "b" ∷ [])))
-    × (begins (codes "a/b/") ≡ (codes "a" ∷ codes "b" ∷ [], None))
-    × (begins (codes "/a") ≡ ([], Some (codes "a" ∷ [])))
-    × (begins [] ≡ ([], None))
-    × (name_fault (codes "//") ≡ None)
+    × (listing_begins (codes "a/b") ≡ (codes "a" ∷ [], Some (codes "a" ∷ codes "b" ∷ [])))
+    × (listing_begins (codes "a/b/") ≡ (codes "a" ∷ codes "b" ∷ [], None))
+    × (listing_begins (codes "/a") ≡ ([], Some (codes "a" ∷ [])))
+    × (listing_begins [] ≡ ([], None))
+    × (directory_fault (codes "//") ≡ None)
 
 pub prop_worked : PropWorked
-unfolding PropWorked first_tune early_board object_at number_in kind_in object_in room_zero player_one first_objects is_near controls owner_at owns controls_as level_fault is_there near_fault first_fault shared
+unfolding PropWorked first_tune early_board object_at number_in kind_in object_in room_zero player_one first_objects is_near controls owner_at owns controls_as level_fault is_number_there near_fault first_fault shared
 prop_worked = (refl, refl, refl, refl, refl, refl, refl, refl, refl, refl, refl, refl, refl, refl, refl, refl, refl, refl, refl, refl, refl)

@@ -11,9 +11,9 @@ use Rattle.muf_model.specs.declared.prims.Primitive.TheVariants.{Notify, Fork}
 use Rattle.muf_model.specs.declared.fault.MufFault.{MufFault}
 use Rattle.muf_model.specs.Datum.{Datum, int, text, object}
 use Rattle.muf_model.specs.Needs.{counts_at, a_text, an_int, an_object, a_near_one}
-use Rattle.spec_prims.specs.Asking.{level_fault, is_there, near_fault}
-use Rattle.spec_prims.specs.Row.{gives, refuses, Doing}
-use Rattle.spec_prims.specs.Shared.{fault_by, first_fault, done_by, shared}
+use Rattle.spec_prims.specs.Asking.{level_fault, is_number_there, near_fault}
+use Rattle.spec_prims.specs.Row.{gives, refuses, WorldDoing}
+use Rattle.spec_prims.specs.Shared.{fault_by, first_fault, primitive_done, shared}
 use Rattle.spec_prims.specs.Talk.{notified}
 
 -- Room Zero and One, and nobody connected
@@ -32,7 +32,7 @@ abbrev pub told : ℕ → List Datum
 told n = hello ∷ object (pos n) ∷ []
 
 -- one that allows no arguments
-abbrev pub forbidden : Doing
+abbrev pub forbidden : WorldDoing
 forbidden = record { argued = λ a items w. Some BadArgument; does = notified }
 
 -- the tests of one that takes a text, and under it a count, so many objects, and one that must be near
@@ -57,8 +57,8 @@ Rows =
     -- what is under the items stays
     × (shared Notify (acting_at 1 1) None 0 (hello ∷ object (pos 1) ∷ hello ∷ []) at_first ≡ gives (hello ∷ []) at_first)
     -- a rule for its arguments is asked behind which are there, and before which are near
-    × (done_by (Some forbidden) Notify (acting_at 1 1) 0 (told 7) at_first ≡ refuses NoSuchObject)
-    × (done_by (Some forbidden) Notify (acting_at 1 7) 0 (told 1) at_first ≡ refuses BadArgument)
+    × (primitive_done (Some forbidden) Notify (acting_at 1 1) 0 (told 7) at_first ≡ refuses NoSuchObject)
+    × (primitive_done (Some forbidden) Notify (acting_at 1 7) 0 (told 1) at_first ≡ refuses BadArgument)
     -- so many objects as an item says, and one under them: with too few of them, with a count below 0, with one among them
     -- that is none, with none that is there under them, and as it should be
     × (counted (hello ∷ int (pos 2) ∷ object (pos 7) ∷ object (pos 1) ∷ []) ≡ Some StackEmpty)
@@ -70,5 +70,5 @@ Rows =
     × (shared Fork (acting_at 4 1) None 0 (told 1) at_first ≡ refuses NotCompiled)
 
 pub rows : Rows
-unfolding Rows first_tune early_board told_player tell_player object_at number_in kind_in object_in room_zero player_one first_objects is_near level_fault is_there near_fault first_fault shared
+unfolding Rows first_tune early_board told_player tell_player object_at number_in kind_in object_in room_zero player_one first_objects is_near level_fault is_number_there near_fault first_fault shared
 rows = (refl, refl, refl, refl, refl, refl, refl, refl, refl, refl, refl, refl, refl, refl, refl, refl)

@@ -11,7 +11,7 @@ use Rattle.spec_rights.specs.Verdict.{is_near}
 use Rattle.muf_model.specs.declared.fault.MufFault.TheVariants.{BadArgument, NoSuchObject, Denied}
 use Rattle.muf_model.specs.declared.prims.Primitive.TheVariants.{NotifyExclude, IsAwake, Online, ConCount, ConDbref, Descriptors, Descr, ConBoot}
 use Rattle.muf_model.specs.Datum.{Datum, int, text, object}
-use Rattle.spec_prims.specs.Asking.{level_fault, is_there, near_fault}
+use Rattle.spec_prims.specs.Asking.{level_fault, is_number_there, near_fault}
 use Rattle.spec_prims.specs.Row.{gives, refuses}
 use Rattle.spec_prims.specs.Shared.{first_fault, shared}
 use Rattle.spec_prims.specs.inner.Rows.{at_first, acting_at}
@@ -61,5 +61,5 @@ TalkRows =
     × (shared ConBoot (acting_at 3 1) None 0 (number 2 ∷ []) crowded ≡ refuses (Denied 1))
 
 pub talk_rows : TalkRows
-unfolding TalkRows tell_but told_others is_near first_tune early_board object_at number_in kind_in object_in room_zero player_one first_objects level_fault is_there near_fault first_fault shared
+unfolding TalkRows tell_but told_others is_near first_tune early_board object_at number_in kind_in object_in room_zero player_one first_objects level_fault is_number_there near_fault first_fault shared
 talk_rows = (refl, refl, refl, refl, refl, refl, refl, refl, refl, refl, refl, refl, refl, refl, refl, refl, refl, refl, refl, refl)

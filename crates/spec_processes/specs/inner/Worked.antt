@@ -10,13 +10,13 @@ use Rattle.muf_model.specs.declared.fault.MufFault.TheVariants.{StackEmpty, BadT
 use Rattle.muf_model.specs.declared.prims.Primitive.TheVariants.{Call, Sleep, Read, Kill, SetMode, Foreground, EventSend, EventWait, EventCount, Caller}
 use Rattle.muf_model.specs.Prims.{primitives, named_in_any_case}
 use Rattle.muf_model.specs.Datum.{Datum, int, text, object}
-use Rattle.spec_prims.specs.Asking.{level_fault, is_there, near_fault}
+use Rattle.spec_prims.specs.Asking.{level_fault, is_number_there, near_fault}
 use Rattle.spec_prims.specs.inner.Rows.{at_first, acting_at}
 use Rattle.muck_queue.specs.declared.mode.Mode.{Mode}
 use Rattle.muck_queue.specs.declared.mode.Mode.TheVariants as mode
 use Rattle.muck_queue.specs.declared.mode.Wait.TheVariants.{Nothing, ForLine, ForEvent}
 use Rattle.muck_queue.specs.declared.process.Process.{Process}
-use Rattle.muck_queue.specs.Queues.{Queue, on_process, without, resting, sleeping, in_mode, told_event, without_event}
+use Rattle.muck_queue.specs.Queues.{Queue, on_process, without_process, resting, sleeping, process_in_mode, told_event, without_event}
 use Rattle.spec_processes.specs.declared.place.Place.{Place}
 use Rattle.spec_processes.specs.ProcessRows.{Effect, gives, waits, refuses, event_data, processed}
 
@@ -74,8 +74,8 @@ unfoldable pub WorkedRows : Type 0
 WorkedRows =
     -- KILL by its rule, and of one that isn't there
     (processed Kill (place_of 1) (acting_at 3 1) 0 (number 2 ∷ []) at_first both ≡ refuses (Denied 23))
-    × (processed Kill (place_of 1) (acting_at 4 1) 0 (number 2 ∷ []) at_first both ≡ gives (number 1 ∷ []) at_first (without (pos 2) both))
-    × (processed Kill (place_of 1) (acting_at 3 7) 0 (number 1 ∷ []) at_first both ≡ gives (number 1 ∷ []) at_first (without (pos 1) both))
+    × (processed Kill (place_of 1) (acting_at 4 1) 0 (number 2 ∷ []) at_first both ≡ gives (number 1 ∷ []) at_first (without_process (pos 2) both))
+    × (processed Kill (place_of 1) (acting_at 3 7) 0 (number 1 ∷ []) at_first both ≡ gives (number 1 ∷ []) at_first (without_process (pos 1) both))
     × (processed Kill (place_of 1) (acting_at 3 1) 0 (number 3 ∷ []) at_first both ≡ gives (number 0 ∷ []) at_first both)
     -- no sleep for less than no time
     × (processed Sleep (place_of 1) (acting_at 1 1) 0 (int (negsuc 0) ∷ []) at_first both ≡ refuses BadSleep)
@@ -87,11 +87,11 @@ WorkedRows =
     × (processed SetMode (place_of 1) (acting_at 1 1) 0 (number 3 ∷ []) at_first both ≡ refuses BadArgument)
     × (processed SetMode (place_of 2) (acting_at 1 1) 0 (number 1 ∷ []) at_first both ≡ refuses BadArgument)
     × (processed Foreground (place_of 2) (acting_at 1 1) 0 [] at_first both ≡ refuses BadArgument)
-    × (processed SetMode (place_of 2) (acting_at 1 1) 0 (number 0 ∷ []) at_first both ≡ gives [] at_first (on_process (pos 2) (in_mode mode.Preempt) both))
+    × (processed SetMode (place_of 2) (acting_at 1 1) 0 (number 0 ∷ []) at_first both ≡ gives [] at_first (on_process (pos 2) (process_in_mode mode.Preempt) both))
     -- the modes by their names and numbers
-    × (mode_told (using (codes "PREEMPT") [] at_first both) ≡ gives (number 0 ∷ []) at_first (on_process (pos 1) (in_mode mode.Preempt) both))
-    × (mode_told (using (codes "FOREGROUND") [] at_first both) ≡ gives (number 1 ∷ []) at_first (on_process (pos 1) (in_mode mode.Foreground) both))
-    × (mode_told (using (codes "BACKGROUND") [] at_first both) ≡ gives (number 2 ∷ []) at_first (on_process (pos 1) (in_mode mode.Background) both))
+    × (mode_told (using (codes "PREEMPT") [] at_first both) ≡ gives (number 0 ∷ []) at_first (on_process (pos 1) (process_in_mode mode.Preempt) both))
+    × (mode_told (using (codes "FOREGROUND") [] at_first both) ≡ gives (number 1 ∷ []) at_first (on_process (pos 1) (process_in_mode mode.Foreground) both))
+    × (mode_told (using (codes "BACKGROUND") [] at_first both) ≡ gives (number 2 ∷ []) at_first (on_process (pos 1) (process_in_mode mode.Background) both))
     × (using (codes "SETMODE") (number 2 ∷ []) at_first both ≡ using (codes "BACKGROUND") [] at_first both)
     × (using (codes "SETMODE") (number 1 ∷ []) at_first both ≡ using (codes "FOREGROUND") [] at_first both)
     × (using (codes "SETMODE") (number 0 ∷ []) at_first both ≡ using (codes "PREEMPT") [] at_first both)
@@ -111,5 +111,5 @@ WorkedRows =
     × (processed Caller (place_of 1) (acting_at 1 1) 0 [] at_first both ≡ gives (object (pos 0) ∷ []) at_first both)
 
 pub worked_rows : WorkedRows
-unfolding WorkedRows owner_at first_tune early_board object_at number_in kind_in object_in room_zero player_one first_objects level_fault is_there near_fault processed primitives named_in_any_case on_process
+unfolding WorkedRows owner_at first_tune early_board object_at number_in kind_in object_in room_zero player_one first_objects level_fault is_number_there near_fault processed primitives named_in_any_case on_process
 worked_rows = (refl, refl, refl, refl, refl, refl, refl, refl, refl, refl, refl, refl, refl, refl, refl, refl, refl, refl, refl, refl, refl, refl, refl, refl, refl, refl, refl)

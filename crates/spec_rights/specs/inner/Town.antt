@@ -6,21 +6,21 @@ use Rattle.muck_prop.specs.declared.value.PropValue.TheVariants.{Number}
 use Rattle.spec_live.specs.declared.object.Object.{Object}
 use Rattle.spec_live.specs.declared.saving.Saving.TheVariants.{Done}
 use Rattle.spec_live.specs.Flags.{builder, chown, haven, jump, link, quell, setuid, wizard}
-use Rattle.spec_live.specs.Objects.{Entry, dbref_of, plain}
+use Rattle.spec_live.specs.Objects.{Entry, dbref_of, bare_object}
 use Rattle.spec_live.specs.Setting.{with_prop}
 use Rattle.spec_live.specs.Start.{room_zero, player_one}
 use Rattle.spec_rights.specs.declared.act.Actor.{Actor}
 
 -- what has that owner and place, those flags and that level
 abbrev pub made : Kind → ℕ → ℕ → ℕ → ℕ → Object
-made kind owner place flags level = record (plain kind (codes "it") (dbref_of owner)) { place = dbref_of place; flags = record { 0 = flags }; level = level }
+made kind owner place flags level = record (bare_object kind (codes "it") (dbref_of owner)) { place = dbref_of place; flags = record { 0 = flags }; level = level }
 
 -- with a number for a lock, which opens for nobody
 abbrev pub shut : Object → Object
 shut o = with_prop (codes "_" ∷ codes "lok" ∷ []) (Number (pos 3)) o
 
 abbrev pub holding : List ℕ → Object → Entry
-holding contents o = record { object = o; contents = contents; exits = []; mark = None; saving = Done }
+holding contents o = record { object = o; contents = contents; exits = []; mark = None; saving = Done; stood = None }
 
 -- Two `#2` is in Room Zero, has B and level 2, and carries ball `#6` and program `#8`, with L. Three `#3` has neither flag nor
 -- level; he is in Den `#4`, with J, and the cup `#11` of Two with him. Hall `#5` has L, and lamp `#7`, in Room Zero, C. His program

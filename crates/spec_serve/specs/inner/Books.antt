@@ -3,7 +3,7 @@ use Rattle.std.specs.Prelude.{◌≡◌, ℕ, List, [], ◌∷◌, ◌++◌, Opt
 use mathlib.Core.Option.{some}
 use lib.ListN.{get_elem?}
 use Rattle.muck_links.specs.Keyed.{latest}
-use Rattle.muck_links.specs.Sessions.{Session, Told, number_of, accepted}
+use Rattle.muck_links.specs.Sessions.{Session, LinksTold, session_number, accepted}
 use Rattle.muck_model.specs.declared.event.Entry.{Entry}
 use Rattle.spec_events.specs.World.{World}
 use Rattle.spec_talks.specs.Parties.{worlds_at, is_halt}
@@ -14,7 +14,7 @@ use Rattle.spec_serve.specs.Accounts.{Agrees, WorkedOff}
 use Rattle.spec_serve.specs.Promises.{Tally, HaltsCaused}
 use Rattle.spec_serve.specs.inner.Keeping.{Peer, Keeps}
 
-abbrev pub with_told : Told → Tally → Tally
+abbrev pub with_told : LinksTold → Tally → Tally
 with_told told k = record k { told = told }
 
 -- an acceptance that has no entry Opened yet
@@ -31,7 +31,7 @@ pub record Books (counted : LinksNote) (b : Tally) (ts : List Talk) (hs : List W
   pub waits : Waits coming extra
   pub agree : All2 (Agrees counted) ts mine
   pub kept : (i : ℕ) (p : Peer) → get_elem? peers i ≡ some p
-      → (t : Talk) × (s : Session) × (latest talk_of p.number ts ≡ Some t) × (latest number_of p.number mine ≡ Some s) × Keeps counted p t s
+      → (t : Talk) × (s : Session) × (latest talk_of p.number ts ≡ Some t) × (latest session_number p.number mine ≡ Some s) × Keeps counted p t s
   pub apart : (i j : ℕ) (p q : Peer) → get_elem? peers i ≡ some p → get_elem? peers j ≡ some q → p.number ≡ q.number → i ≡ j
   pub away : (d : ℕ) → coming ≡ Some d → (i : ℕ) (p : Peer) → get_elem? peers i ≡ some p → ¬ (p.number ≡ d)
   pub known : (d : ℕ) (t : Talk) → latest talk_of d ts ≡ Some t → t.closed ≡ None → (i : ℕ) × (p : Peer) × (get_elem? peers i ≡ some p) × (p.number ≡ d)

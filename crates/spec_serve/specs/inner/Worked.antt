@@ -3,7 +3,7 @@ use Rattle.std.proofs.Common.{lit≤, arith, subst, sym}
 use Rattle.std.specs.Prelude.{◌≡◌, ℕ, ◌+◌, ◌≤◌, Bool, true, false, List, [], ◌∷◌, ◌++◌, codes, refl, Some, None}
 use Rattle.muck_links.specs.Lines.{lines, line_most}
 use Rattle.muck_links.specs.Sessions.{Session, accepted}
-use Rattle.spec_talks.specs.Talks.{Talk, begun}
+use Rattle.spec_talks.specs.Talks.{Talk, talk_begun}
 use Rattle.spec_talks.specs.Counts.{counts}
 use Rattle.spec_serve.specs.Pairs.{All2}
 use Rattle.spec_serve.specs.Marks.{noted, IsCountOf, AreCountsOf}
@@ -11,7 +11,7 @@ use Rattle.spec_serve.specs.Accounts.{Agrees}
 
 -- two lines and a half were read and the first one was entered; ten bytes were taken, the last six at once, and seven written
 abbrev pub talk : Talk
-talk = record (begun 1) { entered = codes "WHO" ∷ []; sent = codes "Use: conne"; last = 6 }
+talk = record (talk_begun 1) { entered = codes "WHO" ∷ []; sent = codes "Use: conne"; last = 6 }
 
 abbrev pub link : Session
 link = record (accepted 1) { read = codes "WHO" ++ 13 ∷ 10 ∷ codes "say hi" ++ 10 ∷ codes "qu"; written = codes "Use: co"; refused = 2 }

@@ -3,17 +3,22 @@ use Rattle.std.specs.Prelude.{◌≡◌, true, false, map, List, [], ◌∷◌, 
 use Rattle.muck_model.specs.declared.event.Entry.{Entry}
 use Rattle.muck_model.specs.declared.event.Event.{Event}
 use Rattle.muck_model.specs.declared.event.Event.TheVariants.{Opened, Input, Closed, Take, Moment, Halt, Idle}
-use Rattle.spec_live.specs.Output.{lines_bytes, bytes_of, sent_lines, queue_most, line_sent, lines_sent, taken, lines_taken}
-use Rattle.spec_live.specs.Output.{sent as sent_text}
-use Rattle.spec_live.specs.Boards.{first_tune, early_board, opened, closed, line_added, bytes_taken}
-use Rattle.spec_live.specs.Lives.{followed, reading, unchanged}
-use Rattle.spec_commands.specs.Talk.{welcome, parted, gone_away}
+use Rattle.spec_live.specs.Output.{sent_lines_bytes, bytes_of, sent_lines, queue_most, line_sent, lines_sent, output_taken, lines_taken}
+use Rattle.spec_live.specs.Output.{text_sent as sent_text}
+use Rattle.spec_live.specs.Objects.{object_in}
+use Rattle.spec_live.specs.Stood.{stands_in, stilled}
+use Rattle.spec_live.specs.Start.{first_objects, room_zero, player_one}
+use Rattle.spec_live.specs.Boards.{first_tune, early_board, connection_opened, connection_closed, line_added, bytes_taken}
+use Rattle.spec_live.specs.Lives.{change_followed, reading, unchanged}
+use Rattle.spec_commands.specs.Talk.{welcome, player_parted, gone_away}
 use Rattle.muck_queue.specs.Queues.{ended_tied}
-use Rattle.spec_events.specs.World.{booted, starting}
+use Rattle.spec_hooks.specs.Causes.{causes}
+use Rattle.spec_events.specs.World.{world_booted, starting_world}
+use Rattle.spec_events.specs.Hooked.{hooked, started_all}
 use Rattle.spec_events.specs.Steps.{effect}
 use Rattle.spec_events.specs.Histories.{by_porter}
 use Rattle.spec_talks.specs.Parties.{own_entries, worlds_at, is_halt}
-use Rattle.spec_talks.specs.Talks.{Talk, talks, sent, is_talking}
+use Rattle.spec_talks.specs.Talks.{Talk, talks, bytes_sent, is_talking}
 
 -- what the porter does
 abbrev pub porter : List Event → List Entry
@@ -26,7 +31,7 @@ story = porter (
     ∷ Closed 1 ∷ Opened 1 ∷ Take 1 4 ∷ Take 2 6 ∷ [])
 
 abbrev pub told : List Talk
-told = talks starting story
+told = talks starting_world story
 
 -- another party comes between, and then the porter halts
 abbrev pub among : List Entry
@@ -39,18 +44,18 @@ WorkedRows =
     × (map (λ t. t.entered) told ≡ [] ∷ [] ∷ (codes "WHO" ∷ codes "QUIT" ∷ []) ∷ [])
     × (map (λ t. t.last) told ≡ 4 ∷ 6 ∷ 2 ∷ [])
     -- what was taken belongs to the opening before it
-    × (sent starting story 1 0 ≡ codes "Use: co")
-    × (sent starting story 1 1 ≡ codes "Use:")
-    × (sent starting story 1 2 ≡ [])
-    × (sent starting story 2 0 ≡ codes "Use: c")
+    × (bytes_sent starting_world story 1 0 ≡ codes "Use: co")
+    × (bytes_sent starting_world story 1 1 ≡ codes "Use:")
+    × (bytes_sent starting_world story 1 2 ≡ [])
+    × (bytes_sent starting_world story 2 0 ≡ codes "Use: c")
     -- whether it is open
     × (is_talking 1 told ≡ true)
-    × (is_talking 1 (talks starting (take 7 story)) ≡ false)
+    × (is_talking 1 (talks starting_world (take 7 story)) ≡ false)
     × (is_talking 3 told ≡ false)
     -- whose an entry is, and when the run was stopped
     × (own_entries 0 among ≡ by_porter (Moment 1) ∷ by_porter Halt ∷ [])
-    × (map (λ w. w.moment) (worlds_at is_halt starting among) ≡ 1 ∷ [])
+    × (map (λ w. w.moment) (worlds_at is_halt starting_world among) ≡ 1 ∷ [])
 
 pub worked_rows : WorkedRows
-unfolding WorkedRows talks lines_bytes bytes_of sent_lines queue_most line_sent lines_sent taken lines_taken sent_text first_tune early_board opened closed line_added bytes_taken followed reading unchanged welcome parted gone_away ended_tied booted starting effect
+unfolding WorkedRows talks sent_lines_bytes bytes_of sent_lines queue_most line_sent lines_sent output_taken lines_taken sent_text first_tune early_board connection_opened connection_closed line_added bytes_taken change_followed reading unchanged welcome player_parted gone_away ended_tied world_booted starting_world effect hooked started_all causes stands_in stilled object_in first_objects room_zero player_one
 worked_rows = (refl, refl, refl, refl, refl, refl, refl, refl, refl, refl, refl, refl)

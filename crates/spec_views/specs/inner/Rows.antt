@@ -8,7 +8,7 @@ use Rattle.muf_model.specs.declared.code.Word.TheVariants.{Literal, Variable, Pr
 use Rattle.muf_model.specs.declared.prims.Primitive.TheVariants.{Pop, Add, IntToStr, Fetch, Swap, Notify}
 use Rattle.muf_model.specs.Tree.{Block, stop, word, Tree}
 use Rattle.muf_debug.specs.declared.view.View.{View}
-use Rattle.muf_debug.specs.Shown.{told_all}
+use Rattle.muf_debug.specs.Shown.{views_told}
 use Rattle.spec_events.specs.World.{World}
 use Rattle.spec_events.specs.Slices.{sliced}
 use Rattle.spec_events.specs.inner.Rows.{running, running_of, bounded, short, sevens, words, two_numbers}
@@ -17,11 +17,11 @@ use Rattle.spec_views.specs.Showing.{tracer_behind}
 
 -- what is kept of views while trace is on
 abbrev pub traced : List View → List (List ℕ)
-traced vs = (told_all vs (tracer_behind [] true [])).kept
+traced vs = (views_told vs (tracer_behind [] true [])).kept
 
 -- and while a break stands at this line of the program `#3`
 abbrev pub broken : ℕ → List View → List (List ℕ)
-broken line vs = (told_all vs (tracer_behind [] false (record { program = dbref_of 3; line = line } ∷ []))).kept
+broken line vs = (views_told vs (tracer_behind [] false (record { program = dbref_of 3; line = line } ∷ []))).kept
 
 -- these words on a line
 abbrev pub on_line : ℕ → List Word → Block → Block

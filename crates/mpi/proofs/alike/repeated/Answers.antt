@@ -2,11 +2,11 @@ use Rattle.std.proofs.Common.{rules, arith, refl, sym, subst, ap, ◌∙◌, ◌
 use Rattle.std.proofs.Math.Seq.{drop-cons}
 use Rattle.std.proofs.lemmas.Bool.{ne_eqb}
 use Rattle.std.proofs.lemmas.List.{length-drop}
+use Rattle.muck_laws.proofs.Lists.{no_items}
 use Rattle.muck_model.specs.Bytes.{text_fault}
 use Rattle.mpi.specs.Hosting.{Means}
 use Rattle.mpi.specs.Made.{is_long, text_or_long}
 use Rattle.mpi.proofs.AlikeItems.{texts_behind, texts_begin, texts_end, texts_next, texts_other, next_fails, next_fits}
-use Rattle.mpi.proofs.Spelling.{no_bytes}
 use Rattle.mpi.proofs.alike.repeated.Goals.{then-byte-eq13+in_ok-bytes-2, else-byte-eq13}
 use Rattle.mpi.proofs.alike.repeated.Goals as goal
 
@@ -62,5 +62,5 @@ loop-byte-preserved c =
 pub returns : goal.returns
 returns c =
     let l = c.loop-byte in
-    let none : drop l.byte-index c.args.list.now ≡ [] = no_bytes _ (omega (arith, length-drop l.byte-index c.args.list.now, c.loop-byte-test.false)) in
+    let none : drop l.byte-index c.args.list.now ≡ [] = no_items _ (omega (arith, length-drop l.byte-index c.args.list.now, c.loop-byte-test.false)) in
     l.invariant.0 ∙ texts_end c.args.text.now l.bytes.items _ none ∙ ap Ok (sym c.of_text_vec.ensures)

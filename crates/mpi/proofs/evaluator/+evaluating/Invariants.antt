@@ -1,10 +1,10 @@
 use Rattle.std.proofs.Common.{◌≡◌, ◌+◌, ◌-◌, ◌*◌, ◌≤◌, suc, [], length, map, drop}
 use Rattle.std.specs.Prelude.{None, Some, option_map, IfSome}
 use Rattle.muck_model.specs.Bytes.{text_fault, text_most}
-use Rattle.mpi.specs.Brackets.{pieces}
+use Rattle.mpi.specs.Brackets.{formula_pieces}
 use Rattle.mpi.specs.Made.{Inside}
 use Rattle.mpi.specs.Values.{nth, items}
-use Rattle.mpi.specs.Meaning.{scene_of, meaning, entered, spelled, each_value, until, while_true, turns_while, turns_for, each_item}
+use Rattle.mpi.specs.Meaning.{scene_of, meaning, body_entered, spelled, each_value, until_wanted, while_true, turns_while, turns_for, each_item}
 use Rattle.mpi.proofs.evaluator.+evaluating.Given as goal
 
 abbrev pub decreases-text : goal.decreases-text
@@ -51,7 +51,7 @@ abbrev pub invariant-text-loop-first : goal.invariant-text-loop-first
 invariant-text-loop-first g l = record {
   whole :
       meaning (scene_of g.H.Host.powers l.place.this) l.nesting l.text (l.initial.mind, g.H.Host.seen l.initial.host)
-      ≡ spelled (entered (scene_of g.H.Host.powers l.place.this) l.nesting) l.out.items (pieces l.rest) (l.mind, g.H.Host.seen l.host);
+      ≡ spelled (body_entered (scene_of g.H.Host.powers l.place.this) l.nesting) l.out.items (formula_pieces l.rest) (l.mind, g.H.Host.seen l.host);
   inside : Inside l.out.items;
   short : length l.out.items ≤ text_most;
   rest : text_fault l.rest ≡ None;
@@ -71,8 +71,8 @@ invariant-values_of-loop-each g l = record {
 abbrev pub invariant-until-loop-each : goal.invariant-until-loop-each
 invariant-until-loop-each g l = record {
   whole :
-      until l.wanted (meaning (scene_of g.H.Host.powers l.place.this) l.deeper) (map (λ x. x.now) l.texts) (l.initial.mind, g.H.Host.seen l.initial.host)
-      ≡ until l.wanted (meaning (scene_of g.H.Host.powers l.place.this) l.deeper) (drop l.each-index (map (λ x. x.now) l.texts)) (l.mind, g.H.Host.seen l.host);
+      until_wanted l.wanted (meaning (scene_of g.H.Host.powers l.place.this) l.deeper) (map (λ x. x.now) l.texts) (l.initial.mind, g.H.Host.seen l.initial.host)
+      ≡ until_wanted l.wanted (meaning (scene_of g.H.Host.powers l.place.this) l.deeper) (drop l.each-index (map (λ x. x.now) l.texts)) (l.mind, g.H.Host.seen l.host);
   same : g.H.Host.same l.initial.host l.host;
 }
 

@@ -1,8 +1,8 @@
 use Rattle.std.proofs.Common.{arith, sym, subst, ◌≡◌, true, map}
 use Rattle.std.specs.List.{list_all}
+use Rattle.muck_laws.proofs.Mapped.{taken}
+use Rattle.muck_laws.proofs.Tests.{all_take}
 use Rattle.mpi.specs.Made.{is_text}
-use Rattle.mpi.proofs.Mapped.{taken}
-use Rattle.mpi.proofs.Inside.{all_take}
 use Rattle.mpi.proofs.evaluator.texts_before.Goals as goal
 
 pub returns-clause-value : goal.returns-clause-value

@@ -1,7 +1,7 @@
 use Rattle.std.proofs.Common.{arith, sym, ap, ◌∙◌, [], ◌∷◌, ◌++◌, get_or, map}
 use Rattle.std.proofs.Common.{append_assoc}
 use Rattle.std.proofs.lemmas.List.{length-map, get_or-map}
-use Rattle.mpi.proofs.Joins.{join_more, join_first}
+use Rattle.muck_laws.proofs.Texts.{join_first, join_more}
 use Rattle.mpi.proofs.lists.listed.Goals.{then-at-gt0+in_ok-push, else-at-gt0}
 use Rattle.mpi.proofs.lists.listed.Goals as goal
 

@@ -1,8 +1,8 @@
 use Rattle.std.proofs.Common.{arith, refl, sym, subst, ap, ◌∙◌, [], ◌∷◌, ◌++◌}
 use Rattle.std.proofs.Common.{append_assoc}
+use Rattle.muck_laws.proofs.Texts.{join_first, join_more}
 use Rattle.mpi.specs.Made.{Inside}
 use Rattle.mpi.proofs.Inside.{inside_more, text_inside}
-use Rattle.mpi.proofs.Joins.{join_more, join_first}
 use Rattle.mpi.proofs.rows.list_of.Goals.{then-at-gt0+in_ok-push, else-at-gt0}
 use Rattle.mpi.proofs.rows.list_of.Goals as goal
 

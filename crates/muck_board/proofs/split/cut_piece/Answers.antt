@@ -1,4 +1,4 @@
-use Rattle.muck_board.proofs.Splits.{piece_ends, piece_last}
+use Rattle.muck_laws.proofs.Texts.{piece_ends, piece_last}
 use Rattle.muck_board.proofs.split.cut_piece.Goals as goal
 
 pub returns-in-Some-clause-pieces : goal.returns-in-Some-clause-pieces

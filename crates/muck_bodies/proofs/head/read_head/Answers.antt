@@ -1,5 +1,5 @@
 use Rattle.std.proofs.Common.{◌≡◌, ◌∙◌, ◌-◌, length, drop, arith, length-drop}
-use Rattle.muck_bodies.proofs.Heads.{front_of}
+use Rattle.muck_laws.proofs.Parts.{front_of}
 use Rattle.muck_bodies.proofs.head.read_head.Goals as goal
 
 pub returns-clause-head : goal.returns-clause-head

@@ -1,7 +1,7 @@
 use Rattle.std.proofs.Common.{◌∙◌, ◌+◌, ◌≤◌, take, drop, sym, ap, arith}
 use Rattle.std.proofs.lemmas.List.{drop-drop}
+use Rattle.muck_laws.proofs.Parts.{part_more}
 use Rattle.muck_log.proofs.Mounting.{quiet, quiet_too}
-use Rattle.muck_bodies.proofs.Heads.{part_more}
 use Rattle.muck_bodies.proofs.walk.read_part.Goals as goal
 
 pub loop-got-preserved : goal.loop-got-preserved

@@ -1,4 +1,4 @@
-use Rattle.std.proofs.Common.{◌≤◌, sym, ◌∙◌, ap, length, arith}
+use Rattle.std.proofs.Common.{◌≤◌, ◌∙◌, ap, length, arith}
 use Rattle.std.proofs.lemmas.List.{length-take}
 use Rattle.std.proofs.lemmas.List.Elements.{All-same}
 use Rattle.muck_model.specs.Bytes.{text_most, lines_most}

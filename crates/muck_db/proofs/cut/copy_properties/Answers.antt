@@ -2,7 +2,7 @@ use Rattle.std.proofs.Common.{◌≡◌, ◌++◌, ◌∙◌, ap, rules, List, m
 use Rattle.std.proofs.lemmas.List.Elements.{All-nil, All-same}
 use Rattle.std.specs.FinMap.{entries}
 use Rattle.std.specs.Vec.Iter.{into_iter_items}
-use Rattle.muck_prop.specs.Store.{behind}
+use Rattle.muck_prop.specs.Store.{path_behind}
 use Rattle.muck_prop.specs.declared.props.Listed.{Listed}
 use Rattle.muck_codec.specs.declared.stored.Property.{Property}
 use Rattle.muck_db.specs.inner.Kept.{MayHold, property_at}
@@ -12,7 +12,7 @@ use Rattle.muck_db.proofs.cut.copy_properties.Goals as goal
 pub loop-listed-init : goal.loop-listed-init
 loop-listed-init c = record {
   whole =
-      let items : into_iter_items c.into_iter-listed-iterator.result ≡ map (behind 0) (entries c.args.props.now) = search rules in
+      let items : into_iter_items c.into_iter-listed-iterator.result ≡ map (path_behind 0) (entries c.args.props.now) = search rules in
       ap (λ (list : List Property). list ++ map property_at (into_iter_items c.into_iter-listed-iterator.result)) c.in_ok-list.ensures.items
       ∙ ap (λ (all : List Listed). map property_at all) items
       ∙ all_stored c.args.props.now;

@@ -1,5 +1,6 @@
 use Rattle.std.proofs.Common.{sym, ◌∙◌, ap, Some}
-use Rattle.spec_live.proofs.Chains.{ends_within, ends_next, walk_shorter, member_next, member_later, member_here, member_none, leads_true, leads_false}
+use Rattle.muck_laws.proofs.Found.{leads_false, leads_true}
+use Rattle.spec_live.proofs.Chains.{ends_within, ends_next, walk_shorter, member_next, member_later, member_here, member_none}
 use Rattle.muck_db.proofs.links.before.Goals as goal
 
 pub next_of-next-requires : goal.next_of-next-requires

@@ -1,6 +1,6 @@
 use Rattle.std.proofs.Common.{sym, ◌∙◌}
+use Rattle.muck_laws.proofs.Found.{leads_false, leads_true}
 use Rattle.muck_db.specs.inner.Slots.{list_at}
-use Rattle.spec_live.proofs.Chains.{leads_true, leads_false}
 use Rattle.muck_db.proofs.Linked.{member_below, unlinked_first, unlinked_later}
 use Rattle.muck_db.proofs.links.unlink.Goals as goal
 

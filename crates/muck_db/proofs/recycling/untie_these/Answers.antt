@@ -1,11 +1,7 @@
-use Rattle.std.proofs.Common.{◌≡◌, ℕ, ◌<◌, List, [], ◌∷◌, length, refl, arith}
 use Rattle.std.proofs.lemmas.Bool.{false≢true}
+use Rattle.muck_laws.proofs.Lists.{none_left}
 use Rattle.muck_db.proofs.Tying.{unties_none, unties_more, unties_all}
 use Rattle.muck_db.proofs.recycling.untie_these.Goals as goal
-
-none_left : (xs : List ℕ) → (0 < length xs → ⊥) → xs ≡ []
-none_left [] h = refl
-none_left (x ∷ xs) h = absurd (h (omega arith))
 
 pub loop-k-init : goal.loop-k-init
 loop-k-init c = unties_none c.args.d c.args.slots.now.items _ c.requires.noted

@@ -4,7 +4,7 @@ use Rattle.muck_model.specs.Bytes.{text_fault}
 use Rattle.muck_model.proofs.Texts.{number_is_text}
 use Rattle.muck_db.proofs.seen.number_text.Goals as goal
 
-pub of_text-requires : goal.of_text-requires
-of_text-requires c =
+pub returns-clause-text : goal.returns-clause-text
+returns-clause-text c =
     let same : c.as_bytes.result.now ≡ signed_decimal c.args.number = search rules in
     subst (λ bs. text_fault bs ≡ None) (sym same) (number_is_text c.args.number (omega (arith, c.ranges.number.sfits)))

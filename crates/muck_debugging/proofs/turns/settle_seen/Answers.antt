@@ -1,5 +1,5 @@
 use Rattle.std.proofs.Common.{sym, ◌∙◌}
-use Rattle.muck_script.proofs.Taking.{on_error}
+use Rattle.muck_laws.proofs.Results.{on_error}
 use Rattle.muck_script.proofs.Stories.{way_begins, way_goes_on, way_ends, way_over, way_dies}
 use Rattle.muck_debugging.proofs.Watched.{told_begins, told_on, told_ends, told_over}
 use Rattle.muck_debugging.proofs.turns.settle_seen.Goals as goal

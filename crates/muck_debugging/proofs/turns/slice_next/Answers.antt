@@ -1,10 +1,10 @@
 use Rattle.std.proofs.Common.{◌≡◌, ℤ, cond, sym, ◌∙◌, ap, to_z, of_z, w32, rules}
 use Rattle.std.specs.Prelude.{is_some}
-use Rattle.spec_events.specs.Steps.{has_claim, is_there}
+use Rattle.spec_events.specs.Steps.{has_claim, is_process_there}
 use Rattle.spec_events.specs.Histories.{now, entered, by_porter}
-use Rattle.muck_machine.specs.inner.Claims.{slice_event}
-use Rattle.muck_machine.specs.declared.world.Sliced.{Sliced}
-use Rattle.muck_machine.specs.declared.world.Sliced.TheVariants.{Ran, Lost}
+use Rattle.muck_script.specs.inner.Claims.{slice_event}
+use Rattle.muck_script.specs.declared.Sliced.{Sliced}
+use Rattle.muck_script.specs.declared.Sliced.TheVariants.{Ran, Lost}
 use Rattle.muck_script.proofs.Taking.{no_slice, may_slice, sliced}
 use Rattle.spec_views.specs.Views.{views_of}
 use Rattle.muck_debugging.proofs.Watched.{sees_as, sees_none, nothing_sliced, views_sliced}
@@ -30,7 +30,7 @@ returns-in_ok-slice_seen-in-Some-clause-world g c =
     let read : to_z w32 (of_z w32 c.in-Some.pid) ≡ c.in-Some.pid = search rules in
     let how : Sliced = c.in_ok-slice_seen-in-Some.field-0 in
     sliced c.args.world.now c.claim.new.self c.slice_seen.new.self c.in-Some.pid how (sym c.in-Some.ensures.found) c.in-Some.ensures.step
-    (c.in_ok-slice_seen-in-Some.ensures.ran ∙ ap (λ (pid : ℤ). cond (is_there pid (now c.claim.new.self)) Ran Lost) read)
+    (c.in_ok-slice_seen-in-Some.ensures.ran ∙ ap (λ (pid : ℤ). cond (is_process_there pid (now c.claim.new.self)) Ran Lost) read)
     (c.in_ok-slice_seen-in-Some.ensures.step ∙ ap (λ (pid : ℤ). entered c.claim.new.self (by_porter (slice_event pid how))) read)
 
 pub returns-in-None-clause-seen : goal.returns-in-None-clause-seen

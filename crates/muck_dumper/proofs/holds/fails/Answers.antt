@@ -1,11 +1,11 @@
 use Rattle.std.proofs.Common.{ℕ, refl, sym, subst, Err}
 use Rattle.std.proofs.lemmas.Result.{err_from_is_err_and}
+use Rattle.muck_laws.proofs.Results.{on_ok}
 use Rattle.muck_log.specs.declared.fault.LogFault.TheVariants.{DiskFault}
 use Rattle.spec_events.specs.Own.{Stage}
 use Rattle.spec_dumps.specs.inner.Holding.{FailedLast}
-use Rattle.muck_machine.specs.inner.Seats.{Chair}
+use Rattle.muck_work.specs.inner.Seats.{Chair}
 use Rattle.muck_dumping.specs.inner.Between.{Knows, IsWritten}
-use Rattle.muck_dumping.proofs.Ending.{on_ok}
 use Rattle.muck_dumper.specs.inner.Dumping.{history_seen}
 use Rattle.muck_dumper.proofs.Making.{watches_after, stops_after}
 use Rattle.muck_dumper.proofs.holds.fails.Goals as goal

@@ -1,14 +1,14 @@
 use Rattle.std.proofs.Common.{refl, sym, ◌∙◌, arith, None, Ok, Err}
+use Rattle.muck_laws.proofs.Results.{if_err, on_ok}
 use Rattle.spec_events.specs.Own.{Stage}
 use Rattle.spec_dumps.specs.Fronts.{at_cut}
 use Rattle.spec_dumps.specs.inner.Holding.{Keeps}
 use Rattle.muck_dumping.specs.inner.Between.{IsPending, IsWritten}
 use Rattle.muck_dumping.proofs.AtOnce.{pending_mounted}
-use Rattle.muck_dumping.proofs.Ending.{on_ok}
 use Rattle.muck_dumping.proofs.Knowing.{knows_stored}
 use Rattle.muck_dumper.specs.inner.Dumping.{history_seen}
 use Rattle.muck_dumper.specs.inner.Steps.{Stops}
-use Rattle.muck_dumper.proofs.Making.{if_err, told_as, told_ends, told_written}
+use Rattle.muck_dumper.proofs.Making.{told_as, told_ends, told_written}
 use Rattle.muck_dumper.proofs.Ways.{stops_before, watches_stored, watches_before}
 use Rattle.muck_dumper.proofs.holds.makes.Goals as goal
 

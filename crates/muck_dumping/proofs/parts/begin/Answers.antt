@@ -1,4 +1,5 @@
 use Rattle.std.proofs.Common.{ap, ◌∙◌, sym, subst}
+use Rattle.muck_laws.proofs.Results.{all_ok, on_err}
 use Rattle.muck_model.specs.declared.event.Event.TheVariants.{Cut, Died}
 use Rattle.spec_events.specs.Steps.{is_lawful}
 use Rattle.spec_events.specs.Histories.{History, now, entered}
@@ -8,8 +9,7 @@ use Rattle.muck_dumping.specs.inner.Between.{GoesByMarks, next_number}
 use Rattle.muck_dumping.proofs.Steps.{cut_lawful, noted_lives}
 use Rattle.muck_dumping.proofs.Marks.{batch_at_cut}
 use Rattle.muck_dumping.proofs.Knowing.{next_mounted, next_unmounted}
-use Rattle.muck_dumping.proofs.Beginning.{died_noted, batch_noted, all_ok, pending_as}
-use Rattle.muck_dumping.proofs.Ending.{on_err}
+use Rattle.muck_dumping.proofs.Beginning.{died_noted, batch_noted, pending_as}
 use Rattle.muck_dumping.proofs.parts.begin.Goals as goal
 
 pub cut-requires-clause-alive : goal.cut-requires-clause-alive

@@ -1,13 +1,14 @@
 use Rattle.std.proofs.Common.{refl, ap, ◌∙◌, subst, true, false}
+use Rattle.muck_laws.proofs.Results.{on_err, on_ok}
+use Rattle.std.proofs.lemmas.Bool.{both_ways}
 use Rattle.muck_model.specs.declared.event.Event.TheVariants.{Stored, DumpFailed, Died}
 use Rattle.spec_events.specs.Steps.{is_lawful}
 use Rattle.spec_events.specs.Histories.{History, now, entered}
 use Rattle.spec_dumps.proofs.Cutting.{failed_last}
 use Rattle.muck_dumping.specs.inner.Dumps.{by}
 use Rattle.muck_dumping.specs.inner.Between.{EndsAs}
-use Rattle.muck_dumping.proofs.Marks.{both_ways}
 use Rattle.muck_dumping.proofs.Steps.{end_lawful}
-use Rattle.muck_dumping.proofs.Ending.{on_ok, on_err, ended_rests, ended_dead}
+use Rattle.muck_dumping.proofs.Ending.{ended_rests, ended_dead}
 use Rattle.muck_dumping.proofs.parts.end.Goals as goal
 
 pub stored-requires : goal.stored-requires

@@ -1,6 +1,7 @@
 use Rattle.std.proofs.Common.{refl, ◌∙◌, arith}
+use Rattle.muck_laws.proofs.Results.{on_error}
 use Rattle.muck_log.proofs.Mounting.{quiet_too}
-use Rattle.muck_follow.proofs.Replies.{line_done, line_cut_short, lines_done, stopped, on_error}
+use Rattle.muck_follow.proofs.Replies.{line_done, line_cut_short, lines_done, stopped}
 use Rattle.muck_follow.proofs.following.run.Goals as goal
 
 pub loop-act-preserved : goal.loop-act-preserved

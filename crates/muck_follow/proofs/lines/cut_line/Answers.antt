@@ -1,4 +1,5 @@
-use Rattle.muck_follow.proofs.Cuts.{line_cut, tail_is, tail_none}
+use Rattle.muck_laws.proofs.Parts.{tail_is, tail_none}
+use Rattle.muck_follow.proofs.Cuts.{line_cut}
 use Rattle.muck_follow.proofs.lines.cut_line.Goals as goal
 
 pub returns-in-Some-clause-lines : goal.returns-in-Some-clause-lines

@@ -1,5 +1,5 @@
 use Rattle.std.proofs.Common.{◌+◌, None, rules}
-use Rattle.muck_library.proofs.Kept.{filled_up}
+use Rattle.muck_laws.proofs.Walks.{filled_up}
 use Rattle.muck_library.proofs.library.make_place.Goals as goal
 
 pub returns-in_ok-resize_with-clause-filled : goal.returns-in_ok-resize_with-clause-filled

@@ -1,8 +1,9 @@
 -- Each step of the walk is one of the laws of walks.
 use Rattle.std.proofs.Common.{◌<◌, Bool, false, refl, sym, length, subst}
+use Rattle.muck_laws.proofs.Truths.{ends_from, goes_from}
 use Rattle.muck_model.specs.declared.dbref.Dbref.{Dbref}
 use Rattle.muck_lock.specs.inner.Chain.{same, nothing}
-use Rattle.muck_lock.proofs.Walks.{Walking, walk, begins, at_end, found, goes_on, walk-smaller, goes_from, ends_from}
+use Rattle.muck_lock.proofs.Walks.{Walking, walk, begins, at_end, found, goes_on, walk-smaller}
 use Rattle.muck_lock.proofs.keys.carries_any.Goals as goal
 
 pub loop-d-init : goal.loop-d-init

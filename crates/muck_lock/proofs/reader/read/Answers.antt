@@ -1,9 +1,9 @@
 -- The first step, and a text that ends where a term is wanted.
 use Rattle.std.proofs.Common.{length, sym, ◌∙◌, ap, arith}
+use Rattle.muck_laws.proofs.Numbers.{some_bytes}
 use Rattle.muck_lock.specs.Naming.{Naming, naming}
 use Rattle.muck_lock.specs.Grammar.{lock_of}
 use Rattle.muck_lock.specs.inner.Waiting.{outcome_at}
-use Rattle.muck_lock.proofs.Places.{some_bytes}
 use Rattle.muck_lock.proofs.Passing.{step_start, step_end}
 use Rattle.muck_lock.proofs.reader.read.Goals as goal
 

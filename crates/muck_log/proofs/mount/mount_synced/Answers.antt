@@ -1,11 +1,11 @@
 use Rattle.std.proofs.Common.{◌≡◌, List, ℕ, Bool, ◌∙◌, ap, subst}
-use Rattle.muck_log.specs.File.{Reading, gate_at, begin, run}
+use Rattle.muck_log.specs.File.{FileReading, gate_at, begin, run}
 use Rattle.muck_log.specs.Store.{pick}
 use Rattle.muck_log.specs.inner.Mount.{IsLoaded}
 use Rattle.muck_log.proofs.Mounting.{found, load_fault, still_only, quiet_too, mounted_load, mounted_empty}
 use Rattle.muck_log.proofs.mount.mount_synced.Goals as goal
 
-same_reads : (r : Reading) (at : Bool) (g : ℕ) (a b c d : List ℕ) → c ≡ a → d ≡ b → r ≡ run (gate_at 0 (begin g)) (pick at c d) → r ≡ run (gate_at 0 (begin g)) (pick at a b)
+same_reads : (r : FileReading) (at : Bool) (g : ℕ) (a b c d : List ℕ) → c ≡ a → d ≡ b → r ≡ run (gate_at 0 (begin g)) (pick at c d) → r ≡ run (gate_at 0 (begin g)) (pick at a b)
 same_reads r at g a b c d e f is = is ∙ ap (λ x. run (gate_at 0 (begin g)) (pick at x d)) e ∙ ap (λ y. run (gate_at 0 (begin g)) (pick at a y)) f
 
 pub returns-in-Damaged-clause-err : goal.returns-in-Damaged-clause-err

@@ -1,11 +1,8 @@
-use Rattle.std.proofs.Common.{◌≡◌, ◌≤◌, ◌++◌, ℕ, List, length, take, drop, sym, ◌∙◌, ap, arith, length-take, length-append}
-use Rattle.std.proofs.lemmas.List.{take-take, take-append-le}
+use Rattle.std.proofs.Common.{◌++◌, length, take, drop, sym, ◌∙◌, ap, arith, length-take, length-append}
+use Rattle.muck_laws.proofs.Parts.{back_front}
 use Rattle.muck_log.proofs.Mounting.{reached_start, first_so_far, more_so_far, whole_so_far, over_so_far}
 use Rattle.muck_log.proofs.mount.read_all.Goals as goal
 use Rattle.muck_log.proofs.mount.read_all.Goals.{then-loop-at-test+else-not-is_over, else-loop-at-test}
-
-back_front : (n len : ℕ) (p rest : List ℕ) → n ≤ length p → length p ≤ len → take n (take len (p ++ rest)) ≡ take n p
-back_front n len p rest le fits = take-take n len (p ++ rest) (omega arith) ∙ take-append-le n p rest le
 
 pub loop-at-init : goal.loop-at-init
 loop-at-init g c = record {

@@ -1,4 +1,4 @@
-use Rattle.muck_log.proofs.Sameness.{texts_same}
+use Rattle.muck_laws.proofs.Texts.{texts_same}
 use Rattle.muck_log.proofs.same.are_same_lines.Goals as goal
 
 pub returns : goal.returns

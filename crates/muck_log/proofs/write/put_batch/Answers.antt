@@ -1,11 +1,11 @@
 use Rattle.std.proofs.Common.{◌≡◌, ◌≤◌, ℕ, List, [], ◌∷◌, length, inl, sym, ◌∙◌, subst}
-use Rattle.muck_disk.specs.Images.{Torn, written}
+use Rattle.muck_disk.specs.Images.{Torn, bytes_written}
 use Rattle.muck_log.specs.Store.{MayBe}
 use Rattle.muck_log.proofs.Moments.{joined, weaker}
 use Rattle.muck_log.proofs.Writing.{IsClosed, closed_now, closing, may_from, done_from, shut_now}
 use Rattle.muck_log.proofs.write.put_batch.Goals as goal
 
-closed_at : (place : ℕ) (z closed : List ℕ) → place ≤ length z → closed ≡ written z place (0 ∷ []) → IsClosed place z closed
+closed_at : (place : ℕ) (z closed : List ℕ) → place ≤ length z → closed ≡ bytes_written z place (0 ∷ []) → IsClosed place z closed
 closed_at place z closed within is = subst (IsClosed place z) (sym is) (closed_now place z within)
 
 pub returns-in_err-write_synced-clause-any : goal.returns-in_err-write_synced-clause-any

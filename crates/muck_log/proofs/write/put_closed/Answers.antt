@@ -1,11 +1,11 @@
 use Rattle.std.proofs.Common.{◌≡◌, ◌≤◌, ◌+◌, ℕ, List, length, false, inl, sym, subst, arith}
-use Rattle.muck_disk.specs.Images.{Torn, written}
+use Rattle.muck_disk.specs.Images.{Torn, bytes_written}
 use Rattle.muck_log.specs.Store.{IsDone, MayBe, must_close}
 use Rattle.muck_log.proofs.Moments.{joined, weaker}
 use Rattle.muck_log.proofs.Writing.{IsStaged, closed_already, behind, staged, gate, done}
 use Rattle.muck_log.proofs.write.put_closed.Goals as goal
 
-staged_at : (place : ℕ) (tail z whole : List ℕ) → must_close place z ≡ false → whole ≡ written z (place + 1) tail → IsStaged place tail z whole
+staged_at : (place : ℕ) (tail z whole : List ℕ) → must_close place z ≡ false → whole ≡ bytes_written z (place + 1) tail → IsStaged place tail z whole
 staged_at place tail z whole shut is = subst (IsStaged place tail z) (sym is) (staged place tail z z (closed_already place z shut))
 
 first_torn : (place : ℕ) (tail z c : List ℕ) → must_close place z ≡ false → Torn (place + 1) (length tail) z c → MayBe place tail z c

@@ -1,10 +1,10 @@
 use Rattle.std.proofs.Common.{sym, ◌∙◌, ap, Some, arith}
-use Rattle.muck_match.specs.Exits.{first}
+use Rattle.muck_match.specs.Exits.{first_item}
 use Rattle.muck_match.proofs.Aliases.{hits_all, part_taken, part_passed, last_yes, last_no}
 use Rattle.muck_match.proofs.exits.hit_in.Goals as goal
 
 pub loop-end-init : goal.loop-end-init
-loop-end-init c = record { places = omega arith; hits = ap first (hits_all _ _ _ _) }
+loop-end-init c = record { places = omega arith; hits = ap first_item (hits_all _ _ _ _) }
 
 pub returns-then-takes : goal.returns-then-takes
 returns-then-takes c = part_taken _ _ _ _ _ _ _ _ _ (sym c.byte_at.ensures ∙ c.in-Some.is) c.split_at.ensures.front (sym c.takes.ensures ∙ c.if-takes.true) c.hit_of.ensures c.loop-end.invariant.hits

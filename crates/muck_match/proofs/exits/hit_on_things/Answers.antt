@@ -1,7 +1,7 @@
 use Rattle.std.proofs.Common.{sym, ◌∙◌, ap}
 use Rattle.std.specs.List.{flat_map, filter}
 use Rattle.muck_match.specs.Scenery.{things_in, sees, is_thing}
-use Rattle.muck_match.specs.Exits.{first, hits_on}
+use Rattle.muck_match.specs.Exits.{first_item, hits_on}
 use Rattle.muck_match.proofs.Lists.{chain_shorter, taken_of, passed_of, skipped, ended_of}
 use Rattle.muck_match.proofs.exits.hit_on_things.Goals as goal
 use Rattle.muck_match.proofs.exits.hit_on_things.Goals.{then-is_thing+in_default, else-is_thing}
@@ -9,7 +9,7 @@ use Rattle.muck_match.proofs.exits.hit_on_things.Goals.{then-is_thing+in_default
 pub loop-at-init : goal.loop-at-init
 unfolding things_in
 loop-at-init g c =
-    ap (λ t. first (flat_map (hits_on (g.S.Scene.shown c.args.scene.now) c.args.typed c.args.line.now) (filter (sees (λ s. is_thing s.kind) (g.S.Scene.shown c.args.scene.now)) t)))
+    ap (λ t. first_item (flat_map (hits_on (g.S.Scene.shown c.args.scene.now) c.args.typed c.args.line.now) (filter (sees (λ s. is_thing s.kind) (g.S.Scene.shown c.args.scene.now)) t)))
     (sym c.first_content-at.ensures)
 
 pub returns-in-Some : goal.returns-in-Some

@@ -1,8 +1,9 @@
 use Rattle.std.proofs.Common.{◌∙◌, ap}
 use Rattle.std.specs.Prelude.{slice_set}
+use Rattle.muck_laws.proofs.Places.{same_again}
 use Rattle.muck_mirror.specs.declared.world.Replaced.{Replaced}
 use Rattle.muck_mirror.specs.inner.Undoing.{undone}
-use Rattle.muck_mirror.proofs.Undoing.{replaced_back, same_again}
+use Rattle.muck_mirror.proofs.Undoing.{replaced_back}
 use Rattle.muck_mirror.proofs.world.exchange.Goals as goal
 
 pub returns-in-Ok-clause-back : goal.returns-in-Ok-clause-back

@@ -1,10 +1,11 @@
 use Rattle.std.proofs.Common.{◌≡◌, ◌⊎◌, Err, inl, inr, refl, sym, ap, subst, ◌∙◌}
-use Rattle.muck_run.proofs.Called.{either_since, err_is, holds_still}
+use Rattle.muck_laws.proofs.Results.{err_is}
+use Rattle.muck_run.proofs.Called.{either_since, holds_still}
 use Rattle.muck_run.proofs.Untouched.{untouched_on}
 use Rattle.muck_io.specs.Faults.{Rose}
 use Rattle.muck_why.specs.declared.why.Why.{Why}
 use Rattle.muck_why.specs.declared.why.Why.TheVariants.{WriteFault, DiskFault}
-use Rattle.muck_mirroring.specs.Mirroring.{HasRead, HasFollowed, MirrorDone}
+use Rattle.muck_mirroring.specs.Mirroring.{HasReadMirrorScript, HasFollowed, MirrorDone}
 use Rattle.muck_mirroring.specs.inner.Reading.{IsScriptWhy, why_of}
 use Rattle.muck_mirroring.proofs.Called.{unread_ends, ceased_ends, ceased_text, MayCease, may_cease, is_write, is_disk, completes, replies_before}
 use Rattle.muck_mirroring.proofs.mirroring.mirror.Goals as goal
@@ -44,7 +45,7 @@ returns-in-Ok-follow g c =
       done = record {
         ends = record {
           acts = c.as_slice.result.now;
-          read = subst (HasRead _ _ _ _) (sym c.as_slice.ensures) c.in-Ok-read_script.ensures.read;
+          read = subst (HasReadMirrorScript _ _ _ _) (sym c.as_slice.ensures) c.in-Ok-read_script.ensures.read;
           first_name = λ on. c.in-Ok-follow.ensures.first_attached ∙ c.in-Ok.ensures.first_name on;
           second_name = λ on. c.in-Ok-follow.ensures.second_attached ∙ c.in-Ok.ensures.second_name on;
           replies = λ on.
@@ -76,7 +77,7 @@ returns g c =
     let F : Why → Type 0 = λ x. HasFollowed g.S.Source.left g.S.Source.faults g.K.Sink.written g.D.Disk.tells g.D.Disk.attached g.D.Disk.seen c.args.store.now x c.args.script.now c.read_script.new.script c.args.out.now c.follow.new.out c.args.first.now c.args.second.now c.follow.new.first c.follow.new.second in
     let followed : F (why_of fault) = record {
       acts = c.as_slice.result.now;
-      read = subst (HasRead _ _ _ _) (sym c.as_slice.ensures) c.in-Ok-read_script.ensures.read;
+      read = subst (HasReadMirrorScript _ _ _ _) (sym c.as_slice.ensures) c.in-Ok-read_script.ensures.read;
       first_name = λ on. c.in-Err-follow.ensures.first_attached ∙ c.in-Ok.ensures.first_name on;
       second_name = λ on. c.in-Err-follow.ensures.second_attached ∙ c.in-Ok.ensures.second_name on;
       replies = λ on.

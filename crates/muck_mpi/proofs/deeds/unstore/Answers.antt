@@ -6,7 +6,7 @@ use Rattle.spec_rights.specs.declared.act.Act.TheVariants.{Write}
 use Rattle.spec_rights.specs.Verdict.{verdict}
 use Rattle.spec_rights.specs.Changing.{unstored}
 use Rattle.muck_perm.specs.inner.Guards.{objects_of}
-use Rattle.spec_mpi.specs.Doing.{written}
+use Rattle.spec_mpi.specs.Doing.{path_written}
 use Rattle.muck_mpi.specs.inner.Seeing.{stage_of}
 use Rattle.muck_mpi.proofs.Steps.{same_self, not_there, path_refused, denied_at, allowed_at, copied_none, copied_some, made_there}
 use Rattle.muck_mpi.proofs.deeds.unstore.Goals as goal
@@ -39,7 +39,7 @@ returns-in-Ok c =
     let p = c.in_ok-path.path in
     let leave : verdict (objects_of g) g.actor (Write d p) ≡ None = search rules in
     let is = allowed_at d c.args.path.now f (stage_of g) o.0 p o.1 c.in_ok-path.ensures leave in
-    made_there d o.0 (written d c.args.path.now f (stage_of g)) (f p) g c.unstore.new.self c.unstore.result c.written.result o.1 is c.unstore.ensures c.written.ensures
+    made_there d o.0 (path_written d c.args.path.now f (stage_of g)) (f p) g c.unstore.new.self c.unstore.result c.written.result o.1 is c.unstore.ensures c.written.ensures
 
 pub returns : goal.returns
 returns c =

@@ -1,10 +1,10 @@
 use Rattle.std.proofs.Common.{arith, ap, sym, ◌∙◌, length}
 use lib.ListN.{get_elem?}
+use Rattle.muck_laws.proofs.Places.{at_below, one_more}
 use Rattle.atomic_table.proofs.Lists.{at_index}
 use Rattle.spec_events.specs.Histories.{now}
 use Rattle.spec_serve.specs.inner.Keeping.{Peer}
 use Rattle.muck_peer.specs.Moves.{IsWorkedOff}
-use Rattle.muck_porter.proofs.Doing.{one_more, at_below}
 use Rattle.muck_porter.proofs.deeds.all_worked_off.Goals as goal
 
 pub loop-p-preserved : goal.loop-p-preserved

@@ -1,7 +1,7 @@
 use Rattle.std.proofs.Common.{refl, sym, ◌∙◌}
+use Rattle.muck_laws.proofs.Truths.{did_so}
 use Rattle.muck_model.specs.declared.event.Event.TheVariants.{Moment, StopSeen}
 use Rattle.muck_porter.proofs.deeds.leaves.Goals as goal
-use Rattle.muck_peer.proofs.Stepping.{did_so}
 
 pub returns-then-not-is_stopping : goal.returns-then-not-is_stopping
 returns-then-not-is_stopping g c = let t = c.tells_time.ensures in (Moment t.0, t.1, (t.0, refl), t.2)

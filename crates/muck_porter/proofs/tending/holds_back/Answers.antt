@@ -1,6 +1,6 @@
 use Rattle.std.proofs.Common.{rules, ◌∙◌}
+use Rattle.muck_laws.proofs.Places.{put_same}
 use Rattle.atomic_table.proofs.Lists.{at_index}
-use Rattle.muck_porter.proofs.Items.{put_same}
 use Rattle.muck_porter.proofs.tending.holds_back.Goals as goal
 
 pub loop-at-preserved : goal.loop-at-preserved

@@ -8,9 +8,9 @@ use Rattle.std.specs.FinMap.{from_entries}
 use Rattle.std.specs.BTreeMap.Range.{is_from_start}
 use Rattle.std.specs.declared.ops.Bound.TheVariants.{Included}
 use Rattle.std.specs.declared.cmp.Ordering.TheVariants.{Less}
+use Rattle.muck_laws.proofs.Orders.{is_less}
 use Rattle.muck_prop.specs.Order.{path_cmp, past}
 use Rattle.muck_prop.specs.Store.{next_child, found_child}
-use Rattle.muck_prop.proofs.Sequence.{is_less}
 use Rattle.muck_prop.proofs.First.{next_from_past, next_from_before, next_from_start}
 use Rattle.muck_prop.proofs.props.first_past.Goals as goal
 use Rattle.muck_prop.proofs.props.first_past.Goals.{in_default-via-in-Some+else-is_lt, in_default-via-in_default}

@@ -1,5 +1,5 @@
 use Rattle.std.proofs.Common.{arith}
-use Rattle.muck_model.proofs.Mapped.{mapped_there}
+use Rattle.muck_laws.proofs.Places.{mapped_there}
 use Rattle.muck_queue.proofs.processes.clear_trigger.Goals as goal
 
 pub loop-i-preserved : goal.loop-i-preserved

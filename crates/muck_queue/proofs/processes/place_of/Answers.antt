@@ -1,7 +1,7 @@
 use Rattle.std.proofs.Common.{◌≡◌, ◌∙◌, ap, arith}
 use Rattle.std.proofs.lemmas.Int.{to_z-of_z}
 use Rattle.std.specs.List.{position}
-use Rattle.muck_model.proofs.Positions.{position_or, position_within}
+use Rattle.muck_laws.proofs.Tests.{position_or, position_within}
 use Rattle.muck_queue.specs.Queues.{has_pid}
 use Rattle.muck_queue.proofs.processes.place_of.Goals as goal
 

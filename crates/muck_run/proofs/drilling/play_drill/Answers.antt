@@ -1,5 +1,6 @@
 use Rattle.std.proofs.Common.{refl, ap, ◌∙◌, Some}
-use Rattle.muck_run.proofs.Drilled.{fresh_alive, fresh_idle, fresh_opens, played_by, on_err, fresh_short, broke_short}
+use Rattle.muck_laws.proofs.Results.{on_err_as}
+use Rattle.muck_run.proofs.Drilled.{fresh_alive, fresh_idle, fresh_opens, played_by, fresh_short, broke_short}
 use Rattle.muck_run.proofs.drilling.play_drill.Goals as goal
 
 pub play-requires-clause-alive : goal.play-requires-clause-alive
@@ -20,13 +21,13 @@ returns-in-Ok c = record { played = played_by c.args.count _ _ _ _ _ _ (c.as_sli
 -- it broke off
 
 pub returns-in_err-acts-clause-short : goal.returns-in_err-acts-clause-short
-returns-in_err-acts-clause-short c = on_err c.from_residual.result (fresh_short c.args.count c.args.world.now c.requires)
+returns-in_err-acts-clause-short c = on_err_as c.from_residual.result (fresh_short c.args.count c.args.world.now c.requires)
 
 pub returns-in_err-buf-clause-short : goal.returns-in_err-buf-clause-short
-returns-in_err-buf-clause-short c = on_err c.from_residual-in_err-buf.result (fresh_short c.args.count c.args.world.now c.requires)
+returns-in_err-buf-clause-short c = on_err_as c.from_residual-in_err-buf.result (fresh_short c.args.count c.args.world.now c.requires)
 
 pub returns-in_err-store-clause-short : goal.returns-in_err-store-clause-short
-returns-in_err-store-clause-short c = on_err c.from_residual-in_err-store.result (fresh_short c.args.count c.args.world.now c.requires)
+returns-in_err-store-clause-short c = on_err_as c.from_residual-in_err-store.result (fresh_short c.args.count c.args.world.now c.requires)
 
 pub returns-clause-short : goal.returns-clause-short
 returns-clause-short c =

@@ -1,4 +1,5 @@
-use Rattle.muck_run.proofs.Dumped.{plays_made, breaks_made, last_made, last_dead, came_made, noted_made, noted_dead, idle_made, porter_cuts, dumps_ok, dumps_err}
+use Rattle.muck_laws.proofs.Options.{porter_cuts}
+use Rattle.muck_run.proofs.Dumped.{plays_made, breaks_made, last_made, last_dead, came_made, noted_made, noted_dead, idle_made, dumps_ok, dumps_err}
 use Rattle.muck_run.proofs.dumping.dump.Goals as goal
 
 pub dump-requires-clause-may : goal.dump-requires-clause-may

@@ -4,7 +4,7 @@ use Rattle.muck_run.proofs.Parts.{plays_if_lawful, breaks_at_once, opened_silent
 use Rattle.spec_dumps.proofs.Quiet.{quiet_one}
 use Rattle.spec_events.specs.Histories.{now}
 use Rattle.spec_events.proofs.Reached.{moment_lawful}
-use Rattle.muck_script.specs.Story.{later}
+use Rattle.muck_script.specs.Story.{moment_later}
 use Rattle.muck_run.proofs.Acts.{plays_wait, quiet_if}
 use Rattle.muck_run.proofs.playing.act.Goals as goal
 
@@ -26,7 +26,7 @@ pub returns-in-Wait-clause-plays : goal.returns-in-Wait-clause-plays
 returns-in-Wait-clause-plays g c =
     let at = c.now.ensures c.requires in
     let on : (now c.args.world.now).moment ≤ c.saturating_add-then.result = omega (arith, at, c.saturating_add-then.ensures) in
-    let is : c.saturating_add-then.result ≡ later c.in-Wait.seconds (now c.args.world.now) = omega (arith, at, c.saturating_add-then.ensures) in
+    let is : c.saturating_add-then.result ≡ moment_later c.in-Wait.seconds (now c.args.world.now) = omega (arith, at, c.saturating_add-then.ensures) in
     rw c.in-Wait.is (plays_wait _ _ _ _ _ is c.requires (moment_lawful _ _ c.requires on) c.moment.ensures)
 
 pub returns-in-Err-clause-plays : goal.returns-in-Err-clause-plays

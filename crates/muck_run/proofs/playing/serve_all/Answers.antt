@@ -1,6 +1,7 @@
 use Rattle.std.proofs.Common.{refl, ◌∙◌}
+use Rattle.muck_laws.proofs.Numbers.{above_last, end_within}
 use Rattle.spec_dumps.proofs.Quiet.{quiet_nothing, quiet_on}
-use Rattle.muck_run.proofs.Opening.{one_within, opens_plays, end_within, above_last}
+use Rattle.muck_run.proofs.Opening.{one_within, opens_plays}
 use Rattle.muck_run.proofs.Towards.{serving_begins, serving_goes_on, serving_ends, serving_breaks}
 use Rattle.muck_run.proofs.playing.serve_all.Goals as goal
 

@@ -1,10 +1,11 @@
 use Rattle.std.proofs.Common.{◌<◌, ◌≤◌, [], length, refl, ◌∙◌, arith}
 use Rattle.std.proofs.lemmas.Bool.{cond-true, lt-ltb}
+use Rattle.muck_laws.proofs.Lists.{no_ending}
 use Rattle.spec_dumps.proofs.Quiet.{quiet_nothing, quiet_one, quiet_on}
 use Rattle.spec_events.specs.World.{queue_of}
 use Rattle.spec_events.specs.Histories.{now}
 use Rattle.spec_events.proofs.Runs.{longer_one}
-use Rattle.muck_run.proofs.Parts.{plays_one, breaks_after, text_taken, taken_some, whole_queue, front_nothing, entered_twice, lives_on, no_ending}
+use Rattle.muck_run.proofs.Parts.{plays_one, breaks_after, text_taken, taken_some, whole_queue, front_nothing, entered_twice, lives_on}
 use Rattle.muck_run.proofs.Acts.{quiet_if}
 use Rattle.muck_run.proofs.playing.take_queue.Goals as goal
 

@@ -1,7 +1,8 @@
 use Rattle.std.proofs.Common.{Err, inl, inr, refl, sym, ap, subst}
-use Rattle.muck_run.specs.Outcome.{HasRead}
+use Rattle.muck_laws.proofs.Results.{err_is}
+use Rattle.muck_run.specs.Outcome.{HasReadScript}
 use Rattle.muck_run.specs.inner.Ends.{IsScriptWhy, MayEnd}
-use Rattle.muck_run.proofs.Called.{unread_ends, wanted_ends, began_ends, either_since, holds_still, never_begun, has_begun, err_is, run_done}
+use Rattle.muck_run.proofs.Called.{unread_ends, wanted_ends, began_ends, either_since, holds_still, never_begun, has_begun, run_done}
 use Rattle.muck_run.proofs.running.run.Goals as goal
 
 -- no script was read
@@ -32,7 +33,7 @@ returns-in-Ok-read_script g c =
             | inl never ↦ wanted_ends _ _ _ never.wanted (never_begun _ _ _ _ _ _ _ _ _ _ _ _ _ _ c.in-Ok.ensures.first_file c.in-Ok.ensures.second_file never)
             | inr played ↦ began_ends g.D.Disk.tells _ _ _ may
                 (has_begun _ _ _ _ _ _ _ _ _ _ _ _ _ _ _ _ _ _ _ _ _ _ _ _ _ _ c.in-Ok.ensures.log c.in-Ok.ensures.fine c.in-Ok.ensures.first_name c.in-Ok.ensures.second_name c.run_acts.ensures.first_attached c.run_acts.ensures.second_attached
-                c.in-Ok.ensures.first_file c.in-Ok.ensures.second_file c.in-Ok.ensures.first_later c.in-Ok.ensures.second_later (subst (HasRead _ _ _ _) (sym c.as_slice.ensures) c.in-Ok-read_script.ensures.read) played)
+                c.in-Ok.ensures.first_file c.in-Ok.ensures.second_file c.in-Ok.ensures.first_later c.in-Ok.ensures.second_later (subst (HasReadScript _ _ _ _) (sym c.as_slice.ensures) c.in-Ok-read_script.ensures.read) played)
           ])
           (λ e. subst (MayEnd g.D.Disk.tells) e may) (λ line e. absurd (subst (MayEnd g.D.Disk.tells) e may)) (λ e. absurd (subst (MayEnd g.D.Disk.tells) e may)) c.run_acts.ensures.write
           (λ e. either_since _ _ _ _ _ _ c.in-Ok.ensures.first_later c.in-Ok.ensures.second_later (c.run_acts.ensures.cause e)) (λ file at on e. absurd (subst (MayEnd g.D.Disk.tells) e may on))

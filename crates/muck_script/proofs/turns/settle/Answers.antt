@@ -1,5 +1,5 @@
 use Rattle.std.proofs.Common.{sym, ◌∙◌}
-use Rattle.muck_script.proofs.Taking.{on_error}
+use Rattle.muck_laws.proofs.Results.{on_error}
 use Rattle.muck_script.proofs.Stories.{way_begins, way_goes_on, way_ends, way_over, way_dies}
 use Rattle.muck_script.proofs.turns.settle.Goals as goal
 

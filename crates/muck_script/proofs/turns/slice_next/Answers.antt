@@ -1,6 +1,6 @@
 use Rattle.std.proofs.Common.{◌≡◌, ℤ, cond, sym, ◌∙◌, ap, to_z, of_z, w32, rules}
 use Rattle.std.specs.Prelude.{is_some}
-use Rattle.spec_events.specs.Steps.{has_claim, is_there}
+use Rattle.spec_events.specs.Steps.{has_claim, is_process_there}
 use Rattle.spec_events.specs.Histories.{now, entered, by_porter}
 use Rattle.muck_machine.specs.inner.Claims.{slice_event}
 use Rattle.muck_machine.specs.declared.world.Sliced.{Sliced}
@@ -28,5 +28,5 @@ returns-in_ok-slice-in-Some-clause-world c =
     let read : to_z w32 (of_z w32 c.in-Some.pid) ≡ c.in-Some.pid = search rules in
     let how : Sliced = c.in_ok-slice-in-Some.field-0 in
     sliced c.args.world.now c.claim.new.self c.slice.new.self c.in-Some.pid how (sym c.in-Some.ensures.found) c.in-Some.ensures.step
-    (c.in_ok-slice-in-Some.ensures.ran ∙ ap (λ (pid : ℤ). cond (is_there pid (now c.claim.new.self)) Ran Lost) read)
+    (c.in_ok-slice-in-Some.ensures.ran ∙ ap (λ (pid : ℤ). cond (is_process_there pid (now c.claim.new.self)) Ran Lost) read)
     (c.in_ok-slice-in-Some.ensures.step ∙ ap (λ (pid : ℤ). entered c.claim.new.self (by_porter (slice_event pid how))) read)

@@ -1,7 +1,7 @@
 use Rattle.std.proofs.Common.{◌≡◌, ◌≤◌, ℕ, suc, Option, length, sym, ◌∙◌, ap, subst, Bool, false, not, ◌&&◌}
 use Rattle.std.proofs.lemmas.Bool.{and_left, and_right, not_from_true}
 use Rattle.spec_live.specs.Chain.{has}
-use Rattle.muck_store.specs.Whole.{chain_met, stands_in}
+use Rattle.muck_store.specs.Whole.{chain_met, record_stands_in}
 use Rattle.muck_store.proofs.Marking.{most_marked}
 use Rattle.muck_store.proofs.Walking.{rest_first, rest_more, rest_stops, rest_ends}
 use Rattle.muck_store.proofs.tree.list_met.Goals.{then-not-stands_in-via-then-not-stands_in, then-not-stands_in-via-else-not-stands_in+then-has}
@@ -23,7 +23,7 @@ pub returns-then-not-stands_in-clause-is : goal.returns-then-not-stands_in-claus
 returns-then-not-stands_in-clause-is c =
     let os = c.args.records.now in
     let met = c.loop-at.met.numbers.items in
-    let stands : Bool = stands_in os c.args.exits c.args.p c.in-Some.d in
+    let stands : Bool = record_stands_in os c.args.exits c.args.p c.in-Some.d in
     let stop : (stands && not (has c.in-Some.d met)) ≡ false = elim c.then-not-stands_in.branch [
       | then-not-stands_in-via-then-not-stands_in w ↦ and_left stands (not (has c.in-Some.d met)) (sym c.stands_in.ensures.value ∙ w.if-not-stands_in.true)
       | then-not-stands_in-via-else-not-stands_in+then-has w ↦ and_right stands (not (has c.in-Some.d met)) (not_from_true (has c.in-Some.d met) (sym w.has.ensures ∙ w.if-has.true))

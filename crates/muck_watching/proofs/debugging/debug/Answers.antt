@@ -1,8 +1,9 @@
 use Rattle.std.proofs.Common.{Err, inl, inr, refl, sym, ap, subst}
-use Rattle.muck_watching.specs.Debugged.{HasRead}
+use Rattle.muck_laws.proofs.Results.{err_is}
+use Rattle.muck_watching.specs.Debugged.{HasReadDebugScript}
 use Rattle.muck_run.specs.inner.Ends.{IsMountWhy, MayRefuse, MayEnd}
 use Rattle.muck_watching.specs.inner.Seen.{IsDebugWhy}
-use Rattle.muck_run.proofs.Called.{refused_ends, wanted_ends, began_ends, either_since, holds_still, never_begun, err_is}
+use Rattle.muck_run.proofs.Called.{refused_ends, wanted_ends, began_ends, either_since, holds_still, never_begun}
 use Rattle.muck_watching.proofs.Debugged.{unread_ends, has_debugged, debug_done}
 use Rattle.muck_watching.proofs.debugging.debug.Goals as goal
 
@@ -51,7 +52,7 @@ returns-in-Ok-read_script g c =
             | inl never ↦ wanted_ends _ _ _ never.wanted (never_begun _ _ _ _ _ _ _ _ _ _ _ _ _ _ c.in-Ok.ensures.first_file c.in-Ok.ensures.second_file never)
             | inr both ↦ began_ends g.D.Disk.tells _ _ _ may
                 (has_debugged _ _ _ _ _ _ _ _ _ _ _ _ _ c.as_slice.result.now _ _ _ _ _ _ _ _ _ _ _ _ c.in-Ok.ensures.log c.in-Ok.ensures.fine c.in-Ok.ensures.first_name c.in-Ok.ensures.second_name c.debug_acts.ensures.first_attached c.debug_acts.ensures.second_attached
-                c.in-Ok.ensures.first_file c.in-Ok.ensures.second_file c.in-Ok.ensures.first_later c.in-Ok.ensures.second_later (subst (HasRead _ _ _ _) (sym c.as_slice.ensures) c.in-Ok-read_script.ensures.read) both.0 both.1)
+                c.in-Ok.ensures.first_file c.in-Ok.ensures.second_file c.in-Ok.ensures.first_later c.in-Ok.ensures.second_later (subst (HasReadDebugScript _ _ _ _) (sym c.as_slice.ensures) c.in-Ok-read_script.ensures.read) both.0 both.1)
           ])
           (λ e. subst (MayEnd g.D.Disk.tells) e may) (λ line e. absurd (subst (MayEnd g.D.Disk.tells) e may)) (λ e. absurd (subst (MayEnd g.D.Disk.tells) e may)) c.debug_acts.ensures.write
           (λ e. either_since _ _ _ _ _ _ c.in-Ok.ensures.first_later c.in-Ok.ensures.second_later (c.debug_acts.ensures.cause e)) (λ file at on e. absurd (subst (MayEnd g.D.Disk.tells) e may on))

@@ -1,6 +1,6 @@
 use Rattle.std.proofs.Common.{ℕ, sym, ◌∙◌, ap, subst}
 use Rattle.muck_debugging.specs.Grammar.{debug_script_of}
-use Rattle.muck_watching.specs.Debugged.{IsFirstOutside}
+use Rattle.muck_watching.specs.Debugged.{IsFirstOutsideDebug}
 use Rattle.muck_watching.proofs.Scripts.{script_in, first_outside, read_out, read_part_most, bad_line}
 use Rattle.muck_watching.proofs.debugging.read_script.Goals as goal
 
@@ -15,6 +15,6 @@ returns-in-Ok-read_debug-clause-read g c =
 
 pub returns-in-Err-BadScript-clause-why : goal.returns-in-Err-BadScript-clause-why
 returns-in-Err-BadScript-clause-why g c =
-    let P : ℕ → Type 0 = IsFirstOutside (g.S.Source.left c.args.script.now) in
+    let P : ℕ → Type 0 = IsFirstOutsideDebug (g.S.Source.left c.args.script.now) in
     subst P (sym c.in-Err-BadScript.line-is)
     (first_outside _ _ _ _ _ read_part_most c.in-Ok.ensures.ok (ap debug_script_of (sym c.as_slice.ensures.value) ∙ bad_line _ _ _ c.in-Err-BadScript.field-0-is c.in-Err-BadScript.ensures))

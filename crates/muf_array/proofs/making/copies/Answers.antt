@@ -1,8 +1,8 @@
 use Rattle.std.proofs.Common.{map, ap, sym, ◌∙◌, ◌∷◌, [], ◌++◌, ◌+◌, ◌-◌, ◌≡◌, take, drop, reverse, arith}
 use Rattle.std.proofs.lemmas.List.{map-append}
+use Rattle.muck_laws.proofs.Turned.{turned_more}
 use Rattle.muf_model.specs.inner.View.{view}
 use Rattle.muf_frame.specs.inner.Shown.{flat}
-use Rattle.muf_array.proofs.Reading.{part_more}
 use Rattle.muf_array.proofs.Counting.{counted_item}
 use Rattle.muf_array.proofs.making.copies.Goals as goal
 
@@ -16,5 +16,5 @@ loop-at-preserved c =
           ∙ map-append view c.loop-at.items.items (c.in_ok-item.item ∷ [])
           ∙ ap (λ r. r ++ x ∷ []) c.loop-at.invariant.1
           ∙ ap (λ k. reverse (drop k xs) ++ x ∷ []) (sym z)
-          ∙ sym (part_more xs (c.loop-at.at - 1) x (counted_item c.args.n c.loop-at.at (flat c.args.frame.now).stack x (omega (arith, c.loop-at-test.true)) c.loop-at.invariant.0 c.in_ok-item.ensures)),
+          ∙ sym (turned_more xs (c.loop-at.at - 1) x (counted_item c.args.n c.loop-at.at (flat c.args.frame.now).stack x (omega (arith, c.loop-at-test.true)) c.loop-at.invariant.0 c.in_ok-item.ensures)),
     )

@@ -1,11 +1,11 @@
 use Rattle.std.proofs.Common.{map, ap, sym, ◌∙◌, ◌∷◌, [], ◌++◌, ◌+◌, ◌-◌, ◌≡◌, length, drop, reverse, arith}
 use Rattle.std.specs.Prelude.{pos}
 use Rattle.std.proofs.lemmas.List.{map-append}
+use Rattle.muck_laws.proofs.Turned.{turned_more}
 use Rattle.muf_model.specs.Datum.{int}
 use Rattle.muf_model.specs.inner.View.{view}
 use Rattle.muf_model.specs.ArrayRows.{entries_in}
 use Rattle.muf_array.specs.inner.Shapes.{part_of}
-use Rattle.muf_array.proofs.Reading.{part_more}
 use Rattle.muf_array.proofs.rows.parts.Goals as goal
 
 pub loop-at-preserved : goal.loop-at-preserved
@@ -19,5 +19,5 @@ loop-at-preserved c =
       ap (map view) c.in_ok-push-2.ensures.items
           ∙ map-append view c.loop-at.items.items (c.in_ok-item.item ∷ [])
           ∙ ap (λ r. r ++ x ∷ []) c.loop-at.invariant.2
-          ∙ ap (λ r. int (pos (length es)) ∷ r) (ap (λ k. reverse (drop k xs) ++ x ∷ []) (sym z) ∙ sym (part_more xs (c.loop-at.at - 1) x c.in_ok-item.ensures)),
+          ∙ ap (λ r. int (pos (length es)) ∷ r) (ap (λ k. reverse (drop k xs) ++ x ∷ []) (sym z) ∙ sym (turned_more xs (c.loop-at.at - 1) x c.in_ok-item.ensures)),
     )

@@ -1,9 +1,9 @@
 use Rattle.std.proofs.Common.{ap, sym, ◌∙◌, ℕ, List}
 use Rattle.std.specs.Prelude.{find, option_map}
 use Rattle.std.specs.Str.{bytes_eq}
+use Rattle.muck_laws.proofs.Tests.{found_row}
 use Rattle.muf_compile.specs.declared.control.Control.{Control}
 use Rattle.muf_compile.specs.Names.{word_row, control_of}
-use Rattle.muf_compile.proofs.Rows.{found_row}
 use Rattle.muf_compile.proofs.control.control_of.Goals as goal
 
 pub returns-then-eq : goal.returns-then-eq

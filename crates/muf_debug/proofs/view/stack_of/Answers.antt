@@ -1,7 +1,8 @@
 use Rattle.std.proofs.Common.{◌++◌, ◌∷◌, [], ◌-◌, ◌∙◌, ap, map, sym, arith}
 use Rattle.std.proofs.lemmas.List.{map-append}
+use Rattle.muck_laws.proofs.Places.{none_past}
 use Rattle.muf_model.specs.inner.View.{view}
-use Rattle.muf_debug.proofs.Seen.{stack_more, none_past}
+use Rattle.muf_debug.proofs.Seen.{stack_more}
 use Rattle.muf_debug.proofs.view.stack_of.Goals as goal
 
 pub loop-depth-preserved : goal.loop-depth-preserved

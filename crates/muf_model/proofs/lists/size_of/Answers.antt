@@ -1,8 +1,9 @@
 use Rattle.std.proofs.Common.{rules, arith, map, ap, ◌∙◌, ◌+◌, max, subst}
 use Rattle.std.proofs.lemmas.List.{length-map}
+use Rattle.muck_laws.proofs.Places.{mapped_read}
 use Rattle.muf_model.specs.Measures.{weight, nesting}
 use Rattle.muf_model.specs.Values.{IsValue}
-use Rattle.muf_model.proofs.Sized.{mapped_read, part_fits, part_unfit}
+use Rattle.muf_model.proofs.Sized.{part_fits, part_unfit}
 use Rattle.muf_model.proofs.lists.size_of.Goals as goal
 
 pub returns-then-not-fits : goal.returns-then-not-fits

@@ -1,10 +1,11 @@
 use Rattle.std.proofs.Common.{rules, ◌≡◌, ◌+◌, ◌≤◌, length, sym, ap, ◌∙◌, false, true}
 use Rattle.std.specs.Prelude.{is_some}
+use Rattle.muck_laws.proofs.Options.{some_mapped}
 use Rattle.muf_model.specs.inner.View.{view}
 use Rattle.muf_model.specs.Answer.{variable_at}
 use Rattle.muf_frame.specs.inner.Shown.{flat, locked_by}
 use Rattle.muf_frame.specs.inner.Moves.{scope_of}
-use Rattle.muf_run.proofs.Stacks.{keep_none, keep_done, some_mapped, height_alike}
+use Rattle.muf_run.proofs.Stacks.{keep_none, keep_done, height_alike}
 use Rattle.muf_run.proofs.items.keep.Goals as goal
 
 pub returns-then-is_none : goal.returns-then-is_none

@@ -1,4 +1,5 @@
 use Rattle.std.proofs.Common.{◌≡◌, ◌<◌, ◌-◌, ◌∷◌, sym, subst, arith}
+use Rattle.muck_laws.proofs.Results.{over_by}
 use Rattle.muf_model.specs.Unit.{units}
 use Rattle.muf_model.specs.inner.Flat.{decode}
 use Rattle.muf_frame.specs.inner.Shown.{flat}
@@ -8,7 +9,7 @@ use Rattle.muf_run.specs.inner.Runs.{RunsAlike}
 use Rattle.muf_run.specs.inner.Machine.{next_of}
 use Rattle.muf_run.specs.inner.Ends.{UnitEnds, StepEnds}
 use Rattle.muf_run.specs.declared.ran.Step.TheVariants.{Went}
-use Rattle.muf_run.proofs.Running.{going_far, over_by, units_over, taken_over, spent}
+use Rattle.muf_run.proofs.Running.{going_far, units_over, taken_over, spent}
 use Rattle.muf_run.proofs.run.run_local.Goals as goal
 
 pub loop-taken-preserved : goal.loop-taken-preserved

@@ -1,5 +1,6 @@
 use Rattle.std.proofs.Common.{rules, ◌≡◌, ◌+◌, List, ◌∷◌, Some, None, ap, ◌∙◌}
 use Rattle.std.specs.Prelude.{slice_get}
+use Rattle.muck_laws.proofs.Results.{if_ok_mapped}
 use Rattle.muf_model.specs.declared.code.Code.{Code}
 use Rattle.muf_model.specs.Source.{Source}
 use Rattle.muf_model.specs.Unit.{unit}
@@ -9,7 +10,6 @@ use Rattle.muf_run.specs.inner.Alike.{EndsAlike}
 use Rattle.muf_run.specs.inner.Machine as machine
 use Rattle.muf_run.specs.inner.Machine.{next_of}
 use Rattle.muf_run.proofs.Lockstep.{instr_fits, place_fits}
-use Rattle.muf_run.proofs.Running.{mapped}
 use Rattle.muf_run.proofs.run.unit.Goals as goal
 
 pub returns-in-None : goal.returns-in-None
@@ -20,4 +20,4 @@ returns-in-None c codes s h =
 pub returns-in_default : goal.returns-in_default
 returns-in_default c =
     let q : slice_get c.args.code.now.placed c.args.frame.now.place ≡ Some c.in-Some.placed.now = search (rules, c.fetch.ensures.value, c.in-Some.is, c.in-Some.placed-is) in
-    mapped _ (λ ran. (codes : List Code) (s : Source) → FitsState (c.args.code.now ∷ codes) (flat c.args.frame.now) s → EndsAlike (c.args.code.now ∷ codes) (next_of ran (flat c.instr.new.frame)) (unit s)) c.instr.result (λ ran e codes s h. (let k = e ∙ ap (λ n. machine.instr c.args.code.now c.in-Some.placed.now.instr (n + 1) (flat c.args.frame.now)) c.place-next.ensures in rw k (instr_fits h c.in-Some.placed.now q (λ to b. c.in_default.not-Begin to b)))) c.instr.ensures
+    if_ok_mapped _ (λ ran. (codes : List Code) (s : Source) → FitsState (c.args.code.now ∷ codes) (flat c.args.frame.now) s → EndsAlike (c.args.code.now ∷ codes) (next_of ran (flat c.instr.new.frame)) (unit s)) c.instr.result (λ ran e codes s h. (let k = e ∙ ap (λ n. machine.instr c.args.code.now c.in-Some.placed.now.instr (n + 1) (flat c.args.frame.now)) c.place-next.ensures in rw k (instr_fits h c.in-Some.placed.now q (λ to b. c.in_default.not-Begin to b)))) c.instr.ensures

@@ -1,7 +1,7 @@
 use Rattle.std.proofs.Common.{◌≡◌, [], ◌++◌, map, take, reverse, sym, ap, ◌∙◌, arith}
 use Rattle.std.proofs.lemmas.List.{drop-map}
+use Rattle.muck_laws.proofs.Turned.{kept_programs}
 use Rattle.muf_running.specs.inner.Fitting.{numbers_of}
-use Rattle.muf_running.proofs.Process.{kept_programs}
 use Rattle.muf_running.proofs.entered.numbers_below.Goals as goal
 
 pub loop-at-init : goal.loop-at-init

@@ -1,8 +1,8 @@
 use Rattle.std.proofs.Common.{◌≡◌, ◌-◌, length, take, drop, reverse, sym, ap, subst, ◌∙◌, arith}
+use Rattle.muck_laws.proofs.Turned.{kept_programs}
 use Rattle.muf_model.specs.inner.Flat.{decode}
 use Rattle.muf_frame.specs.inner.Shown.{flat}
 use Rattle.muf_running.specs.inner.Fitting.{codes_of, ProgramsFit}
-use Rattle.muf_running.proofs.Process.{kept_programs}
 use Rattle.muf_running.proofs.running.left.Goals as goal
 
 pub invariant_of-result : goal.invariant_of-result

@@ -1,5 +1,5 @@
 use Rattle.std.proofs.Common.{◌≡◌, ◌-◌, drop}
-use Rattle.muf_token.specs.Expansion.{each, expanded}
+use Rattle.muf_token.specs.Expansion.{each_piece, expanded}
 use Rattle.muf_token.specs.inner.Layers.{told}
 use Rattle.muf_token.proofs.expansion.+expand.Given as goal
 
@@ -10,4 +10,4 @@ decreases-expand l = l.deeper
 abbrev pub invariant-loop-inner : goal.invariant-loop-inner
 invariant-loop-inner l =
     expanded l.deeper (told l.definitions) l.line l.piece l.fn.out
-    ≡ each (expanded (l.deeper - 1) (told l.definitions) l.line) (drop l.inner-index l.inner-items) l.out
+    ≡ each_piece (expanded (l.deeper - 1) (told l.definitions) l.line) (drop l.inner-index l.inner-items) l.out

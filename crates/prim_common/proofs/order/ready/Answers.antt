@@ -1,7 +1,7 @@
 use Rattle.std.proofs.Common.{◌≡◌, IfOk, length, Some, None, sym, ap, ◌∙◌, subst}
 use Rattle.std.specs.Option.{option_map, option_map_or}
 use Rattle.muf_model.specs.Ladder.{wanted}
-use Rattle.muf_model.specs.Prims.{needs_of, level_of}
+use Rattle.muf_model.specs.Prims.{needs_of, primitive_level}
 use Rattle.muf_model.specs.Needs.{shown_needs}
 use Rattle.muf_frame.specs.inner.Shown.{flat, locked_by}
 use Rattle.muck_perm.specs.inner.Guards.{world_of}
@@ -23,7 +23,7 @@ returns-in-Some-clause-count c =
 pub returns-in-Some-clause-pass : goal.returns-in-Some-clause-pass
 returns-in-Some-clause-pass c =
     let needs : needs_of c.args.prim ≡ Some (shown_needs c.in-Some.needs) = ap (λ r. r.needs) (sym c.row-row.ensures) ∙ ap (option_map shown_needs) c.in-Some.is in
-    let level : c.row-row.result.level ≡ level_of c.args.prim = ap (λ r. r.level) c.row-row.ensures in
+    let level : c.row-row.result.level ≡ primitive_level c.args.prim = ap (λ r. r.level) c.row-row.ensures in
     subst (λ o. Passes o c.ready_needing.result) (first_some c.args.prim (shown_needs c.in-Some.needs) c.args.argued c.args.guard.now.actor (locked_by (flat c.args.frame.now).marks) (flat c.args.frame.now).stack (world_of c.args.guard.now) needs)
     (rw (sym level) c.ready_needing.ensures.pass)
 

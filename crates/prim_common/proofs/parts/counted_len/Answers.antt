@@ -1,5 +1,5 @@
 use Rattle.std.proofs.Common.{length, arith}
-use Rattle.prim_common.proofs.Counts.{product_most}
+use Rattle.muck_laws.proofs.Numbers.{product_most}
 use Rattle.prim_common.proofs.parts.counted_len.Goals as goal
 
 pub overflow_mul-result : goal.overflow_mul-result

@@ -4,8 +4,8 @@ use Rattle.spec_rights.specs.Verdict.{verdict}
 use Rattle.spec_rights.specs.Changing.{unstored}
 use Rattle.muf_frame.specs.inner.Shown.{flat}
 use Rattle.muck_perm.specs.inner.Guards.{objects_of, world_of}
-use Rattle.spec_prims.specs.Asking.{fault_of}
-use Rattle.spec_prims.specs.Row.{gives, unless}
+use Rattle.spec_prims.specs.Asking.{fault_of_denial}
+use Rattle.spec_prims.specs.Row.{gives, row_unless}
 use Rattle.prim_prop.specs.inner.Asked.{named_in}
 use Rattle.prim_prop.proofs.Steps.{remove_row, past_leave, refused, unstored_so}
 use Rattle.prim_prop.proofs.writing.remove.Goals as goal
@@ -19,7 +19,7 @@ returns-in-Ok c =
     let found : named_in stack ≡ Some (d.0, c.in-Some.text.now) = search rules in
     let leave : verdict (objects_of g) g.actor (Write d path) ≡ None = search rules in
     let row = remove_row g.actor stack (world_of g) d.0 c.in-Some.text.now path found c.in_ok-path.ensures.0 c.in_ok-path.ensures.1 in
-    unstored_so d path g c.unstore.new.self _ _ _ (past_leave _ _ _ row (ap fault_of leave)) c.unstore.ensures c.written.ensures
+    unstored_so d path g c.unstore.new.self _ _ _ (past_leave _ _ _ row (ap fault_of_denial leave)) c.unstore.ensures c.written.ensures
 
 pub returns : goal.returns
 returns c =
@@ -30,4 +30,4 @@ returns c =
     let found : named_in stack ≡ Some (d.0, c.in-Some.text.now) = search rules in
     let denied : verdict (objects_of g) g.actor (Write d path) ≡ Some c.in-Err.denial = search rules in
     let row = remove_row g.actor stack (world_of g) d.0 c.in-Some.text.now path found c.in_ok-path.ensures.0 c.in_ok-path.ensures.1 in
-    refused _ g _ (row ∙ ap (λ o. unless (fault_of o) (gives [] (unstored d path (world_of g)))) denied)
+    refused _ g _ (row ∙ ap (λ o. row_unless (fault_of_denial o) (gives [] (unstored d path (world_of g)))) denied)

@@ -6,7 +6,7 @@ use Rattle.muf_frame.specs.declared.fault.PrimFault.TheVariants.{Fault}
 use Rattle.muf_frame.specs.inner.Answers.{object_at}
 use Rattle.muf_frame.specs.inner.Shown.{flat}
 use Rattle.muck_perm.specs.inner.Guards.{Done, world_of}
-use Rattle.spec_prims.specs.Talk.{object_in}
+use Rattle.spec_prims.specs.Talk.{item_object}
 use Rattle.prim_common.specs.inner.Applied.{Makes}
 use Rattle.prim_common.specs.declared.made.Made.TheVariants.{Nothing}
 use Rattle.prim_talk.specs.inner.Told.{counted_in}
@@ -28,7 +28,7 @@ returns c =
     let counted : counted_in stack ≡ Some (c.in-Some.text.now, c.in-Some.count) = search rules in
     let place : object_at (2 + c.in-Some.count) stack ≡ Some c.in-Some-object_at.place.0 = search rules in
     let d = c.in-Some-object_at.place in
-    let but : List Dbref = filter_map object_in (take c.in-Some.count (drop 2 stack)) in
+    let but : List Dbref = filter_map item_object (take c.in-Some.count (drop 2 stack)) in
     let named : c.deref.result.now ≡ but = search rules in
     let said : c.as_slice.result.now ≡ c.in-Some.text.now = search rules in
     let told : Done (tell_but d c.deref.result.now c.as_slice.result.now) g c.tell_but.new.self = search rules in

@@ -1,6 +1,6 @@
 use Rattle.std.proofs.Common.{◌≡◌, ◌≤◌, [], ◌∷◌, ◌+◌, ◌-◌, ◌++◌, length, length-drop, arith, map, ap, sym, ◌∙◌}
 use Rattle.muf_model.specs.Datum.{text}
-use Rattle.muf_model.specs.Texts.{pieces}
+use Rattle.muf_model.specs.Texts.{text_pieces}
 use Rattle.muf_model.specs.inner.View.{view}
 use Rattle.prim_text.proofs.Texts.{text-drop}
 use Rattle.prim_text.proofs.Parts.{next_piece, last_piece}
@@ -14,7 +14,7 @@ loop-at-preserved c =
     let some = c.requires.some in
     let so_far = c.loop-at.invariant.2 in
     let within : c.in-Some.at + length c.args.sought.now ≤ length c.loop-at.rest.now = c.in-Some.ensures.within in (
-      ap (λ b. map view c.push_piece.new.items.items ++ map text (pieces c.args.sought.now b)) c.cut_out.ensures.behind ∙ next_piece _ _ _ _ _ c.in-Some.at c.requires.some (sym c.in-Some.is ∙ c.first_place.ensures.value) c.loop-at.invariant.0 after,
+      ap (λ b. map view c.push_piece.new.items.items ++ map text (text_pieces c.args.sought.now b)) c.cut_out.ensures.behind ∙ next_piece _ _ _ _ _ c.in-Some.at c.requires.some (sym c.in-Some.is ∙ c.first_place.ensures.value) c.loop-at.invariant.0 after,
       rw c.cut_out.ensures.behind (text-drop (c.in-Some.at + length c.args.sought.now) c.loop-at.rest.now c.loop-at.invariant.1),
       omega (arith, shorter, longer, some, so_far, within),
     )

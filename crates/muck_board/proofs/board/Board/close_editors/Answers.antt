@@ -1,7 +1,7 @@
 use Rattle.std.proofs.Common.{arith, sym, ◌∙◌, get_or, None}
 use Rattle.std.proofs.lemmas.Bool.{cond-true, cond-false}
+use Rattle.muck_laws.proofs.Places.{mapped_more}
 use Rattle.spec_live.specs.Connections.{edited_where, edits}
-use Rattle.muck_model.proofs.Mapped.{mapped_more}
 use Rattle.muck_board.proofs.board.Board.close_editors.Goals as goal
 use Rattle.muck_board.proofs.board.Board.close_editors.Goals.{then-edits, else-edits}
 

@@ -1,10 +1,9 @@
 use Rattle.std.proofs.Common.{arith, refl, sym, ◌∙◌, ap, map, get_or, length-set}
 use Rattle.std.proofs.lemmas.Bool.{cond-true, cond-false}
 use Rattle.std.proofs.lemmas.List.{with_items_is}
+use Rattle.muck_laws.proofs.Places.{mapped_more, quiet_where}
 use Rattle.spec_live.specs.Connections.{told_where}
 use Rattle.muck_board.specs.inner.Silent.{quiet, silent}
-use Rattle.muck_model.proofs.Mapped.{mapped_more}
-use Rattle.muck_board.proofs.Quiet.{quiet_where}
 use Rattle.muck_board.proofs.Sending.{told_is}
 use Rattle.muck_board.proofs.board.Board.tell_where.Goals as goal
 use Rattle.muck_board.proofs.board.Board.tell_where.Goals.{then-hears+in_ok-tell, else-hears}

@@ -1,7 +1,7 @@
 use Rattle.std.proofs.Common.{ap, ◌∙◌, ◌≤◌, List, ℕ, length, drop, arith, length-take}
+use Rattle.muck_laws.proofs.Parts.{window_dropped}
 use Rattle.muck_board.specs.inner.Sent.{lines_in}
 use Rattle.muck_board.specs.inner.Waiting.{Waiting}
-use Rattle.muck_board.proofs.Ended.{window_dropped}
 use Rattle.muck_board.proofs.lines.Lines.advance.Goals as goal
 
 pub returns : goal.returns

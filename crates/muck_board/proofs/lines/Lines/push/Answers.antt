@@ -1,7 +1,8 @@
 use Rattle.std.proofs.Common.{ap, ◌≡◌, ◌∙◌, ◌++◌, length, drop, take, arith, length-append}
+use Rattle.muck_laws.proofs.Parts.{same_window}
 use Rattle.muck_board.specs.inner.Sent.{lines_in}
 use Rattle.muck_board.specs.inner.Waiting.{Waiting}
-use Rattle.muck_board.proofs.Ended.{pushed_at, same_window}
+use Rattle.muck_board.proofs.Ended.{pushed_at}
 use Rattle.muck_board.proofs.lines.Lines.push.Goals as goal
 
 pub invariant_of-self-2 : goal.invariant_of-self-2

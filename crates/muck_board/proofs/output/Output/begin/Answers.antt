@@ -1,7 +1,7 @@
 use Rattle.std.proofs.Common.{List, ℕ, ◌≡◌, [], ap, sym, ◌∙◌, length}
 use Rattle.std.proofs.lemmas.Bool.{eqb-true}
 use Rattle.std.proofs.lemmas.List.{nil_from_length}
-use Rattle.spec_live.specs.Output.{Output, bytes_of, taken}
+use Rattle.spec_live.specs.Output.{Output, bytes_of, output_taken}
 use Rattle.muck_board.specs.inner.Bounded.{rest_of}
 use Rattle.muck_board.specs.inner.Waiting.{Waiting}
 use Rattle.muck_board.proofs.Outputs.{notice_some, notice_first, line_first, same_notice, same_line, nothing_waits}
@@ -21,7 +21,7 @@ pub returns-then-self-clause-taken : goal.returns-then-self-clause-taken
 returns-then-self-clause-taken c k h =
     let s = c.self.inside in
     let none : rest_of s.begun s.lines ≡ [] = nothing_left c.rest.result.now _ _ (eqb-true _ 0 (sym c.is_empty.ensures ∙ c.if-not-is_empty.false)) c.rest.ensures.bytes c.self.view_is in
-    notice_first k (rest_of s.begun s.lines) s.flushed s.lines.lines h none c.if-self.true ∙ ap (taken k) c.self.view_is
+    notice_first k (rest_of s.begun s.lines) s.flushed s.lines.lines h none c.if-self.true ∙ ap (output_taken k) c.self.view_is
 
 pub returns-then-self-clause-begun : goal.returns-then-self-clause-begun
 returns-then-self-clause-begun c = notice_some
@@ -53,5 +53,5 @@ returns-clause-taken c k h =
     let s = c.self.inside in
     let begins = c.if-not-begin.ensures in
     let none : rest_of s.begun s.lines ≡ [] = nothing_left c.rest.result.now _ _ (eqb-true _ 0 (sym c.is_empty.ensures ∙ c.if-not-is_empty.false)) c.rest.ensures.bytes c.self.view_is in
-    ap (λ r. taken k (record { rest = r; flushed = s.flushed; lines = c.begin.new.self.lines })) begins.begun
-    ∙ line_first k begins.line (rest_of s.begun s.lines) s.flushed c.begin.new.self.lines s.lines.lines h none c.if-self.false begins.first ∙ ap (taken k) c.self.view_is
+    ap (λ r. output_taken k (record { rest = r; flushed = s.flushed; lines = c.begin.new.self.lines })) begins.begun
+    ∙ line_first k begins.line (rest_of s.begun s.lines) s.flushed c.begin.new.self.lines s.lines.lines h none c.if-self.false begins.first ∙ ap (output_taken k) c.self.view_is

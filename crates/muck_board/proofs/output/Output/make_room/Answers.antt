@@ -1,5 +1,5 @@
 use Rattle.std.proofs.Common.{◌∙◌, arith, ap, length, true}
-use Rattle.spec_live.specs.Output.{Output, lines_bytes}
+use Rattle.spec_live.specs.Output.{Output, sent_lines_bytes}
 use Rattle.muck_board.specs.inner.Bounded.{rest_of}
 use Rattle.muck_board.specs.inner.Waiting.{Waiting}
 use Rattle.muck_board.proofs.Outputs.{notice_most}
@@ -8,13 +8,13 @@ use Rattle.muck_board.proofs.output.Output.make_room.Goals as goal
 
 pub returns-then-len-room-clause-most : goal.returns-then-len-room-clause-most
 returns-then-len-room-clause-most c =
-    omega (arith, ap (λ (w : Waiting). length (lines_bytes w.lines)) c.keep_newest.ensures, newest_most c.args.room c.self.inside.lines.lines)
+    omega (arith, ap (λ (w : Waiting). length (sent_lines_bytes w.lines)) c.keep_newest.ensures, newest_most c.args.room c.self.inside.lines.lines)
 
 pub invariant_of-self : goal.invariant_of-self
 invariant_of-self c =
     let s = c.self.inside in
     let same = ap length (ap (rest_of s.begun) c.keep_newest.ensures ∙ rest_same s.begun s.lines _) in
-    let kept = ap (λ (w : Waiting). length (lines_bytes w.lines)) c.keep_newest.ensures in
+    let kept = ap (λ (w : Waiting). length (sent_lines_bytes w.lines)) c.keep_newest.ensures in
     record {
       within = c.self.invariant.within;
       rest = omega (arith, same, c.self.invariant.rest);

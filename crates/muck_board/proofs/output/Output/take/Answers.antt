@@ -1,5 +1,5 @@
 use Rattle.std.proofs.Common.{◌≡◌, ◌<◌, ◌≤◌, arith, ap, sym, ◌∙◌, refl, length, drop, length-drop}
-use Rattle.spec_live.specs.Output.{bytes_of, taken}
+use Rattle.spec_live.specs.Output.{bytes_of, output_taken}
 use Rattle.muck_board.proofs.Outputs.{taken_left, taken_more, taken_rest, took, rest_within}
 use Rattle.muck_board.proofs.output.Output.take.Goals as goal
 
@@ -25,7 +25,7 @@ loop-n-preserved c =
     let some : 0 < k = omega (arith, c.take_begun-n.ensures.count, c.if-not-begin.ensures.begun, inv.len, inv.within) in
     let behind : bytes_of c.begin.new.self ≡ drop n (bytes_of o) = c.begin.ensures.same ∙ ap bytes_of inv.left ∙ taken_left n o in
     record {
-      left = c.take_begun-n.ensures.rest ∙ sym (taken_rest k c.begin.new.self within) ∙ c.begin.ensures.taken k some ∙ ap (taken k) inv.left ∙ taken_more k n o;
+      left = c.take_begun-n.ensures.rest ∙ sym (taken_rest k c.begin.new.self within) ∙ c.begin.ensures.taken k some ∙ ap (output_taken k) inv.left ∙ taken_more k n o;
       there = omega (arith, within, rest_within c.begin.new.self, ap length behind, length-drop n (bytes_of o), inv.there);
       bytes = took n k (bytes_of o) _ _ c.begin.new.self behind within inv.bytes c.take_begun-n.ensures.bytes;
       within = omega (arith, c.take_begun-n.ensures.count, c.take_begun-n.ensures.len, inv.within);

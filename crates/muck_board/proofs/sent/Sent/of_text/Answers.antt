@@ -1,17 +1,17 @@
 use Rattle.std.proofs.Common.{List, ℕ, Some, ap, sym, ◌∙◌, ◌≤◌, ◌++◌, take, length, arith}
 use Rattle.std.specs.List.{slice_split}
 use Rattle.muck_model.specs.Bytes.{text_most}
-use Rattle.spec_live.specs.Output.{is_return, lines_bytes, sent_lines}
+use Rattle.spec_live.specs.Output.{is_return, sent_lines_bytes, sent_lines}
 use Rattle.muck_board.specs.inner.Pieces.{pieces_after}
 use Rattle.muck_board.proofs.Ended.{line_sent_on, all_lines_sent, text_is}
 use Rattle.muck_board.proofs.sent.Sent.of_text.Goals as goal
 
 pub loop-rest-init : goal.loop-rest-init
-loop-rest-init c = ap (λ (l : List ℕ). l ++ lines_bytes (pieces_after (Some c.cut-front.result))) c.in_ok-bytes.ensures.items ∙ ap (λ t. lines_bytes (slice_split is_return t)) c.cut-front.ensures.front
+loop-rest-init c = ap (λ (l : List ℕ). l ++ sent_lines_bytes (pieces_after (Some c.cut-front.result))) c.in_ok-bytes.ensures.items ∙ ap (λ t. sent_lines_bytes (slice_split is_return t)) c.cut-front.ensures.front
 
 pub loop-rest-preserved : goal.loop-rest-preserved
 loop-rest-preserved c =
-    line_sent_on c.loop-rest.bytes.items _ _ _ _ _ c.in_ok-add_line.ensures c.cut_piece.ensures.pieces (ap (λ r. c.loop-rest.bytes.items ++ lines_bytes (pieces_after r)) (sym c.in-Some.is) ∙ c.loop-rest.invariant)
+    line_sent_on c.loop-rest.bytes.items _ _ _ _ _ c.in_ok-add_line.ensures c.cut_piece.ensures.pieces (ap (λ r. c.loop-rest.bytes.items ++ sent_lines_bytes (pieces_after r)) (sym c.in-Some.is) ∙ c.loop-rest.invariant)
 
 pub invariant_of-result : goal.invariant_of-result
 invariant_of-result c =

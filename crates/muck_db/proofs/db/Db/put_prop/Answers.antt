@@ -1,6 +1,6 @@
 use Rattle.std.proofs.Common.{sym, ◌∙◌, subst, List, Ok, refl}
 use Rattle.spec_live.specs.Objects.{Entry}
-use Rattle.spec_live.specs.Setting.{Tries, set_at, any, checked, with_prop}
+use Rattle.spec_live.specs.Setting.{Tries, set_at, every_number, checked, with_prop}
 use Rattle.spec_live.proofs.SettingLaws.{consistent_stored}
 use Rattle.muck_db.specs.inner.Slots.{entries_of}
 use Rattle.muck_db.proofs.LimitLaws.{limits_stored}
@@ -18,5 +18,5 @@ invariant_of-self-2 c = record {
 
 pub returns : goal.returns
 returns c =
-    let P : List Entry → Type 0 = λ z. Tries (set_at (with_prop c.args.path c.args.value)) (checked any c.args.d z) z (entries_of c.put_prop.new.slots.items) (Ok tt) in
+    let P : List Entry → Type 0 = λ z. Tries (set_at (with_prop c.args.path c.args.value)) (checked every_number c.args.d z) z (entries_of c.put_prop.new.slots.items) (Ok tt) in
     subst P c.self.view_is (tried (with_prop c.args.path c.args.value) _ c.in_ok-k.k _ _ (sym c.check_any.ensures.is ∙ c.in_ok-k.was) (entries_set c.in_ok-k.k (with_prop c.args.path c.args.value) _ _ c.in_ok-k.ensures.alive c.in_ok-put_prop.ensures.ok))

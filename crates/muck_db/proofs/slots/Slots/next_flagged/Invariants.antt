@@ -1,4 +1,4 @@
-use Rattle.std.proofs.Common.{◌≡◌, ℕ, ◌<◌, ◌≤◌, ◌-◌}
+use Rattle.std.proofs.Common.{ℕ, ◌<◌, ◌≤◌, ◌-◌}
 use Rattle.muck_db.specs.inner.Blocks.{LacksAt}
 use Rattle.muck_db.proofs.slots.Slots.next_flagged.Given as goal
 

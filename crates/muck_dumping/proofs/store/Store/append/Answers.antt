@@ -1,5 +1,6 @@
-use Rattle.std.proofs.Common.{◌≡◌, ◌<◌, ◌≤◌, ℕ, true, length, Some, Ok, Err, refl, sym, ap, ◌∙◌, subst, arith}
-use Rattle.muck_log.specs.World.{World}
+use Rattle.std.proofs.Common.{◌≡◌, ◌≤◌, ℕ, true, length, Some, Ok, Err, refl, sym, ap, ◌∙◌, subst, arith}
+use Rattle.muck_laws.proofs.Numbers.{too_few}
+use Rattle.muck_log.specs.World.{StoredWorld}
 use Rattle.muck_log.specs.Store.{LogState}
 use Rattle.muck_log.specs.Append.{base_of, payload_of}
 use Rattle.muck_log.proofs.Deltas.{left_payload}
@@ -12,9 +13,6 @@ use Rattle.muck_dumping.proofs.Marks.{unmounted_holds, appended_holds}
 use Rattle.muck_dumping.proofs.Mounting.{one_log}
 use Rattle.muck_dumping.proofs.Knowing.{next_mounted, next_unmounted}
 use Rattle.muck_dumping.proofs.store.Store.append.Goals as goal
-
-too_many : (n size count : ℕ) → size ≡ count → size < n → n ≤ count → ⊥
-too_many n size count is more le = absurd (omega (arith, is, more, le))
 
 -- what the log asks of its caller
 
@@ -37,7 +35,7 @@ pub returns-then-not-is_of_world-clause-wrote : goal.returns-then-not-is_of_worl
 returns-then-not-is_of_world-clause-wrote g c = λ log es tune tells is left tuned count fit two covers.
     let n : ℕ = length c.in-Some.log.chosen.held.world.objects in
     let same : n ≡ length log.chosen.held.world.objects = ap (λ (l : LogState). length l.chosen.held.world.objects) (one_log c.args.self.now.log c.in-Some.log log c.in-Some.is is) in
-    absurd (too_many n c.args.pending.size (length es) count (c.is_of_world.ensures.more c.if-not-is_of_world.true) (omega (arith, same, covers)))
+    absurd (too_few n c.args.pending.size (length es) count (c.is_of_world.ensures.more c.if-not-is_of_world.true) (omega (arith, same, covers)))
 
 -- the next dump has the number of this one, where it failed
 
@@ -70,7 +68,7 @@ returns-in-Err-clause-marks g c = λ es tune b. unmounted_holds c.close-in-Err.n
 pub returns-in-Ok-clause-wrote : goal.returns-in-Ok-clause-wrote
 returns-in-Ok-clause-wrote g c = λ log es tune tells is left_out tuned count fit two covers.
     let m = c.requires.mounted c.in-Some.log tells c.in-Some.is in
-    let made : World = record { objects = persist es; tune = tune } in
+    let made : StoredWorld = record { objects = persist es; tune = tune } in
     let P : LogState → Type 0 = λ l. LeavesOut (base_of l) (persist es) c.args.pending.batch.records → length l.chosen.held.world.objects ≤ length es → Appended g.D.Disk.seen g.D.Disk.moment g.D.Disk.images (payload_of l (world_batch es tune)) made l (Some c.append.new.self) c.args.first.now c.args.second.now c.append.new.first c.append.new.second (Ok tt) in
     subst P (one_log c.args.self.now.log c.in-Some.log log c.in-Some.is is)
     (λ left fewer. appended_ok g.D.Disk.seen g.D.Disk.moment g.D.Disk.images c.in-Some.log c.append.new.self c.args.first.now c.args.second.now c.append.new.first c.append.new.second c.args.pending.batch made m
@@ -83,7 +81,7 @@ returns-in-Ok-clause-wrote g c = λ log es tune tells is left_out tuned count fi
 pub returns-in-Err-clause-wrote : goal.returns-in-Err-clause-wrote
 returns-in-Err-clause-wrote g c = λ log es tune tells is left_out tuned count fit two covers.
     let m = c.requires.mounted c.in-Some.log tells c.in-Some.is in
-    let made : World = record { objects = persist es; tune = tune } in
+    let made : StoredWorld = record { objects = persist es; tune = tune } in
     let P : LogState → Type 0 = λ l. LeavesOut (base_of l) (persist es) c.args.pending.batch.records → length l.chosen.held.world.objects ≤ length es → Appended g.D.Disk.seen g.D.Disk.moment g.D.Disk.images (payload_of l (world_batch es tune)) made l (c.close-in-Err.new.self.log) c.args.first.now c.args.second.now c.append.new.first c.append.new.second (Err c.in-Err.fault) in
     subst P (one_log c.args.self.now.log c.in-Some.log log c.in-Some.is is)
     (λ left fewer. appended_err g.D.Disk.seen g.D.Disk.moment g.D.Disk.images c.in-Some.log c.append.new.self c.args.first.now c.args.second.now c.append.new.first c.append.new.second c.args.pending.batch made m

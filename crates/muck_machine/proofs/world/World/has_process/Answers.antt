@@ -1,10 +1,10 @@
 use Rattle.std.proofs.Common.{◌≡◌, ◌∙◌, ap, rules}
-use Rattle.spec_events.specs.Steps.{is_there}
+use Rattle.spec_events.specs.Steps.{is_process_there}
 use Rattle.muck_turns.specs.contracts.state.State as state
 use Rattle.muck_machine.proofs.Keepings.{reads}
 use Rattle.muck_machine.proofs.world.World.has_process.Goals as goal
 
 pub returns : goal.returns
 returns c =
-    let here : c.is_some.result ≡ is_there c.args.pid (state.the_view c.state.inside) = search rules in
-    reads (is_there c.args.pid) _ c.self.inside.past _ _ c.self.invariant c.self.view_is (here ∙ ap (is_there c.args.pid) c.state.view_is)
+    let here : c.is_some.result ≡ is_process_there c.args.pid (state.the_view c.state.inside) = search rules in
+    reads (is_process_there c.args.pid) _ c.self.inside.past _ _ c.self.invariant c.self.view_is (here ∙ ap (is_process_there c.args.pid) c.state.view_is)

@@ -1,7 +1,7 @@
 use Rattle.std.proofs.Common.{refl, sym, ◌∙◌}
+use Rattle.muck_laws.proofs.Results.{on_ok_as}
 use Rattle.muck_turns.specs.contracts.state.State as state
 use Rattle.muck_machine.proofs.Keepings.{keeps_concluded}
-use Rattle.muck_turns.proofs.Turns.{on_ok_as}
 use Rattle.muck_machine.proofs.Taken.{opened_so}
 use Rattle.muck_machine.proofs.world.World.opened.Goals as goal
 

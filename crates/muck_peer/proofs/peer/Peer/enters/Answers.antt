@@ -1,9 +1,10 @@
 use Rattle.std.proofs.Common.{true≢false, ap, sym, ◌∙◌, refl}
+use Rattle.muck_laws.proofs.Truths.{did_so}
 use Rattle.muck_model.specs.declared.event.Event.TheVariants.{Input}
 use Rattle.spec_events.specs.Steps.{is_lawful}
 use Rattle.spec_events.specs.Histories.{now, entered, by_porter}
 use Rattle.spec_serve.specs.inner.Keeping.{Peer}
-use Rattle.muck_peer.proofs.Stepping.{step_heard, did_so}
+use Rattle.muck_peer.proofs.Stepping.{step_heard}
 use Rattle.muck_peer.proofs.peer.Peer.enters.Goals as goal
 
 pub returns-then-yes : goal.returns-then-yes

@@ -1,10 +1,10 @@
 use Rattle.std.proofs.Common.{ap, sym, ◌∙◌}
 use Rattle.std.proofs.lemmas.Bool.{both_ways, not-true}
+use Rattle.muck_laws.proofs.Lists.{stable}
 use Rattle.spec_serve.specs.inner.Keeping.{Peer}
 use Rattle.spec_serve.proofs.Causes.{heard_none, heard_not}
 use Rattle.muck_machine.specs.declared.world.situation.Situation.{Situation}
 use Rattle.muck_machine.proofs.Situated.{hears_lawful}
-use Rattle.muck_peer.proofs.Stepping.{stable}
 use Rattle.muck_peer.proofs.peer.Peer.has_no_more.Goals as goal
 
 pub returns-then-not-has_line : goal.returns-then-not-has_line

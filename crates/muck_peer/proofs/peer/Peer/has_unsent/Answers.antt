@@ -1,6 +1,6 @@
 use Rattle.std.proofs.Common.{ap, sym, ◌∙◌}
+use Rattle.muck_laws.proofs.Parts.{none_unsent, some_unsent}
 use Rattle.spec_serve.specs.inner.Keeping.{Peer}
-use Rattle.muck_peer.proofs.Stepping.{some_unsent, none_unsent}
 use Rattle.muck_peer.proofs.peer.Peer.has_unsent.Goals as goal
 
 pub returns : goal.returns

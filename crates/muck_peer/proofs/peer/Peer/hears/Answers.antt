@@ -1,4 +1,5 @@
 use Rattle.std.proofs.Common.{◌≡◌, true, take, ap, ◌∙◌, refl}
+use Rattle.muck_laws.proofs.Results.{on_err_given}
 use Rattle.muck_links.specs.inner.Cutting.{fed}
 use Rattle.muck_links.specs.Sessions.{on_session}
 use Rattle.spec_serve.specs.Marks.{LinksNote}
@@ -6,7 +7,6 @@ use Rattle.spec_serve.specs.inner.Keeping.{Peer}
 use Rattle.muck_peer.specs.Moves.{LinkLoss}
 use Rattle.muck_peer.proofs.Stepping.{link_same, link_read, link_end, link_fault, link_lost}
 use Rattle.muck_peer.proofs.peer.Peer.hears.Goals as goal
-use Rattle.muck_io.proofs.Taken.{on_err}
 
 pub returns-in_ok-feed-in-Got-clause-ok : goal.returns-in_ok-feed-in-Got-clause-ok
 returns-in_ok-feed-in-Got-clause-ok g c t counted =
@@ -25,4 +25,4 @@ pub returns-in_err-feed-in-Got-clause-err : goal.returns-in_err-feed-in-Got-clau
 returns-in_err-feed-in-Got-clause-err g c =
     let lost : g.L.Links.tells c.args.links.now ≡ true → (counted : LinksNote) → LinkLoss counted c.args.self.now (g.L.Links.told c.args.links.now) (g.L.Links.told c.read.new.self) =
     λ t counted. link_lost counted _ _ _ _ (take c.in-Got.n c.read.new.buf) c.self.view_is (c.in-Got.ensures.told t) in
-    on_err _ _ lost
+    on_err_given _ _ lost

@@ -1,9 +1,10 @@
 use Rattle.std.proofs.Common.{◌≡◌, ap, sym, ◌∙◌, arith, length}
 use Rattle.std.proofs.lemmas.Bool.{both_ways, not-true}
+use Rattle.muck_laws.proofs.Lists.{stable}
 use Rattle.spec_events.specs.World.{queue_of}
 use Rattle.spec_events.specs.Histories.{now}
 use Rattle.muck_machine.specs.declared.world.situation.Situation.{Situation}
-use Rattle.muck_peer.proofs.Stepping.{off_stopping, off_idle, stable}
+use Rattle.muck_peer.proofs.Stepping.{off_stopping, off_idle}
 use Rattle.muck_peer.proofs.peer.Peer.is_done.Goals as goal
 
 pub returns-then-is_stopping : goal.returns-then-is_stopping

@@ -1,9 +1,9 @@
 use Rattle.std.proofs.Common.{◌≡◌, ap, sym, ◌∙◌, arith, length}
 use Rattle.std.proofs.lemmas.Bool.{both_ways}
+use Rattle.muck_laws.proofs.Lists.{stable}
 use Rattle.spec_events.specs.World.{queue_of}
 use Rattle.spec_serve.proofs.Causes.{cause_left}
 use Rattle.muck_machine.specs.declared.world.situation.Situation.{Situation}
-use Rattle.muck_peer.proofs.Stepping.{stable}
 use Rattle.muck_peer.proofs.peer.Peer.may_leave.Goals as goal
 
 pub returns : goal.returns

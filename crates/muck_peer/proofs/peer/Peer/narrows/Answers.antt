@@ -1,5 +1,5 @@
 use Rattle.std.proofs.lemmas.Bool.{both_ways}
-use Rattle.muck_peer.proofs.Stepping.{stable}
+use Rattle.muck_laws.proofs.Lists.{stable}
 use Rattle.muck_peer.proofs.peer.Peer.narrows.Goals as goal
 
 pub has_room-requires : goal.has_room-requires

@@ -1,6 +1,6 @@
 use Rattle.std.proofs.Common.{arith, refl}
 use Rattle.std.proofs.lemmas.Bool.{both_ways}
-use Rattle.muck_peer.proofs.Stepping.{stable}
+use Rattle.muck_laws.proofs.Lists.{stable}
 use Rattle.muck_peer.proofs.peer.Peer.takeable.Goals as goal
 
 pub returns-then-has_unsent : goal.returns-then-has_unsent

@@ -1,10 +1,11 @@
 use Rattle.std.proofs.Common.{rules, ap, sym, ◌∙◌, refl, subst, ◌<◌, arith, take, length}
 use Rattle.std.proofs.lemmas.List.{with_items_is}
+use Rattle.muck_laws.proofs.Numbers.{took_count, took_some}
 use Rattle.muck_model.specs.declared.event.Event.TheVariants.{Take}
 use Rattle.spec_events.specs.World.{queue_of}
 use Rattle.spec_events.specs.Histories.{now, entered, by_porter}
 use Rattle.spec_serve.specs.inner.Keeping.{Peer}
-use Rattle.muck_peer.proofs.Stepping.{step_taken, took_some, took_count}
+use Rattle.muck_peer.proofs.Stepping.{step_taken}
 use Rattle.muck_peer.proofs.peer.Peer.takes_some.Goals as goal
 
 pub returns : goal.returns

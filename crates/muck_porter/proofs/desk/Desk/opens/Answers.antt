@@ -1,4 +1,5 @@
 use Rattle.std.proofs.Common.{List, [], ◌∷◌, ◌++◌, refl, sym, ap, ◌∙◌, subst}
+use Rattle.muck_laws.proofs.Numbers.{at_most}
 use Rattle.spec_events.specs.Histories.{now}
 use Rattle.spec_serve.specs.inner.Keeping.{Peer}
 use Rattle.muck_porter.specs.declared.deeds.Did.{Did}
@@ -9,7 +10,7 @@ use Rattle.muck_porter.specs.inner.Moves.{number_in}
 use Rattle.muck_porter.specs.inner.Desks.{stand}
 use Rattle.muck_porter.proofs.Stages.{formed_free}
 use Rattle.muck_porter.proofs.Carrying.{promised_in}
-use Rattle.muck_porter.proofs.Going.{at_most, still_with}
+use Rattle.muck_porter.proofs.Going.{still_with}
 use Rattle.muck_porter.proofs.Holding.{spent_goes, opened_goes, opened_late, died_free}
 use Rattle.muck_porter.proofs.Linking.{lost_goes}
 use Rattle.muck_porter.proofs.Turning.{turn_entry, turn_made}

@@ -1,5 +1,5 @@
+use Rattle.muck_laws.proofs.Numbers.{at_most}
 use Rattle.muck_porter.specs.inner.Desks.{stand}
-use Rattle.muck_porter.proofs.Going.{at_most}
 use Rattle.muck_porter.proofs.Linking.{tended_goes, untended_goes}
 use Rattle.muck_porter.proofs.desk.Desk.tends.Goals as goal
 

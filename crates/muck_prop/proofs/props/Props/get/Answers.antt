@@ -1,7 +1,8 @@
 use Rattle.std.proofs.Common.{◌≡◌, false, sym, ◌∙◌}
 use Rattle.std.specs.FinMap.{get}
+use Rattle.muck_laws.proofs.Options.{on_some}
 use Rattle.muck_prop.specs.Store.{is_nothing}
-use Rattle.muck_prop.proofs.Maps.{get_is, found_is_kept, on_some}
+use Rattle.muck_prop.proofs.Maps.{get_is, found_is_kept}
 use Rattle.muck_prop.proofs.props.Props.get.Goals as goal
 
 pub returns-clause-value : goal.returns-clause-value

@@ -1,5 +1,5 @@
 use Rattle.std.proofs.Common.{◌++◌, ◌∷◌, [], sym, ◌∙◌, ap, append_assoc, arith}
-use Rattle.muck_prop.proofs.Texts.{join_more, join_first}
+use Rattle.muck_laws.proofs.Texts.{join_first, join_more}
 use Rattle.muck_prop.proofs.segments.Segments.text.Goals as goal
 use Rattle.muck_prop.proofs.segments.Segments.text.Goals.{then-i-gt0+in_ok-push, else-i-gt0}
 

@@ -3,7 +3,7 @@ use Rattle.std.proofs.lemmas.Int.{to_z-of_z}
 use Rattle.muck_queue.specs.Queues.{standing}
 use Rattle.spec_events.specs.inner.Stints.{many_counted}
 use Rattle.spec_events.specs.World.{World}
-use Rattle.spec_events.specs.Slices.{acting, stands_at, ended_one}
+use Rattle.spec_events.specs.Slices.{acting, process_stands_at, ended_one}
 use Rattle.muck_turns.specs.contracts.state.State as state
 use Rattle.muck_turns.proofs.Slices.{fewer_so, going_so, acts_so, asking_so, asked_so, ended_so, faulted_so}
 use Rattle.muck_turns.proofs.state.State.run.Goals as goal
@@ -26,7 +26,7 @@ returns-in-Going c =
     let h = c.ranges.pid in
     going_so c.args.pid c.args.agent c.args.most c.in_ok-ran.field-0.units c.args.running c.args.self.now _ c.in_ok-ran.field-0.ran c.in_ok-ran.ensures.ran c.in_ok-ran.ensures.units c.in-Going.next c.from.result c.in-Going.is
     (ap (λ q. state.the_view (record c.self.inside { queue = q })) ((simp to_z-of_z at c.put_back.ensures) ∙ ap (standing c.args.pid (Some c.in-Going.next)) (simp to_z-of_z at c.count.ensures))
-    ∙ ap (λ y. stands_at c.args.pid c.in-Going.next (many_counted c.in_ok-ran.field-0.units c.args.pid y)) c.self.view_is)
+    ∙ ap (λ y. process_stands_at c.args.pid c.in-Going.next (many_counted c.in_ok-ran.field-0.units c.args.pid y)) c.self.view_is)
     c.from.ensures
 
 pub ask-requires-clause-actor : goal.ask-requires-clause-actor

@@ -1,18 +1,8 @@
-use Rattle.std.proofs.Common.{ap, ◌∙◌, arith}
 use Rattle.std.proofs.lemmas.Int.{to_z-of_z}
-use Rattle.muck_queue.specs.Queues.{released, on_process, woken}
-use Rattle.spec_events.specs.World.{World, on_queue}
-use Rattle.muck_turns.specs.contracts.state.State as state
-use Rattle.muck_turns.proofs.Slices.{slice_so}
+use Rattle.muck_turns.proofs.Hooks.{slice_hooked}
 use Rattle.muck_turns.proofs.state.State.slice.Goals as goal
 
 pub returns : goal.returns
 returns c =
     let h = c.ranges.pid in
-    let instr = c.from.ensures in
-    let section = c.from-2.ensures in
-    ap (λ q. state.the_view (record c.self-2.inside { queue = q })) (simp to_z-of_z at c.release.ensures)
-    ∙ ap (on_queue (released c.args.pid)) c.self-2.view_is
-    ∙ slice_so c.args.pid c.tune-tune.result _ c.args.self.now _ c.take_units.new.self (c.tune-tune.ensures ∙ ap (λ (w : World). w.live.board.tune) c.self.view_is) (omega arith)
-    (ap (λ q. state.the_view (record c.self.inside { queue = q })) (simp to_z-of_z at c.wake.ensures) ∙ ap (λ (w : World). on_queue (on_process c.args.pid (woken w.moment)) w) c.self.view_is)
-    (simp to_z-of_z at c.in_ok-take_units.ensures)
+    slice_hooked c.args.pid c.args.self.now c.take_slice.new.self c.hook.new.self c.hook.result c.requires.told c.requires.still (simp to_z-of_z at c.in_ok-take_slice.ensures) c.hook.ensures

@@ -1,28 +1,14 @@
-use Rattle.std.proofs.Common.{ap, ◌∙◌, arith}
 use Rattle.std.proofs.lemmas.Int.{to_z-of_z}
-use Rattle.muck_queue.specs.Queues.{released, on_process, woken}
-use Rattle.spec_events.specs.World.{World, on_queue}
-use Rattle.muck_turns.specs.contracts.state.State as state
-use Rattle.muck_turns.proofs.Slices.{slice_so}
-use Rattle.muck_turns.proofs.Seeing.{slice_told}
+use Rattle.muck_laws.proofs.Results.{on_ok_turns}
+use Rattle.muck_turns.proofs.Hooks.{slice_hooked}
 use Rattle.muck_turns.proofs.state.State.slice_seen.Goals as goal
 
 pub returns-clause-same : goal.returns-clause-same
 returns-clause-same g c =
     let h = c.ranges.pid in
-    let instr = c.from.ensures in
-    let section = c.from-2.ensures in
-    ap (λ q. state.the_view (record c.self-2.inside { queue = q })) (simp to_z-of_z at c.release.ensures)
-    ∙ ap (on_queue (released c.args.pid)) c.self-2.view_is
-    ∙ slice_so c.args.pid c.tune-tune.result _ c.args.self.now _ c.take_seen.new.self (c.tune-tune.ensures ∙ ap (λ (w : World). w.live.board.tune) c.self.view_is) (omega arith)
-    (ap (λ q. state.the_view (record c.self.inside { queue = q })) (simp to_z-of_z at c.wake.ensures) ∙ ap (λ (w : World). on_queue (on_process c.args.pid (woken w.moment)) w) c.self.view_is)
-    (simp to_z-of_z at c.in_ok-take_seen.ensures.same)
+    slice_hooked c.args.pid c.args.self.now c.take_slice_seen.new.self c.hook.new.self c.hook.result c.requires.told c.requires.still (simp to_z-of_z at c.in_ok-take_slice_seen.ensures.same) c.hook.ensures
 
 pub returns-clause-seen : goal.returns-clause-seen
 returns-clause-seen g c =
     let h = c.ranges.pid in
-    let instr = c.from.ensures in
-    let section = c.from-2.ensures in
-    slice_told g.W.Watch.tells c.args.pid c.tune-tune.result _ c.args.self.now _ c.args.watch.now c.take_seen.new.watch (c.tune-tune.ensures ∙ ap (λ (w : World). w.live.board.tune) c.self.view_is) (omega arith)
-    (ap (λ q. state.the_view (record c.self.inside { queue = q })) (simp to_z-of_z at c.wake.ensures) ∙ ap (λ (w : World). on_queue (on_process c.args.pid (woken w.moment)) w) c.self.view_is)
-    (simp to_z-of_z at c.in_ok-take_seen.ensures.seen)
+    on_ok_turns c.hook.result _ (simp to_z-of_z at c.in_ok-take_slice_seen.ensures.seen)

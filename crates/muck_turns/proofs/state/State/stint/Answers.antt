@@ -1,6 +1,6 @@
 use Rattle.std.proofs.Common.{ap, ◌∙◌, sym, subst}
 use Rattle.std.proofs.lemmas.Int.{to_z-of_z}
-use Rattle.spec_events.specs.Slices.{stands_at, broken}
+use Rattle.spec_events.specs.Slices.{process_stands_at, broken}
 use Rattle.muck_turns.specs.inner.Limits.{Runs}
 use Rattle.muck_turns.specs.contracts.state.State as state
 use Rattle.muck_turns.proofs.Slices.{none_so, allows_as, through_so, spent_so, goes_so, stops_so, left_by}
@@ -17,7 +17,7 @@ returns-in-Through c =
     through_so c.args.tune.now c.args.pid c.in-Some.agent c.args.left c.in-Some.running c.args.self.now _ (sym (simp to_z-of_z at c.in-Some.ensures.seat)) c.next_allowance.result
     (allows_as c.args.tune.now c.args.pid c.args.left c.in-Some.agent c.in-Some.running c.args.self.now c.lend.new.self c.in_ok-actor.actor c.next_allowance.result (simp to_z-of_z at c.lend.ensures.out) c.in_ok-actor.ensures c.next_allowance.ensures)
     c.in-Through.is
-    (ap (λ q. state.the_view (record c.self.inside { queue = q })) (simp to_z-of_z at c.put_back.ensures) ∙ ap (stands_at c.args.pid c.in-Some.running) (c.self.view_is ∙ (simp to_z-of_z at c.lend.ensures.out)))
+    (ap (λ q. state.the_view (record c.self.inside { queue = q })) (simp to_z-of_z at c.put_back.ensures) ∙ ap (process_stands_at c.args.pid c.in-Some.running) (c.self.view_is ∙ (simp to_z-of_z at c.lend.ensures.out)))
 
 pub returns-in_ok-end_broken-in-Spent : goal.returns-in_ok-end_broken-in-Spent
 returns-in_ok-end_broken-in-Spent c =

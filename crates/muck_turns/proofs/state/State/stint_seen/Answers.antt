@@ -1,6 +1,6 @@
 use Rattle.std.proofs.Common.{ap, ◌∙◌, sym, subst, refl, arith}
 use Rattle.std.proofs.lemmas.Int.{to_z-of_z}
-use Rattle.spec_events.specs.Slices.{acting, stands_at, broken}
+use Rattle.spec_events.specs.Slices.{acting, process_stands_at, broken}
 use Rattle.muck_turns.specs.declared.state.limits.Allowance.TheVariants.{Units}
 use Rattle.muck_turns.specs.inner.Limits.{Allows, Runs}
 use Rattle.muck_turns.specs.contracts.state.State as state
@@ -24,7 +24,7 @@ returns-in-Through-clause-stops g c =
     through_so c.args.tune.now c.args.pid c.in-Some.agent c.args.left c.in-Some.running c.args.self.now _ (sym (simp to_z-of_z at c.in-Some.ensures.seat)) c.next_allowance.result
     (allows_as c.args.tune.now c.args.pid c.args.left c.in-Some.agent c.in-Some.running c.args.self.now c.lend.new.self c.in_ok-actor.actor c.next_allowance.result (simp to_z-of_z at c.lend.ensures.out) c.in_ok-actor.ensures c.next_allowance.ensures)
     c.in-Through.is
-    (ap (λ q. state.the_view (record c.self.inside { queue = q })) (simp to_z-of_z at c.put_back.ensures) ∙ ap (stands_at c.args.pid c.in-Some.running) (c.self.view_is ∙ (simp to_z-of_z at c.lend.ensures.out)))
+    (ap (λ q. state.the_view (record c.self.inside { queue = q })) (simp to_z-of_z at c.put_back.ensures) ∙ ap (process_stands_at c.args.pid c.in-Some.running) (c.self.view_is ∙ (simp to_z-of_z at c.lend.ensures.out)))
 
 pub returns-in-Through-clause-seen : goal.returns-in-Through-clause-seen
 returns-in-Through-clause-seen g c =

@@ -1,5 +1,5 @@
 use Rattle.std.proofs.Common.{ap, subst, sym, ◌∙◌}
-use Rattle.muf_model.specs.Source.{passed}
+use Rattle.muf_model.specs.Source.{item_passed}
 use Rattle.muf_running.specs.inner.Fitting.{IsAtPrimitive}
 use Rattle.muck_turns.proofs.state.deeds.passed.Goals as goal
 
@@ -14,4 +14,4 @@ pass-requires c =
     subst (λ t. IsAtPrimitive t.now) (sym (c.rejoin-next.ensures f s apart differs)) at
 
 pub returns : goal.returns
-returns c f s apart differs = c.pass.ensures ∙ ap (λ t. passed t) (c.rejoin-next.ensures f s apart differs)
+returns c f s apart differs = c.pass.ensures ∙ ap (λ t. item_passed t) (c.rejoin-next.ensures f s apart differs)

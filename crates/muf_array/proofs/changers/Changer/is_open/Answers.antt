@@ -1,8 +1,9 @@
 use Rattle.std.proofs.Common.{sym, subst}
 use Rattle.std.specs.Prelude.{IfOk, IsTrue}
+use Rattle.muck_laws.proofs.Results.{open_where}
 use Rattle.muf_frame.specs.inner.Shown.{flat}
 use Rattle.muf_array.specs.inner.Open.{IsOpen}
-use Rattle.muf_array.proofs.Opening.{set_opens, insert_opens, append_opens, delete_opens, open_where}
+use Rattle.muf_array.proofs.Opening.{set_opens, insert_opens, append_opens, delete_opens}
 use Rattle.muf_array.proofs.changers.Changer.is_open.Goals as goal
 
 pub returns-in-SetItem : goal.returns-in-SetItem

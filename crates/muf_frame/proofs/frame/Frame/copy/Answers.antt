@@ -1,7 +1,8 @@
 use Rattle.std.proofs.Common.{◌≡◌, ap, sym, refl, ◌∙◌, map, reverse, arith}
+use Rattle.muck_laws.proofs.Turned.{map_reversed}
 use Rattle.muf_model.specs.inner.View.{view}
 use Rattle.muf_frame.specs.inner.Shown.{flat_mark, outer_of, locked_by, calls_by, opened_by}
-use Rattle.muf_frame.proofs.Alike.{map_reversed, guards_fit}
+use Rattle.muf_frame.proofs.Alike.{guards_fit}
 use Rattle.muf_frame.proofs.frame.Frame.copy.Goals as goal
 
 pub invariant_of-result : goal.invariant_of-result

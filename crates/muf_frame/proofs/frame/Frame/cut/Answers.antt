@@ -1,6 +1,6 @@
 use Rattle.std.proofs.Common.{refl}
 use Rattle.std.proofs.lemmas.List.{length-reverse}
-use Rattle.muf_frame.proofs.Tops.{below_height}
+use Rattle.muck_laws.proofs.Turned.{below_height}
 use Rattle.muf_frame.proofs.frame.Frame.cut.Goals as goal
 
 pub returns-clause-value : goal.returns-clause-value

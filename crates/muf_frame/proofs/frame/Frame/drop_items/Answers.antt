@@ -1,5 +1,5 @@
 use Rattle.std.proofs.Common.{length, refl, ap, sym, ◌∙◌, arith}
-use Rattle.muf_frame.proofs.Tops.{below_depth}
+use Rattle.muck_laws.proofs.Turned.{below_depth}
 use Rattle.muf_frame.proofs.frame.Frame.drop_items.Goals as goal
 
 pub returns-clause-value : goal.returns-clause-value

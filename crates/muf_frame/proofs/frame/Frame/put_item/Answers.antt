@@ -1,5 +1,5 @@
 use Rattle.std.proofs.Common.{length, refl, ap, sym, ◌∙◌, arith}
-use Rattle.muf_frame.proofs.Tops.{inserted}
+use Rattle.muck_laws.proofs.Turned.{inserted}
 use Rattle.muf_frame.proofs.frame.Frame.put_item.Goals as goal
 
 pub returns : goal.returns

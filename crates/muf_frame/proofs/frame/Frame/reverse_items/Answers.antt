@@ -1,6 +1,6 @@
 use Rattle.std.proofs.Common.{length, refl, ap, sym, ◌∙◌, arith}
 use Rattle.std.proofs.lemmas.List.{with_items_is}
-use Rattle.muf_frame.proofs.Tops.{reversed_top}
+use Rattle.muck_laws.proofs.Turned.{reversed_top}
 use Rattle.muf_frame.proofs.frame.Frame.reverse_items.Goals as goal
 
 pub returns : goal.returns

@@ -1,5 +1,5 @@
 use Rattle.std.proofs.Common.{length, refl, ap, sym, ◌∙◌, arith}
-use Rattle.muf_frame.proofs.Tops.{removed}
+use Rattle.muck_laws.proofs.Turned.{removed}
 use Rattle.muf_frame.proofs.frame.Frame.take_item.Goals as goal
 
 pub returns-clause-rest : goal.returns-clause-rest

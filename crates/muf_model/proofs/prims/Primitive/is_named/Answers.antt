@@ -2,7 +2,7 @@ use Rattle.std.proofs.Common.{ap, ◌∙◌}
 use Rattle.std.specs.Prelude.{map}
 use Rattle.std.specs.Char.{to_ascii_lowercase}
 use Rattle.std.specs.Str.{bytes_eq}
-use Rattle.muf_model.proofs.Naming.{tests_equal}
+use Rattle.muck_laws.proofs.Texts.{tests_equal}
 use Rattle.muf_model.proofs.prims.Primitive.is_named.Goals as goal
 
 pub returns : goal.returns

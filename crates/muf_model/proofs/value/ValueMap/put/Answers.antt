@@ -2,7 +2,7 @@ use Rattle.std.proofs.Common.{rules, ap, ◌∙◌, map}
 use Rattle.muf_model.specs.Datum.{pairs_of}
 use Rattle.muf_model.specs.inner.View.{view, pair_view}
 use Rattle.muf_model.specs.Measures.{pairs_weight, pairs_nesting}
-use Rattle.muf_model.specs.Entries.{entry_of, with_entry}
+use Rattle.muf_model.specs.Entries.{value_of_key, with_entry}
 use Rattle.muf_model.proofs.Entries.{found, others}
 use Rattle.muf_model.proofs.Sized.{entry_fits}
 use Rattle.muf_model.proofs.Edited.{keys_rise}
@@ -17,8 +17,8 @@ invariant_of-self-2 c =
 
 pub returns-clause-found : goal.returns-clause-found
 returns-clause-found c =
-    ap (entry_of c.args.key) c.in_ok-put_entry.ensures.ok ∙ found c.args.key (view c.args.value) (map pair_view c.self.inside.pairs.items)
+    ap (value_of_key c.args.key) c.in_ok-put_entry.ensures.ok ∙ found c.args.key (view c.args.value) (map pair_view c.self.inside.pairs.items)
 
 pub returns-clause-others : goal.returns-clause-others
 returns-clause-others c =
-    λ k h. ap (entry_of k) c.in_ok-put_entry.ensures.ok ∙ others k c.args.key (view c.args.value) (map pair_view c.self.inside.pairs.items) h ∙ ap (entry_of k) c.self.view_is
+    λ k h. ap (value_of_key k) c.in_ok-put_entry.ensures.ok ∙ others k c.args.key (view c.args.value) (map pair_view c.self.inside.pairs.items) h ∙ ap (value_of_key k) c.self.view_is

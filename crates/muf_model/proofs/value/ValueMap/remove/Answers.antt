@@ -4,7 +4,7 @@ use Rattle.std.specs.List.{remove}
 use Rattle.muf_model.specs.Datum.{data_of}
 use Rattle.muf_model.specs.inner.View.{pair_view, value_view}
 use Rattle.muf_model.specs.Measures.{data_weight, data_nesting}
-use Rattle.muf_model.specs.Entries.{has_key, entry_place, without, Rising}
+use Rattle.muf_model.specs.Entries.{has_key, entry_place, without_key, Rising}
 use Rattle.muf_model.proofs.Sized.{within, dict_weight, dict_nesting}
 use Rattle.muf_model.proofs.Edited.{keys_rise, pair_less_fits, gone_there, gone_missing}
 use Rattle.muf_model.proofs.value.ValueMap.remove.Goals as goal
@@ -32,7 +32,7 @@ returns-then-has_key c =
     let es = map pair_view c.self.inside.pairs.items in
     let p : c.entry_place-at.result ≡ entry_place c.args.key.now es = c.entry_place-at.ensures.place ∙ ap (λ ps. entry_place c.args.key.now (map pair_view ps)) c.deref.ensures.value in
     let t : has_key c.args.key.now (slice_get (map pair_view c.deref-2.result.now) c.entry_place-at.result) ≡ true = search (rules, c.has_key.ensures.value, c.if-has_key.true) in
-    c.remove_pair.ensures ∙ gone_there c.args.key.now es c.entry_place-at.result p (ap (λ ps. has_key c.args.key.now (slice_get (map pair_view ps) c.entry_place-at.result)) (sym c.deref-2.ensures.value) ∙ t) ∙ ap (without c.args.key.now) c.self.view_is
+    c.remove_pair.ensures ∙ gone_there c.args.key.now es c.entry_place-at.result p (ap (λ ps. has_key c.args.key.now (slice_get (map pair_view ps) c.entry_place-at.result)) (sym c.deref-2.ensures.value) ∙ t) ∙ ap (without_key c.args.key.now) c.self.view_is
 
 pub returns-else-has_key : goal.returns-else-has_key
 returns-else-has_key c =
@@ -40,4 +40,4 @@ returns-else-has_key c =
     let p : c.entry_place-at.result ≡ entry_place c.args.key.now es = c.entry_place-at.ensures.place ∙ ap (λ ps. entry_place c.args.key.now (map pair_view ps)) c.deref.ensures.value in
     let t : has_key c.args.key.now (slice_get (map pair_view c.deref-2.result.now) c.entry_place-at.result) ≡ false = search (rules, c.has_key.ensures.value, c.if-has_key.false) in
     let r : Rising es = keys_rise c.self.inside.pairs.items c.self.inside.pairs.items c.self.inside.size refl c.self.invariant in
-    sym c.self.view_is ∙ gone_missing c.args.key.now es c.entry_place-at.result p r (ap (λ ps. has_key c.args.key.now (slice_get (map pair_view ps) c.entry_place-at.result)) (sym c.deref-2.ensures.value) ∙ t) ∙ ap (without c.args.key.now) c.self.view_is
+    sym c.self.view_is ∙ gone_missing c.args.key.now es c.entry_place-at.result p r (ap (λ ps. has_key c.args.key.now (slice_get (map pair_view ps) c.entry_place-at.result)) (sym c.deref-2.ensures.value) ∙ t) ∙ ap (without_key c.args.key.now) c.self.view_is

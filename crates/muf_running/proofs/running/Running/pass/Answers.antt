@@ -1,6 +1,6 @@
 use Rattle.std.proofs.Common.{◌≡◌, ◌+◌, ◌<◌, length, reverse, sym, ap, subst, ◌∙◌, arith}
 use Rattle.muf_model.specs.inner.Flat.{first_code}
-use Rattle.muf_model.specs.Source.{passed}
+use Rattle.muf_model.specs.Source.{item_passed}
 use Rattle.muf_frame.specs.inner.Shown.{Shown}
 use Rattle.muf_running.specs.inner.Fitting.{codes_of, IsAtPrimitive}
 use Rattle.muf_running.proofs.Process.{passed_place, passed_at_end}
@@ -14,7 +14,7 @@ invariant_of-self c =
 pub returns-then-place-length : goal.returns-then-place-length
 returns-then-place-length c =
     let f : Shown = c.self.inside.frame in
-    (passed_at_end (reverse c.self.inside.programs.items) f c.go_to.new.self c.self.invariant (subst (λ s. IsAtPrimitive s.now) (sym c.self.view_is) c.requires) (c.go_to.ensures ∙ ap (λ (x : Shown). record x { place = c.place-place.result + 1 }) c.get_mut.ensures.value ∙ ap (λ p. record f { place = p + 1 }) (c.place-place.ensures ∙ ap (λ (x : Shown). x.place) c.get.ensures))).1 ∙ ap (λ s. passed s) c.self.view_is
+    (passed_at_end (reverse c.self.inside.programs.items) f c.go_to.new.self c.self.invariant (subst (λ s. IsAtPrimitive s.now) (sym c.self.view_is) c.requires) (c.go_to.ensures ∙ ap (λ (x : Shown). record x { place = c.place-place.result + 1 }) c.get_mut.ensures.value ∙ ap (λ p. record f { place = p + 1 }) (c.place-place.ensures ∙ ap (λ (x : Shown). x.place) c.get.ensures))).1 ∙ ap (λ s. item_passed s) c.self.view_is
 
 pub returns-else-place-length : goal.returns-else-place-length
 returns-else-place-length c =

@@ -1,0 +1,13 @@
+use Rattle.std.proofs.Common.{sym, ◌∙◌}
+use Rattle.muck_laws.proofs.Results.{on_ok_as}
+use Rattle.muck_hook.proofs.Listed.{fired_around, around_unheard}
+use Rattle.muck_hook.proofs.carriers.around.Goals as goal
+
+pub returns : goal.returns
+returns c =
+    on_ok_as c.push_others.result _ _
+    (λ e. fired_around c.args.db.now c.args.cause.now c.args.place c.deref.result.now _ c.args.fires.now.items c.push_fires.new.fires.items _ (c.deref.ensures.value ∙ c.in_ok-things.ensures) c.in_ok-push_fires.ensures e)
+    c.push_others.ensures
+
+pub returns-then-not-is_heard_in : goal.returns-then-not-is_heard_in
+returns-then-not-is_heard_in c = around_unheard c.args.db.now c.args.cause.now c.args.place _ _ c.requires.listen (sym c.is_heard_in.ensures ∙ c.if-not-is_heard_in.true) c.in_ok-push_fires.ensures

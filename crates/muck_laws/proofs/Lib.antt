@@ -1,0 +1,14 @@
+pub mod Truths
+pub mod Numbers
+pub mod Orders
+pub mod Options
+pub mod Results
+pub mod Lists
+pub mod Parts
+pub mod Mapped
+pub mod Places
+pub mod Turned
+pub mod Tests
+pub mod Texts
+pub mod Found
+pub mod Walks
