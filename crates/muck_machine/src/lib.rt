@@ -8,4 +8,6 @@ mod world;
 
 pub use beginning::Beginning;
 pub use lent::Lent;
+// what a world holds, for whoever says that it may go to another thread
+pub use muck_turns::{Dumps, State};
 pub use world::{Situation, Sliced, World};

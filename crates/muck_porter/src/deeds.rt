@@ -7,10 +7,9 @@ ghost use Rattle.muck_porter.specs.inner.Deeds.{AllOff, IsWantedAt, IsFound, Ser
 ghost use Rattle.muck_work.specs.inner.Claims.{IsOpen};
 
 use muck_io::Clock;
-use muck_machine::World;
 use muck_model::NoMemory;
 use muck_peer::{Chose, Peer, Want, tells_time};
-use muck_work::{Ending, Job, does_job, ends_claim};
+use muck_work::{Ending, Job, World, does_job, ends_claim};
 
 /// A deed that isn't for one peer, nor work.
 #[derive(Drop)]

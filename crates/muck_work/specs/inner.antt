@@ -1,3 +1,6 @@
 pub mod Holds
 pub mod Jobs
 pub mod Claims
+-- what a seat knows of the world, for each party
+pub use Rattle.muck_machine.specs.inner.Beginnings
+pub use Rattle.muck_machine.specs.inner.Seats

@@ -8,3 +8,5 @@ mod jobs;
 pub use claims::{Ending, ends_claim, runs};
 pub use holds::{gives, takes};
 pub use jobs::{Job, does_job};
+// the world that parties share, for each of them
+pub use muck_machine::{Beginning, Lent, Sliced, World};

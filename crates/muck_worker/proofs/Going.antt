@@ -14,8 +14,8 @@ use Rattle.spec_events.specs.Logged.{is_dump, bare_item, events_of, NoNotes, NoC
 use Rattle.spec_events.specs.Own.{Stage, porter_next, worker_next, dumper_next, party_next, next_stage, stage_of}
 use Rattle.spec_events.proofs.Logging.{events_append, no_notes_one, no_counts_one}
 use Rattle.spec_events.proofs.Owning.{stage_more, well_formed, over_with}
-use Rattle.muck_machine.specs.inner.Seats.{Sight, Chair, Rests, SameLists, Turned}
-use Rattle.muck_machine.proofs.Seating.{left_rests, seen_later}
+use Rattle.muck_work.specs.inner.Seats.{Sight, Chair, Rests, SameLists, Turned}
+use Rattle.muck_work.proofs.Seating.{left_rests, seen_later}
 use Rattle.muck_work.specs.declared.jobs.Job.{Job}
 use Rattle.muck_work.specs.declared.jobs.Job.TheVariants.{Line, Claim as JobClaim, Wants as JobWants, Idle as JobIdle, Died as JobDied}
 use Rattle.spec_claims.specs.Loans.{HasRun, WasRefused}

@@ -5,8 +5,7 @@ ghost use Rattle.spec_events.specs.Histories.{now, entered};
 ghost use Rattle.muck_work.specs.inner.Jobs.{by};
 ghost use Rattle.muck_worker.specs.inner.Deeds.{did_as, DidAs, IsOpen};
 
-use muck_machine::{Lent, World};
-use muck_work::{Ending, Job, does_job, ends_claim};
+use muck_work::{Ending, Job, Lent, World, does_job, ends_claim};
 
 /// What a worker has to do in its next turn.
 #[derive(Drop)]
