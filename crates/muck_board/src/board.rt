@@ -273,8 +273,8 @@ impl Board {
         ensures { self.new ≡ tuned tune self.old }
     {
         let differs = !tune.same(&self.tune);
-        self.turn(differs);
         self.tune = tune;
+        self.turn(differs);
     }
 
     /// The epoch: how often something changed on which levels and limits rest.

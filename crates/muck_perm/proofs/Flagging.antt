@@ -13,10 +13,10 @@ use Rattle.spec_live.specs.Objects.{Entry, object_in, object_at, number_in, chan
 use Rattle.spec_live.specs.Boards.{Board, turned}
 use Rattle.spec_live.specs.Moving.{Does}
 use Rattle.spec_live.specs.Setting.{set_at, with_flags, flags_check}
-use Rattle.spec_rights.specs.Changing.{object_turned, flag_values, is_flag, set_object, flag_set, flag_cleared}
+use Rattle.spec_rights.specs.Changing.{object_turned, flag_values, is_flag, flag_set, flag_cleared}
 use Rattle.muck_perm.specs.declared.guard.Guard.{Guard}
 use Rattle.muck_perm.specs.inner.Guards.{objects_of, Makes, flags_at}
-use Rattle.muck_perm.proofs.Guarding.{with_both, makes_refused, with_objects, written, checked_number, at_found}
+use Rattle.muck_perm.proofs.Guarding.{with_both, makes_refused, with_objects, checked_number, at_found}
 
 -- The value of a flag.
 

@@ -24,10 +24,11 @@ use Rattle.spec_live.proofs.Savings.{saving_relinked}
 use Rattle.spec_live.proofs.Dues.{saving_down}
 use Rattle.spec_live.proofs.Checks.{IsThere, number_there}
 use Rattle.spec_live.proofs.CreationLaws.{may_create, Begins, begins, grown_kind, named_kind, other_kind}
-use Rattle.spec_live.specs.Lives.{Change}
+use Rattle.spec_live.specs.Boards.{Board, turned}
+use Rattle.spec_live.specs.Lives.{Live, Change}
 use Rattle.spec_rights.specs.Changing.{created_so}
 use Rattle.muck_perm.specs.declared.guard.Guard.{Guard}
-use Rattle.muck_perm.specs.inner.Guards.{objects_of, Founds, is_kind_at, may_lead, may_house}
+use Rattle.muck_perm.specs.inner.Guards.{objects_of, put_so, Founds, is_kind_at, may_lead, may_house}
 use Rattle.muck_perm.proofs.Guarding.{with_objects, written}
 
 -- The kinds after a creation.
@@ -165,24 +166,24 @@ created_due n kind name owner to es =
 
 pub founds_plain : (kind : Kind) (name : List ℕ) (owner place : Dbref) (g : Guard) (es : List Entry) (result : Result Dbref DbFault)
     → Creates (create_check kind owner place (objects_of g)) kind name owner (objects_of g) es result
-    → Founds (create_check kind owner place (objects_of g)) (λ n to. created_so n kind name owner to (λ o. o)) g (with_objects es g) result
-unfolding created_so
+    → Founds (create_check kind owner place (objects_of g)) (λ n to. put_so n kind name owner to (λ o. o)) g (with_objects es g) result
+unfolding put_so
 founds_plain kind name owner place g es (Ok d) c = by_cases (create_check kind owner place (objects_of g)) c
   where
-    by_cases : (check : Result (ℕ × ℕ) DbFault) → Creates check kind name owner (objects_of g) es (Ok d) → Founds check (λ n to. created_so n kind name owner to (λ o. o)) g (with_objects es g) (Ok d)
+    by_cases : (check : Result (ℕ × ℕ) DbFault) → Creates check kind name owner (objects_of g) es (Ok d) → Founds check (λ n to. put_so n kind name owner to (λ o. o)) g (with_objects es g) (Ok d)
     by_cases (Ok p) c = (c.0, written g es _ (c.1 ∙ sym (set_same p.0 (created p.0 kind name owner p.1 (objects_of g)) (created_due p.0 kind name owner p.1 (objects_of g)))))
     by_cases (Err other) c = absurd c
 founds_plain kind name owner place g es (Err fault) c = founds_refused kind name owner place _ g es fault c
 
 -- both calls succeed, and together make the object so
 abbrev Both : (Object → Object) → Kind → List ℕ → Dbref → Result (ℕ × ℕ) DbFault → Guard → List Entry → Dbref → Result (Unit {0}) DbFault → Type 0
-Both f kind name owner check g fs d result = (result ≡ Ok tt) × Founds check (λ n to. created_so n kind name owner to f) g (with_objects fs g) (Ok d)
+Both f kind name owner check g fs d result = (result ≡ Ok tt) × Founds check (λ n to. put_so n kind name owner to f) g (with_objects fs g) (Ok d)
 
 founds_so : (f : Object → Object) (kind : Kind) (name : List ℕ) (owner place : Dbref) (after : Dbref → List Entry → Result ℕ DbFault) (g : Guard) (es fs : List Entry) (d : Dbref) (result : Result (Unit {0}) DbFault)
     → ((p : ℕ × ℕ) → create_check kind owner place (objects_of g) ≡ Ok p → after (dbref_of p.0) (created p.0 kind name owner p.1 (objects_of g)) ≡ Ok p.0)
     → Creates (create_check kind owner place (objects_of g)) kind name owner (objects_of g) es (Ok d) → Does (set_at f) (after d es) es fs result
     → Both f kind name owner (create_check kind owner place (objects_of g)) g fs d result
-unfolding created_so
+unfolding put_so
 founds_so f kind name owner place after g es fs d result passes c s = by_cases (create_check kind owner place (objects_of g)) refl c
   where
     by_cases : (check : Result (ℕ × ℕ) DbFault) → create_check kind owner place (objects_of g) ≡ check → Creates check kind name owner (objects_of g) es (Ok d) → Both f kind name owner check g fs d result
@@ -210,3 +211,29 @@ pub founds_program : (name : List ℕ) (owner place : Dbref) (level : ℕ) (g : 
     → Both (with_level level) Program name owner (create_check Program owner place (objects_of g)) g fs d result
 founds_program name owner place level g es fs d result h c s =
     founds_so (with_level level) Program name owner place (λ x z. level_check x level z) g es fs d result (λ p e. level_here (objects_of g) _ p.0 level (made Program name owner place (objects_of g) p e) h) c s
+
+-- Then the epoch goes on.
+
+abbrev pub with_board : Board → Guard → Guard
+with_board board g = record g { board = record g.board { now = board } }
+
+pub founds_turned : (kind : Kind) (name : List ℕ) (owner place : Dbref) (f : Object → Object) (g mid : Guard) (board : Board) (d : Dbref) → Founds (create_check kind owner place (objects_of g)) (λ n to. put_so n kind name owner to f) g mid (Ok d) →
+    board ≡ turned true mid.board.now → Founds (create_check kind owner place (objects_of g)) (λ n to. created_so n kind name owner to f) g (with_board board mid) (Ok d)
+unfolding put_so created_so
+founds_turned kind name owner place f g mid board d h b = by_cases (create_check kind owner place (objects_of g)) h
+  where
+    by_cases : (check : Result (ℕ × ℕ) DbFault) → Founds check (λ n to. put_so n kind name owner to f) g mid (Ok d) → Founds check (λ n to. created_so n kind name owner to f) g (with_board board mid) (Ok d)
+    by_cases (Ok p) h =
+        let objects_are : objects_of mid ≡ set_at f p.0 (created p.0 kind name owner p.1 (objects_of g)) = ap (λ (w : Live). w.objects) h.1.0 in
+        let board_is : board ≡ turned true g.board.now = b ∙ ap (λ (w : Live). turned true w.board) h.1.0 in
+        (h.0, (λ i. record { objects = objects_are i; board = board_is i }, h.1.1))
+    by_cases (Err other) h = absurd h
+
+-- and where it is refused, it doesn't
+pub founds_not : (kind : Kind) (name : List ℕ) (owner place : Dbref) (f : Object → Object) (g mid : Guard) (fault : DbFault) → Founds (create_check kind owner place (objects_of g)) (λ n to. put_so n kind name owner to f) g mid (Err fault) →
+    Founds (create_check kind owner place (objects_of g)) (λ n to. created_so n kind name owner to f) g mid (Err fault)
+founds_not kind name owner place f g mid fault h = by_cases (create_check kind owner place (objects_of g)) h
+  where
+    by_cases : (check : Result (ℕ × ℕ) DbFault) → Founds check (λ n to. put_so n kind name owner to f) g mid (Err fault) → Founds check (λ n to. created_so n kind name owner to f) g mid (Err fault)
+    by_cases (Ok p) h = h
+    by_cases (Err other) h = h

@@ -18,7 +18,7 @@ ghost use Rattle.spec_rights.specs.Verdict.{is_guarded};
 ghost use Rattle.spec_live.specs.Worth.{message_at, lock_text};
 ghost use Rattle.spec_rights.specs.Changing.{name_given, object_owned_by, linked, homed, leveled, lines_kept, property_stored, unstored, moved_to, recycled_now, created_so, is_flag, flag_set, flag_cleared, password_kept, connections_left, tuned};
 ghost use Rattle.spec_rights.specs.Licence.{at_hand};
-ghost use Rattle.muck_perm.specs.inner.Guards.{objects_of, world_of, Did, Done, IsLeave, IsGiven, is_here, Makes, Tries, Founds, flags_at, home_in, may_lead, may_house};
+ghost use Rattle.muck_perm.specs.inner.Guards.{objects_of, world_of, Did, Done, IsLeave, IsGiven, is_here, Makes, Tries, put_so, Founds, flags_at, home_in, may_lead, may_house};
 
 use crate::flags::{flags_at, with_flag, without_flag};
 use crate::levels::level_at;
@@ -514,7 +514,7 @@ impl<'a> Guard<'a> {
 impl<'a> Guard<'a> {
     /// Makes a room that the user owns. `NoSuchObject`, `WrongKind` and `WorldFull` come as the world refuses it,
     /// `NoMemory` at any place; nothing has changed then.
-    #[tactic(auto, using(crate::proofs::Founding::founds_plain))]
+    #[tactic(auto, using(crate::proofs::Founding::founds_turned, crate::proofs::Founding::founds_not))]
     pub fn create_room(&mut self, pass: Pass, name: Line, place: Dbref) -> Result<Dbref, DbFault>
         requires leave { IsLeave pass (Act.NewRoom place) self.old }
         requires some { 1 ≤ length name }
@@ -522,15 +522,13 @@ impl<'a> Guard<'a> {
         ensures { Founds (create_check Kind.Room self.old.actor.user place (objects_of self.old)) (λ n to. created_so n Kind.Room name self.old.actor.user to (λ o. o)) self.old self.new result }
     {
         let _ = pass;
-        let d = self
-            .db
-            .create(self.alloc, Kind::Room, name, self.actor.user, place)?;
+        let d = self.puts_room(name, place)?;
         self.board.turn(true);
         Ok(d)
     }
 
     /// Makes a player, which owns itself and whose home is `#0`. It has no password yet. It is refused as a room is.
-    #[tactic(auto, using(crate::proofs::Founding::founds_plain))]
+    #[tactic(auto, using(crate::proofs::Founding::founds_turned, crate::proofs::Founding::founds_not))]
     pub fn create_player(&mut self, pass: Pass, name: Line, place: Dbref) -> Result<Dbref, DbFault>
         requires leave { IsLeave pass Act.Wizard self.old }
         requires some { 1 ≤ length name }
@@ -538,15 +536,13 @@ impl<'a> Guard<'a> {
         ensures { Founds (create_check Kind.Player self.old.actor.user place (objects_of self.old)) (λ n to. created_so n Kind.Player name self.old.actor.user to (λ o. o)) self.old self.new result }
     {
         let _ = pass;
-        let d = self
-            .db
-            .create(self.alloc, Kind::Player, name, self.actor.user, place)?;
+        let d = self.puts_player(name, place)?;
         self.board.turn(true);
         Ok(d)
     }
 
     /// Makes a thing that the user owns, with a home that a thing may have. It is refused as a room is.
-    #[tactic(auto, using(crate::proofs::Founding::founds_refused, crate::proofs::Founding::founds_thing))]
+    #[tactic(auto, using(crate::proofs::Founding::founds_turned, crate::proofs::Founding::founds_not))]
     pub fn create_thing(
         &mut self,
         pass: Pass,
@@ -561,16 +557,13 @@ impl<'a> Guard<'a> {
         ensures { Founds (create_check Kind.Thing self.old.actor.user place (objects_of self.old)) (λ n to. created_so n Kind.Thing name self.old.actor.user to (with_home home)) self.old self.new result }
     {
         let _ = pass;
-        let d = self
-            .db
-            .create(self.alloc, Kind::Thing, name, self.actor.user, place)?;
-        self.db.set_home(d, home)?;
+        let d = self.puts_thing(name, place, home)?;
         self.board.turn(true);
         Ok(d)
     }
 
     /// Makes an exit that the user owns, and links it to where an exit may lead. It is refused as a room is.
-    #[tactic(auto, using(crate::proofs::Founding::founds_refused, crate::proofs::Founding::founds_exit))]
+    #[tactic(auto, using(crate::proofs::Founding::founds_turned, crate::proofs::Founding::founds_not))]
     pub fn create_exit(
         &mut self,
         pass: Pass,
@@ -585,16 +578,13 @@ impl<'a> Guard<'a> {
         ensures { Founds (create_check Kind.Exit self.old.actor.user place (objects_of self.old)) (λ n at. created_so n Kind.Exit name self.old.actor.user at (with_link to)) self.old self.new result }
     {
         let _ = pass;
-        let d = self
-            .db
-            .create(self.alloc, Kind::Exit, name, self.actor.user, place)?;
-        self.db.set_link(d, to)?;
+        let d = self.puts_exit(name, place, to)?;
         self.board.turn(true);
         Ok(d)
     }
 
     /// Makes a program that the user owns, of the user's level but at most 3. It is refused as a room is.
-    #[tactic(auto, using(crate::proofs::Founding::founds_refused, crate::proofs::Founding::founds_program))]
+    #[tactic(auto, using(crate::proofs::Founding::founds_turned, crate::proofs::Founding::founds_not))]
     pub fn create_program(&mut self, pass: Pass, name: Line, place: Dbref) -> Result<Dbref, DbFault>
         requires leave { IsLeave pass Act.NewProgram self.old }
         requires some { 1 ≤ length name }
@@ -602,12 +592,72 @@ impl<'a> Guard<'a> {
         ensures { Founds (create_check Kind.Program self.old.actor.user place (objects_of self.old)) (λ n to. created_so n Kind.Program name self.old.actor.user to (with_level (min (level_at (objects_of self.old) self.old.actor.user) 3))) self.old self.new result }
     {
         let _ = pass;
+        let d = self.puts_program(name, place)?;
+        self.board.turn(true);
+        Ok(d)
+    }
+
+    // What each of them makes of the objects, before the epoch goes on.
+
+    #[tactic(auto, using(crate::proofs::Founding::founds_plain))]
+    fn puts_room(&mut self, name: Line, place: Dbref) -> Result<Dbref, DbFault>
+        requires some { 1 ≤ length name }
+        requires short { length name ≤ 80 }
+        ensures { Founds (create_check Kind.Room self.old.actor.user place (objects_of self.old)) (λ n to. put_so n Kind.Room name self.old.actor.user to (λ o. o)) self.old self.new result }
+    {
+        self.db
+            .create(self.alloc, Kind::Room, name, self.actor.user, place)
+    }
+
+    #[tactic(auto, using(crate::proofs::Founding::founds_plain))]
+    fn puts_player(&mut self, name: Line, place: Dbref) -> Result<Dbref, DbFault>
+        requires some { 1 ≤ length name }
+        requires short { length name ≤ 80 }
+        ensures { Founds (create_check Kind.Player self.old.actor.user place (objects_of self.old)) (λ n to. put_so n Kind.Player name self.old.actor.user to (λ o. o)) self.old self.new result }
+    {
+        self.db
+            .create(self.alloc, Kind::Player, name, self.actor.user, place)
+    }
+
+    #[tactic(auto, using(crate::proofs::Founding::founds_refused, crate::proofs::Founding::founds_thing))]
+    fn puts_thing(&mut self, name: Line, place: Dbref, home: Dbref) -> Result<Dbref, DbFault>
+        requires some { 1 ≤ length name }
+        requires short { length name ≤ 80 }
+        requires home { may_house (objects_of self.old) home ≡ true }
+        ensures { Founds (create_check Kind.Thing self.old.actor.user place (objects_of self.old)) (λ n to. put_so n Kind.Thing name self.old.actor.user to (with_home home)) self.old self.new result }
+    {
+        let d = self
+            .db
+            .create(self.alloc, Kind::Thing, name, self.actor.user, place)?;
+        self.db.set_home(d, home)?;
+        Ok(d)
+    }
+
+    #[tactic(auto, using(crate::proofs::Founding::founds_refused, crate::proofs::Founding::founds_exit))]
+    fn puts_exit(&mut self, name: Line, place: Dbref, to: Dbref) -> Result<Dbref, DbFault>
+        requires some { 1 ≤ length name }
+        requires short { length name ≤ 80 }
+        requires leads { may_lead (objects_of self.old) to ≡ true }
+        ensures { Founds (create_check Kind.Exit self.old.actor.user place (objects_of self.old)) (λ n at. put_so n Kind.Exit name self.old.actor.user at (with_link to)) self.old self.new result }
+    {
+        let d = self
+            .db
+            .create(self.alloc, Kind::Exit, name, self.actor.user, place)?;
+        self.db.set_link(d, to)?;
+        Ok(d)
+    }
+
+    #[tactic(auto, using(crate::proofs::Founding::founds_refused, crate::proofs::Founding::founds_program))]
+    fn puts_program(&mut self, name: Line, place: Dbref) -> Result<Dbref, DbFault>
+        requires some { 1 ≤ length name }
+        requires short { length name ≤ 80 }
+        ensures { Founds (create_check Kind.Program self.old.actor.user place (objects_of self.old)) (λ n to. put_so n Kind.Program name self.old.actor.user to (with_level (min (level_at (objects_of self.old) self.old.actor.user) 3))) self.old self.new result }
+    {
         let level = level_at(self.db, self.actor.user).min(3);
         let d = self
             .db
             .create(self.alloc, Kind::Program, name, self.actor.user, place)?;
         self.db.set_level(d, level)?;
-        self.board.turn(true);
         Ok(d)
     }
 }

@@ -5,3 +5,4 @@ pub mod Known
 pub mod Leading
 pub mod Rows
 pub mod Events
+pub mod Awake

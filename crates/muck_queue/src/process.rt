@@ -1,9 +1,11 @@
 // One process.
-ghost use Rattle.std.specs.Prelude.{◌≡◌, ◌&&◌, ◌||◌, ℕ, IfOk, OnOk, OnErr, if◌then◌else◌, length, min, slice_get};
+ghost use Rattle.std.specs.Prelude.{◌≡◌, ◌&&◌, ◌||◌, IfOk, OnOk, OnErr, if◌then◌else◌, length, min, slice_get};
 ghost use Rattle.std.specs.Option.{option_map};
 ghost use Rattle.muf_model.specs.Datum.{text as text_item};
+ghost use Rattle.muf_model.specs.Source.{handed};
 ghost use Rattle.muf_model.specs.inner.View.{view};
 ghost use Rattle.muck_queue.specs.Queues.{has_pid, is_process_of, is_process_due, is_before, is_tied_to, is_reading, is_awaiting, reads_from, keeps_busy, runs_in, has_trigger, without_trigger, more, units_counted, resting, sleeping, process_in_mode, process_with_item, going_on, told_line, told_event, without_event, given_event, woken};
+ghost use Rattle.muck_queue.specs.inner.Awake.{handed_event};
 ghost use Rattle.muck_queue.specs.inner.Events.{shown};
 ghost use Rattle.muck_queue.specs.inner.Known.{has_connection, is_timed};
 
@@ -272,20 +274,42 @@ impl Process {
     /// A copy of its program as it stands once the process wakes: where it waits for an event, and one has come, it has that. The event
     /// stays, and what came with it is shared.
     pub fn copy_awake(&self, alloc: Global) -> Result<Option<Running>, NoMemory>
-        ensures { IfOk result (λ running. (moment : ℕ) → running ≡ (woken moment self.now).running) }
+        ensures { IfOk result (λ running. running ≡ option_map (handed_event self.now.wait self.now.events) self.now.running) }
     {
-        let Some(running) = &self.running else {
-            return Ok(None);
-        };
-        let mut running = running.copy(alloc)?;
-        if self.wait == Wait::ForEvent {
-            if let Some(event) = self.events.oldest() {
-                running.hand(event.data.copy()?);
-                running.hand(Value::Str(event.name.share()?));
+        match &self.running {
+            Some(running) => {
+                let copy = running.copy(alloc)?;
+                let given = self.with_oldest(copy)?;
+                Ok(Some(given))
             }
+            None => Ok(None),
         }
-        Ok(Some(running))
     }
+
+    // A program of it, with the event for which it waits, where one has come.
+    fn with_oldest(&self, running: Running) -> Result<Running, NoMemory>
+        ensures { IfOk result (λ given. given ≡ handed_event self.now.wait self.now.events running) }
+    {
+        match self.wait {
+            Wait::ForEvent => match self.events.oldest() {
+                Some(event) => with_event(running, event),
+                None => Ok(running),
+            },
+            Wait::Nothing => Ok(running),
+            Wait::ForLine => Ok(running),
+        }
+    }
+}
+
+// A program with what came with an event, and upon that its name, where there is room.
+fn with_event(mut running: Running, event: &ProcessEvent) -> Result<Running, NoMemory>
+    ensures { IfOk result (λ given. given ≡ handed (text_item event.now.name) (handed (view event.now.data) running)) }
+{
+    let data = event.data.copy()?;
+    let name = event.name.share()?;
+    running.hand(data);
+    running.hand(Value::Str(name));
+    Ok(running)
 }
 
 // So many more, as far as such counts go.

@@ -9,6 +9,7 @@ pub mod Done
 mod Deeds
 pub mod Slicing
 pub mod Units
+pub mod Awake
 pub mod Modes
 mod Effects
 pub mod Sections

@@ -56,10 +56,10 @@ abbrev pub after_turn : Tune → ℕ → ℤ → Went → Made
 after_turn tune n pid t = plus 1 (going_on tune n pid t)
 
 plus_suc : (k : ℕ) (m : Made) → plus 1 (plus k m) ≡ plus (suc k) m
-plus_suc k m = let sum : 1 + (k + m.units) ≡ suc k + m.units = omega arith in ap (λ x. record { world = m.world; units = x }) sum
+plus_suc k m = let sum : 1 + (k + m.units) ≡ suc k + m.units = omega arith in ap {B = Made} (λ x. record { world = m.world; units = x }) sum
 
 plus_zero : (m : Made) → plus 0 m ≡ m
-plus_zero m = let sum : 0 + m.units ≡ m.units = omega arith in ap (λ x. record { world = m.world; units = x }) sum
+plus_zero m = let sum : 0 + m.units ≡ m.units = omega arith in ap {B = Made} (λ x. record { world = m.world; units = x }) sum
 
 -- How units of a slice come one behind the other.
 
@@ -67,10 +67,10 @@ module _ (tune : Tune) (pid : ℤ) where
   turned : (n : ℕ) (w : World) (t : Taken) → made w (t ∷ then_more (units_run tune n pid) t.turn) ≡ after_turn tune n pid t.turn
   turned n w t = by_turn t.turn
     where
-      one : (v : World) (ts : List Taken) → record { world = last_world v ts; units = length (t ∷ ts) } ≡ plus 1 (made v ts)
-      one v ts = let sum : length (t ∷ ts) ≡ 1 + length ts = omega arith in ap (λ x. record { world = last_world v ts; units = x }) sum
+      one : (v : World) (ts : List Taken) → ◌≡◌ {A = Made} (record { world = last_world v ts; units = length (t ∷ ts) }) (plus 1 (made v ts))
+      one v ts = let sum : length (t ∷ ts) ≡ 1 + length ts = omega arith in ap {B = Made} (λ x. record { world = last_world v ts; units = x }) sum
 
-      by_turn : (u : Went) → record { world = last_world (world_of u) (then_more (units_run tune n pid) u); units = length (t ∷ then_more (units_run tune n pid) u) } ≡ after_turn tune n pid u
+      by_turn : (u : Went) → ◌≡◌ {A = Made} (record { world = last_world (world_of u) (then_more (units_run tune n pid) u); units = length (t ∷ then_more (units_run tune n pid) u) }) (after_turn tune n pid u)
       by_turn (on v) = one v (units_run tune n pid v)
       by_turn (rest v) = one v []
       by_turn (over v) = one v []

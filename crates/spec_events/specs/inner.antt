@@ -1,4 +1,5 @@
 pub mod Stints
+pub mod Awake
 pub mod OwnRows
 pub mod Sound
 pub mod Rows

@@ -2,11 +2,11 @@
 ghost use Rattle.std.specs.Prelude.{◌≡◌, ℤ, ℕ, true};
 ghost use Rattle.muck_model.specs.declared.dbref.Dbref.{Dbref};
 ghost use Rattle.spec_live.specs.Objects.{dbref_of};
-ghost use Rattle.muck_queue.specs.Queues.{woken};
 ghost use Rattle.muf_model.specs.Source.{Source};
 ghost use Rattle.spec_events.specs.World.{World};
 ghost use Rattle.spec_events.specs.Following.{is_marked, NoneIn};
 ghost use Rattle.spec_events.specs.Slices.{does, after_deed, agent_of, world_of};
+ghost use Rattle.spec_events.specs.inner.Awake.{agent_awake};
 
 use crate::starting::Agent;
 use muck_queue::Process;
@@ -28,11 +28,15 @@ impl Agent {
 
     /// The same, once the process is awake: a section of its own begins.
     pub fn awake(process: &Process) -> Self
-        ensures { (moment : ℕ) → result ≡ agent_of (woken moment process.now) }
+        ensures { result ≡ agent_awake process.now }
     {
         Agent {
+            player: process.player,
+            trigger: process.trigger,
+            descr: process.descr,
+            mode: process.mode,
+            units: process.units,
             section: 0,
-            ..Agent::of(process)
         }
     }
 }

@@ -6,12 +6,14 @@ use Rattle.muck_model.specs.declared.dbref.Flags.{Flags}
 use Rattle.muck_model.specs.declared.dbref.Kind.{Kind}
 use Rattle.muck_model.specs.declared.dbref.Kind.TheVariants.{Thing, Exit}
 use Rattle.muck_model.specs.declared.memory.NoMemory.{NoMemory}
+use Rattle.spec_live.specs.declared.object.Object.{Object}
 use Rattle.spec_live.specs.declared.fault.DbFault.{DbFault}
 use Rattle.spec_live.specs.declared.fault.DbFault.TheVariants.{NoMemory as WantsMemory}
 use Rattle.spec_live.specs.Flags.{no_flags}
 use Rattle.spec_live.specs.Objects.{Entry, dbref_of, nothing, home, same, object_at}
-use Rattle.spec_live.specs.Setting.{may_link, may_live}
-use Rattle.spec_live.specs.Lives.{Live, Change}
+use Rattle.spec_live.specs.Making.{created}
+use Rattle.spec_live.specs.Setting.{set_at, may_link, may_live}
+use Rattle.spec_live.specs.Lives.{Live, Change, on_objects}
 use Rattle.spec_rights.specs.declared.act.Act.{Act}
 use Rattle.spec_rights.specs.Verdict.{verdict, place_or_nothing}
 use Rattle.muck_perm.specs.declared.rules.Pass.{Pass}
@@ -71,6 +73,10 @@ home_in x es = option_map_or (λ o. o.home) (object_at x es) nothing
 -- the flags of an object, none where it isn't there
 abbrev pub flags_at : Dbref → List Entry → Flags
 flags_at x es = option_map_or (λ o. o.flags) (object_at x es) no_flags
+
+-- what a maker makes of the objects, before the epoch goes on
+unfoldable pub put_so : ℕ → Kind → List ℕ → Dbref → ℕ → (Object → Object) → Change
+put_so n kind name owner to f = on_objects (λ es. set_at f n (created n kind name owner to es))
 
 -- what a maker does: the numbers of the new object and of its place go into the change
 abbrev pub Founds : Result (ℕ × ℕ) DbFault → (ℕ → ℕ → Change) → Guard → Guard → Result Dbref DbFault → Type 0

@@ -10,6 +10,7 @@ use Rattle.spec_live.specs.Objects.{dbref_of, object_at, number_in, kind_in, fla
 use Rattle.spec_live.specs.Chain.{walk, has}
 use Rattle.spec_live.specs.Start.{room_zero, player_one, first_objects}
 use Rattle.spec_live.specs.Seen.{scenery_of, listed_in, places_of}
+use Rattle.spec_live.specs.Boards as boards
 use Rattle.spec_live.specs.Boards.{first_tune, early_board, told_one}
 use Rattle.spec_live.specs.Lives.{change_followed, reading, either, unchanged, tell}
 use Rattle.spec_rights.specs.Levels.{command_level, level_at, owner_at, flag_at, owns, controls_as}
@@ -62,5 +63,5 @@ LineRows =
     × ((by 1 (codes "@tune instr_slice=5") one_runs).live.board.tune.instr_slice ≡ 5)
 
 pub line_rows : LineRows
-unfolding LineRows is_same begins_alike has_word texts_placed aliases numbers sight_place things_in exit_order is_in_scenery alias_takes rest_behind hits_in leads_to_program hits_at hits_on hits exit_for sent_lines queue_most sent_lines_bytes line_sent lines_sent text_sent object_at number_in kind_in flags_in place_in object_in list_in is_vehicle_in fits_in changed_at walk has room_zero player_one first_objects scenery_of listed_in places_of first_tune early_board told_one change_followed reading either unchanged tell actor_of command_level level_at owner_at flag_at owns controls_as controls controls_or asked denied_text refused tuned huh where_so ended with_fit with_parts with_arguments by_table play_words play_line build_own build_words messages build_line play_or_else commanded played empty_queue number_most is_queue_full process_added without_process parameters retuned killed_reply parameter_reply dumping_reply going_down kill_told parameter_set tune_done admin_words admin_done admin_line line_ends after_line world_booted starting_world swept settled new_process by_keeper typed processes_after_line in_world decimal_of digits
+unfolding LineRows is_same begins_alike has_word texts_placed aliases numbers sight_place things_in exit_order is_in_scenery alias_takes rest_behind hits_in leads_to_program hits_at hits_on hits exit_for sent_lines queue_most sent_lines_bytes line_sent lines_sent text_sent object_at number_in kind_in flags_in place_in object_in list_in is_vehicle_in fits_in changed_at walk has room_zero player_one first_objects scenery_of listed_in places_of first_tune early_board told_one change_followed reading either unchanged tell actor_of command_level level_at owner_at flag_at owns controls_as controls controls_or asked denied_text refused tuned boards.tuned huh where_so ended with_fit with_parts with_arguments by_table play_words play_line build_own build_words messages build_line play_or_else commanded played empty_queue number_most is_queue_full process_added without_process parameters retuned killed_reply parameter_reply dumping_reply going_down kill_told parameter_set tune_done admin_words admin_done admin_line line_ends after_line world_booted starting_world swept settled new_process by_keeper typed processes_after_line in_world decimal_of digits
 line_rows = (refl, refl, refl, refl, refl, refl, refl)
