@@ -1,45 +1,45 @@
 -- A run of what was lent is a run of the process as it stands in its world, where the process is there still and the epoch hasn't moved.
-use Rattle.std.proofs.Common.{◌≡◌, ℕ, suc, ◌+◌, ◌<◌, ◌≤◌, min, ℤ, Bool, true, false, not, ◌&&◌, ◌==◌, cond, List, [], ◌∷◌, ◌++◌, refl, sym, ◌∙◌, ap, subst, arith, Option, Some, None, append_assoc}
-use Rattle.std.specs.Prelude.{find, is_some, nat_lt, map}
+use Rattle.std.proofs.Common.{◌≡◌, ℕ, ◌<◌, ◌≤◌, ℤ, Bool, true, false, not, ◌==◌, List, [], ◌∷◌, ◌++◌, refl, sym, ◌∙◌, ap, subst, arith, Option, Some, None, append_assoc}
+use Rattle.std.specs.Prelude.{find, is_some, nat_lt}
 use Rattle.std.specs.Option.{option_map, option_map_or, option_and_then}
-use Rattle.std.specs.List.{list_any}
 use Rattle.std.proofs.lemmas.Bool.{and_parts, eqb-true, ltb-true, false≢true}
 use Rattle.std.proofs.Math.Nat.{min-le_left, min-le_right}
-use Rattle.muck_model.specs.declared.dbref.Dbref.{Dbref}
 use Rattle.muck_model.specs.declared.event.Entry.{Entry}
 use Rattle.muck_model.specs.declared.event.Event.TheVariants.{Claim}
 use Rattle.muck_model.specs.declared.tune.Tune.{Tune}
 use Rattle.spec_live.specs.Boards.{turns_most}
-use Rattle.spec_live.specs.Lives.{Live}
 use Rattle.spec_live.proofs.Footings.{Alike}
 use Rattle.spec_live.proofs.Epochs.{Led, led_along}
 use Rattle.spec_rights.proofs.Footed.{running_alike}
 use Rattle.muf_model.specs.Datum.{Datum}
 use Rattle.muf_model.specs.Source.{Source}
-use Rattle.muf_model.specs.Unit.{units}
-use Rattle.muf_model.specs.Chains.{taken}
 use Rattle.muf_running.specs.declared.stint.Stint.{Stint}
 use Rattle.spec_prims.specs.Asking.{object_numbered}
+use Rattle.muck_queue.specs.declared.claim.Claim.{Claim as Claimed}
+use Rattle.muck_queue.specs.declared.mode.Mode.{Mode}
 use Rattle.muck_queue.specs.declared.mode.Wait.{Wait}
 use Rattle.muck_queue.specs.declared.mode.Wait.TheVariants.{Nothing, ForLine, ForEvent}
 use Rattle.muck_queue.specs.declared.process.Process.{Process}
-use Rattle.muck_queue.specs.Queues.{Queue, process, is_process_due, is_reading, is_awaiting, woken, claimed, process_with_item, has_pid, on_process}
+use Rattle.muck_queue.specs.Queues.{process, is_for_event, is_process_due, is_reading, is_awaiting, woken, claimed, has_pid}
+use Rattle.muck_queue.specs.inner.Awake.{handed_event}
 use Rattle.muck_queue.specs.inner.Numbered.{IsNumbered}
 use Rattle.muck_queue.proofs.Changed.{process_changed}
+use Rattle.muck_queue.proofs.Woken.{woken_number, woken_state}
 use Rattle.spec_events.specs.declared.starting.Agent.{Agent}
 use Rattle.spec_events.specs.World.{World}
-use Rattle.spec_events.specs.Slices.{acting, callers, agent_of, seat_of, seat, slice_most, process_awake}
-use Rattle.spec_events.specs.Steps.{has_claim, is_lawful, is_process_there, effect, happened}
+use Rattle.spec_events.specs.Slices.{acting, callers, agent_of, seat_of, slice_most}
+use Rattle.spec_events.specs.Steps.{has_claim, is_process_there, effect}
 use Rattle.spec_events.specs.Histories.{History, after, now, AllLawful}
 use Rattle.spec_events.specs.inner.Stints.{allowed}
+use Rattle.spec_events.proofs.Awake.{woken_agent}
 use Rattle.spec_events.proofs.Endings.{IsTold}
 use Rattle.spec_events.proofs.Numbers.{numbered_effect}
 use Rattle.spec_events.proofs.Runs.{after-append}
 use Rattle.spec_events.proofs.Turns.{told_effect}
 use Rattle.spec_events.proofs.Walked.{every, goes_after}
-use Rattle.spec_claims.specs.inner.Claims.{IsSole, AreOthers}
+use Rattle.spec_claims.specs.inner.Claims.{IsSole}
 use Rattle.spec_claims.specs.inner.Standing.{StandsAs, StaysAs}
-use Rattle.spec_claims.specs.Loans.{Phase, Loan, loan_of, loan_most, woken_seat, claimed_world, HasRun, ran, OfClaim, RanFrom, is_kept}
+use Rattle.spec_claims.specs.Loans.{Phase, Loan, loan_most, woken_seat, claimed_world, HasRun, ran, OfClaim, RanFrom, is_kept}
 use Rattle.spec_claims.proofs.Staying.{allowed as allowed_event, claim_entered, claim_stays}
 use Rattle.spec_claims.proofs.Standing.{stays_begun, stays_others, stands_now, one_due}
 
@@ -65,39 +65,30 @@ claimed_now party pid That l h o lawful =
 
 -- What wakes.
 
+-- events that come behind those that it had change nothing of that
+same_event : (wait : Wait) (events sent : List (List ℕ × Datum)) (s : Source) → is_for_event wait events ≡ false → handed_event wait (events ++ sent) s ≡ handed_event wait events s
+same_event Nothing events sent s free = refl
+same_event ForLine events sent s free = refl
+same_event ForEvent [] sent s free = absurd (false≢true (sym free))
+same_event ForEvent (x ∷ xs) sent s free = refl
+
 -- what stands as another wakes as it would, where that waits for nothing that hasn't come
 woken_running : (m n : ℕ) (p q : Process) → StandsAs p q → is_awaiting p ≡ false → (woken n q).running ≡ (woken m p).running
-woken_running m n p q s free = by_wait p.wait p.events refl refl free
+woken_running m n p q s free =
+    woken_state n q
+    ∙ ap (λ (w : Wait). option_map (handed_event w q.events) q.running) s.wait
+    ∙ ap (λ (es : List (List ℕ × Datum)). option_map (handed_event p.wait es) q.running) s.events
+    ∙ ap (λ (o : Option Source). option_map (handed_event p.wait (p.events ++ s.sent)) o) s.running
+    ∙ same_mapped p.running
+    ∙ sym (woken_state m p)
   where
-    by_wait : (wait : Wait) (events : List (List ℕ × Datum)) → p.wait ≡ wait → p.events ≡ events → is_awaiting (record p { wait = wait; events = events }) ≡ false → (woken n q).running ≡ (woken m p).running
-    by_wait ForEvent [] e f none = absurd (false≢true (sym none))
-    by_wait ForEvent (x ∷ xs) e f some = rw (s.wait, e, s.events, f, s.running) refl
-    by_wait Nothing events e f other = rw (s.wait, e, s.running) refl
-    by_wait ForLine events e f other = rw (s.wait, e, s.running) refl
-
--- it has the mode and the units that it had, and a section of its own
-woken_field : {X : Type 0} (field : Process → X) → ((p : Process) (r : Option Source) (w : Wait) (es : List (List ℕ × Datum)) (due section : ℕ) → field (record p { running = r; wait = w; events = es; due = due; section = section }) ≡ field p) →
-    (m : ℕ) (p : Process) → field (woken m p) ≡ field p
-woken_field field keeps m p = by_wait p.wait p.events refl refl
-  where
-    by_wait : (wait : Wait) (events : List (List ℕ × Datum)) → p.wait ≡ wait → p.events ≡ events → field (woken m p) ≡ field p
-    by_wait ForEvent (x ∷ xs) e f = rw (e, f) (keeps p _ _ _ _ _)
-    by_wait ForEvent [] e f = rw (e, f) (keeps p _ _ _ _ _)
-    by_wait Nothing events e f = rw e (keeps p _ _ _ _ _)
-    by_wait ForLine events e f = rw e (keeps p _ _ _ _ _)
-
-woken_section : (m : ℕ) (p : Process) → (woken m p).section ≡ 0
-woken_section m p = by_wait p.wait p.events refl refl
-  where
-    by_wait : (wait : Wait) (events : List (List ℕ × Datum)) → p.wait ≡ wait → p.events ≡ events → (woken m p).section ≡ 0
-    by_wait ForEvent (x ∷ xs) e f = rw (e, f) refl
-    by_wait ForEvent [] e f = rw (e, f) refl
-    by_wait Nothing events e f = rw e refl
-    by_wait ForLine events e f = rw e refl
+    same_mapped : (o : Option Source) → option_map (handed_event p.wait (p.events ++ s.sent)) o ≡ option_map (handed_event p.wait p.events) o
+    same_mapped None = refl
+    same_mapped (Some t) = ap Some (same_event p.wait p.events s.sent t free)
 
 -- the seat of a process that is there and wakes
 pub woken_at : (pid : ℤ) (w : World) → woken_seat pid w ≡ option_and_then seat_of (option_map (woken w.moment) (process pid w.queue))
-woken_at pid w = ap (option_and_then seat_of) (process_changed pid (woken w.moment) (λ p. refl) w.queue)
+woken_at pid w = ap (option_and_then seat_of) (process_changed pid (woken w.moment) (woken_number w.moment) w.queue)
 
 -- so it is there, and stands so
 record Wakes (pid : ℤ) (w : World) (x : Agent) (s : Source) : Type 0 where
@@ -121,7 +112,7 @@ wakes pid w x s e = at (process pid w.queue) refl (sym (woken_at pid w) ∙ e)
     at (Some p) found f = state_at p (woken w.moment p).running refl f found
 
 -- A process that may be claimed waits for nothing that hasn't come.
-due_waits : (moment : ℕ) (cs : _) (p : Process) → is_process_due moment cs p ≡ true → (is_reading p ≡ false) × (is_awaiting p ≡ false)
+due_waits : (moment : ℕ) (cs : List Claimed) (p : Process) → is_process_due moment cs p ≡ true → (is_reading p ≡ false) × (is_awaiting p ≡ false)
 due_waits moment cs p h =
     let a = and_parts _ _ (and_parts _ _ h).1 in
     let b = and_parts _ _ a.1 in
@@ -139,7 +130,10 @@ unfolding acting
 level_of_acting x y s w v a = running_alike w.live.objects v.live.objects a (object_numbered s.program.number) (callers s)
 
 allowed_as : (tune : Tune) (level left : ℕ) (x y : Agent) → y.mode ≡ x.mode → y.units ≡ x.units → y.section ≡ x.section → allowed tune level left y ≡ allowed tune level left x
-allowed_as tune level left x y m u n = rw (m, u, n) refl
+allowed_as tune level left x y m u n =
+    ap (λ (k : Mode). allowed tune level left (record y { mode = k })) m
+    ∙ ap (λ (k : ℕ). allowed tune level left (record y { mode = x.mode; units = k })) u
+    ∙ ap (λ (k : ℕ). allowed tune level left (record y { mode = x.mode; units = x.units; section = k })) n
 
 -- The whole.
 
@@ -176,11 +170,8 @@ module _ (party : ℕ) (pid : ℤ) (l : Loan) (h : History) (o : OfClaim party p
 
   waits : (is_reading woke.it ≡ false) × (is_awaiting woke.it ≡ false)
   waits = due_waits before.moment before.queue.claims woke.it
-      (due_found before.queue.processes (and_parts _ _ (allowed_event before party (Claim pid) all.0 refl)).0 (ap (λ ps. find (has_pid pid) ps) (sym same_processes) ∙ woke.found))
-    where
-      -- of one number there is one process
-      due_found : (ps : List Process) → list_any (λ p. has_pid pid p && is_process_due before.moment before.queue.claims p) ps ≡ true → find (has_pid pid) ps ≡ Some woke.it → is_process_due before.moment before.queue.claims woke.it ≡ true
-      due_found ps any found = one_due pid (is_process_due before.moment before.queue.claims) before.queue (numbered_after h.start o.front numbered) woke.it any found
+      (one_due pid (is_process_due before.moment before.queue.claims) before.queue (numbered_after h.start o.front numbered) woke.it
+      (and_parts _ _ (allowed_event before party (Claim pid) all.0 refl)).0 (ap (λ (ps : List Process). find (has_pid pid) ps) (sym same_processes) ∙ woke.found))
 
   stays : StaysAs pid woke.it (now h).queue
   stays = subst (λ (w : World). StaysAs pid woke.it w.queue) split
@@ -216,14 +207,13 @@ module _ (party : ℕ) (pid : ℤ) (l : Loan) (h : History) (o : OfClaim party p
           ≡ allowed behind.live.board.tune (acting o.at.0 o.at.1 behind.live.objects).level (slice_most behind.live.board.tune) o.at.0
           = ap (λ n. allowed (now h).live.board.tune n (slice_most (now h).live.board.tune) x) level
           ∙ ap (λ t. allowed t (acting o.at.0 o.at.1 behind.live.objects).level (slice_most t) x) a.1
-          ∙ allowed_as behind.live.board.tune (acting o.at.0 o.at.1 behind.live.objects).level (slice_most behind.live.board.tune) o.at.0 x (same_mode s ∙ ap (λ (y : Agent). y.mode) woke.agent) (same_units s ∙ ap (λ (y : Agent). y.units) woke.agent) (same_section ∙ ap (λ (y : Agent). y.section) woke.agent)
-          in
+          ∙ allowed_as behind.live.board.tune (acting o.at.0 o.at.1 behind.live.objects).level (slice_most behind.live.board.tune) o.at.0 x (same_mode s ∙ ap (λ (y : Agent). y.mode) woke.agent) (same_units s ∙ ap (λ (y : Agent). y.units) woke.agent) (same_section ∙ ap (λ (y : Agent). y.section) woke.agent) in
           let least = min-le_left (allowed behind.live.board.tune (acting o.at.0 o.at.1 behind.live.objects).level (slice_most behind.live.board.tune) o.at.0) 4294967295 in
           let last = min-le_right (allowed behind.live.board.tune (acting o.at.0 o.at.1 behind.live.objects).level (slice_most behind.live.board.tune) o.at.0) 4294967295 in
           record {
             agent = x;
             state = o.at.1;
-            stands = woken_at pid (now h) ∙ ap (λ (r : Option Process). option_and_then seat_of (option_map (woken (now h).moment) r)) found ∙ ap (option_map (λ t. (x, t))) state;
+            stands = woken_at pid (now h) ∙ ap (λ (r : Option Process). option_and_then seat_of (option_map (woken (now h).moment) r)) found ∙ ap (option_map {U = Agent × Source} (λ t. (x, t))) state;
             most = l.most;
             some = some;
             few = omega (arith, most, last);
@@ -234,10 +224,10 @@ module _ (party : ℕ) (pid : ℤ) (l : Loan) (h : History) (o : OfClaim party p
           }
         where
           same_mode : StandsAs woke.it q → (agent_of (woken (now h).moment q)).mode ≡ (agent_of (woken behind.moment woke.it)).mode
-          same_mode s = woken_field (λ (p : Process). p.mode) (λ p r w es due section. refl) (now h).moment q ∙ s.mode ∙ sym (woken_field (λ (p : Process). p.mode) (λ p r w es due section. refl) behind.moment woke.it)
+          same_mode s = ap (λ (y : Agent). y.mode) (woken_agent (now h).moment q) ∙ s.mode ∙ sym (ap (λ (y : Agent). y.mode) (woken_agent behind.moment woke.it))
 
           same_units : StandsAs woke.it q → (agent_of (woken (now h).moment q)).units ≡ (agent_of (woken behind.moment woke.it)).units
-          same_units s = woken_field (λ (p : Process). p.units) (λ p r w es due section. refl) (now h).moment q ∙ s.units ∙ sym (woken_field (λ (p : Process). p.units) (λ p r w es due section. refl) behind.moment woke.it)
+          same_units s = ap (λ (y : Agent). y.units) (woken_agent (now h).moment q) ∙ s.units ∙ sym (ap (λ (y : Agent). y.units) (woken_agent behind.moment woke.it))
 
           same_section : (agent_of (woken (now h).moment q)).section ≡ (agent_of (woken behind.moment woke.it)).section
-          same_section = woken_section (now h).moment q ∙ sym (woken_section behind.moment woke.it)
+          same_section = ap (λ (y : Agent). y.section) (woken_agent (now h).moment q) ∙ sym (ap (λ (y : Agent). y.section) (woken_agent behind.moment woke.it))

@@ -1,15 +1,17 @@
 -- Behind a claim, and entries of others, the process stands where it stood, or has ended. It rests on where processes come from: a step leaves all but its own process.
-use Rattle.std.proofs.Common.{◌≡◌, ◌⊎◌, ℕ, ℤ, pos, ◌<ℤ◌, ◌≤ℤ◌, ints, Bool, true, false, cond, List, [], ◌∷◌, ◌++◌, refl, sym, ◌∙◌, ap, subst, arith, Option, Some, None, inl, inr, append-nil, append_assoc}
+use Rattle.std.proofs.Common.{◌≡◌, ◌⊎◌, ℕ, ℤ, pos, ◌<ℤ◌, ◌≤ℤ◌, Bool, true, false, cond, List, [], ◌∷◌, ◌++◌, refl, sym, ◌∙◌, ap, subst, arith, Option, Some, None, inl, inr, append-nil, append_assoc}
 use Rattle.std.specs.Prelude.{find, ◌&&◌, ◌||◌}
 use Rattle.std.specs.List.{list_any}
 use Rattle.std.specs.Option.{option_map}
 use Rattle.std.specs.Ordering.{int_eq}
 use Rattle.std.proofs.lemmas.Bool.{and_parts, false≢true}
 use Rattle.std.proofs.lemmas.Cmp.{int_eq_equiv}
+use Rattle.std.proofs.lemmas.Int.{ints}
 use Rattle.muck_laws.proofs.Numbers.{same_pid}
+use Rattle.muck_model.specs.declared.dbref.Dbref.{Dbref}
 use Rattle.muck_model.specs.declared.event.Entry.{Entry}
 use Rattle.muck_model.specs.declared.event.Event.{Event}
-use Rattle.muck_model.specs.declared.event.Event.TheVariants.{Closed, Exec, Claim, Slice, Commit, Lost, Starved}
+use Rattle.muck_model.specs.declared.event.Event.TheVariants.{Closed, Exec, Slice, Commit}
 use Rattle.muf_model.specs.Datum.{Datum}
 use Rattle.muck_queue.specs.declared.process.Process.{Process}
 use Rattle.muck_queue.specs.Queues.{Queue, has_pid, process, reads_from, is_tied_to, is_reading, reader}
@@ -25,7 +27,7 @@ use Rattle.spec_events.proofs.Happening.{effect-starts}
 use Rattle.spec_events.proofs.Numbers.{numbered_effect}
 use Rattle.spec_events.proofs.Sourcing.{each_more}
 use Rattle.spec_events.proofs.Turns.{told_effect}
-use Rattle.spec_origins.specs.Origins.{Among, GoesOn, StandsStill, From, was_there, is_new, Comes, no_own_process, LineOrigins, TurnOrigins, EventOrigins, LostIn, StartedIn}
+use Rattle.spec_origins.specs.Origins.{Among, SameEvents, MoreEvents, StandsStill, From, was_there, is_new, Comes, no_own_process, StartedBy, LineOrigins, TurnOrigins, StartedIn}
 use Rattle.spec_origins.proofs.Histories.{event_comes}
 use Rattle.spec_claims.specs.inner.Claims.{IsSole, AreOthers}
 use Rattle.spec_claims.specs.inner.Standing.{StandsAs, StaysAs}
@@ -70,14 +72,14 @@ stands_still sends p q r s t = by_events t.events
       events = e ∙ ap (λ (es : List (List ℕ × Datum)). es ++ more) s.events ∙ append_assoc p.events s.sent more;
     }
 
-    by_events : _ → StandsAs p r
+    by_events : SameEvents q r ⊎ ((sends ≡ true) × MoreEvents q r) → StandsAs p r
     by_events (inl same) = so [] (same.0 ∙ sym (append-nil q.events))
     by_events (inr more) = so more.1.0.0 more.1.0.1
 
 -- A step whose own process is another.
 
 module _ (pid : ℤ) (it : Process) where
-  stays_comes : (own : ℤ → Bool) (sends : Bool) (Gone : _ → Type 0) (New : Process → Type 0) (q r : Queue) → own pid ≡ false → ((p : Process) → New p → q.last <ℤ p.number) → Comes own sends Gone New q r → StaysAs pid it q → StaysAs pid it r
+  stays_comes : (own : ℤ → Bool) (sends : Bool) (Gone : Dbref → Type 0) (New : Process → Type 0) (q r : Queue) → own pid ≡ false → ((p : Process) → New p → q.last <ℤ p.number) → Comes own sends Gone New q r → StaysAs pid it q → StaysAs pid it r
   stays_comes own sends Gone New q r apart above c s = record {
     given = let g = s.given in let l = c.last in omega (arith, ints, g, l);
     each = each_more (From own sends Gone New q.processes) (λ p. p.number ≡ pid → StandsAs it p) one r.processes c.processes;
@@ -124,9 +126,9 @@ module _ (pid : ℤ) (it : Process) where
 
   -- a line
 
-  stays_line : is_reading it ≡ false → (d : ℕ) (taker : Option ℤ) (player : _) (w v : World) → reader d w.queue ≡ taker → LineOrigins d taker player w v → StaysAs pid it w.queue → StaysAs pid it v.queue
+  stays_line : is_reading it ≡ false → (d : ℕ) (taker : Option ℤ) (player : Option Dbref) (w v : World) → reader d w.queue ≡ taker → LineOrigins d taker player w v → StaysAs pid it w.queue → StaysAs pid it v.queue
   stays_line quiet d (Some n) player w v e c s = stays_comes (λ m. int_eq m n) false _ (λ q. ⊥) w.queue v.queue (not_reader quiet d w.queue n s e) (λ p n. absurd n) c s
-  stays_line quiet d None (Some player) w v e c s = stays_comes no_own_process false _ _ w.queue v.queue refl (λ p n. n.number) c s
+  stays_line quiet d None (Some player) w v e c s = stays_comes no_own_process false _ (StartedBy d player w.queue.last v) w.queue v.queue refl (λ p n. n.number) c s
   stays_line quiet d None None w v e c s = stays_comes no_own_process false _ (λ q. ⊥) w.queue v.queue refl (λ p n. absurd n) c s
 
   stays_turn : is_reading it ≡ false → (d : ℕ) (o : Option Connection) (w v : World) → TurnOrigins d o w v → StaysAs pid it w.queue → StaysAs pid it v.queue

@@ -40,7 +40,7 @@ loan_most w x s = min (allowed w.live.board.tune (acting x s w.live.objects).lev
 
 -- what is lent of a process in this world, that far
 abbrev pub loan_of : ℕ → ℤ → World → Phase → Agent × Source → Loan
-loan_of party pid w phase (x, s) = record { party = party; pid = pid; epoch = w.live.board.turns; most = loan_most w x s; phase = phase }
+loan_of party pid w phase at = record { party = party; pid = pid; epoch = w.live.board.turns; most = loan_most w at.0 at.1; phase = phase }
 
 -- What is lent: nothing where the party hasn't claimed the process or it has ended, and else it as it stands once it is awake.
 abbrev pub LentAs : ℕ → ℤ → World → Option Loan → Type 0

@@ -54,7 +54,7 @@ slice_released : (pid : ℤ) (w : World) (party : ℕ) → IsTold w.live → Eve
 unfolding released
 slice_released pid w party told = let h = slice_comes pid w told in record { processes = h.processes; last = h.last }
 
-event_comes : (event : Event) (w : World) (party : ℕ) → IsTold w.live → EventOrigins event w (happened w party event)
+pub event_comes : (event : Event) (w : World) (party : ℕ) → IsTold w.live → EventOrigins event w (happened w party event)
 event_comes (Exec d) w party told = line_comes d (connection d w) w told
 event_comes (Slice pid) w party told = slice_released pid w party told
 event_comes (Commit pid) w party told = slice_released pid w party told
