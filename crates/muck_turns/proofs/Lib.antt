@@ -7,6 +7,7 @@ pub mod Dumping
 pub mod Joining
 pub mod Idling
 pub mod Slices
+pub mod Copying
 pub mod Deeds
 pub mod Processes
 pub mod Seeing

@@ -1,6 +1,6 @@
 -- The units of a slice, many at once.
 use Rattle.std.proofs.Common.{◌≡◌, ℕ, zero, suc, ◌+◌, ◌-◌, ◌^◌, ◌<◌, ◌≤◌, min, List, length, Bool, true, false, Option, Some, None, refl, sym, ap, ◌∙◌, subst, arith, inl, inr}
-use Rattle.std.specs.Prelude.{ℤ}
+use Rattle.std.specs.Prelude.{ℤ, IfSome}
 use Rattle.std.specs.Option.{option_map, option_map_or, option_and_then}
 use Rattle.std.proofs.Math.Nat.{min-le_left}
 use Rattle.muck_model.specs.declared.dbref.Dbref.{Dbref}
@@ -35,7 +35,7 @@ use Rattle.muck_turns.specs.declared.state.deeds.Done.TheVariants.{Does as DoneD
 use Rattle.muck_turns.specs.declared.state.limits.Allowance.{Allowance}
 use Rattle.muck_turns.specs.declared.state.limits.Allowance.TheVariants.{Through, Spent, Units}
 use Rattle.muck_turns.specs.inner.Deeds.{DoneAs}
-use Rattle.muck_turns.specs.inner.Limits.{LeadsTo, Allows, ran, ran_units, asked_units, Runs, Stops, MetersOn, TookFrom}
+use Rattle.muck_turns.specs.inner.Limits.{LeadsTo, Allows, ran, ran_units, asked_units, left_behind, Runs, Stops, MetersOn, TookFrom}
 use Rattle.spec_claims.specs.Loans.{RanFrom, MetersRest}
 
 -- How many units a run takes.
@@ -183,7 +183,7 @@ module _ (tune : Tune) (pid : ℤ) where
       (omega (arith, all, is), omega (arith, is, units_are))
 
   none_plus : (m : Made) → m ≡ plus 0 m
-  none_plus m = let sum : m.units ≡ 0 + m.units = omega arith in ap (λ n. record { world = m.world; units = n }) sum
+  none_plus m = let sum : m.units ≡ 0 + m.units = omega arith in ap {B = Made} (λ n. record { world = m.world; units = n }) sum
 
   unlent : (p : Process) (o : Option Source) → option_map {U = Agent × Source} (λ s. (agent_of p, s)) o ≡ None → o ≡ None
   unlent p None e = refl
@@ -212,7 +212,7 @@ module _ (tune : Tune) (pid : ℤ) where
 module _ (tune : Tune) (pid : ℤ) (x : Agent) where
   -- the world that the state is out of is as good
   asked_more : (n : ℕ) (m : Made) → plus n (plus 1 m) ≡ plus (suc n) m
-  asked_more n m = let sum : n + (1 + m.units) ≡ suc n + m.units = omega arith in ap (λ k. record { world = m.world; units = k }) sum
+  asked_more n m = let sum : n + (1 + m.units) ≡ suc n + m.units = omega arith in ap {B = Made} (λ k. record { world = m.world; units = k }) sum
 
   resumed_ran : (n left : ℕ) (program : ℤ) (o : Outcome) (w : World) → plus n (resumed tune pid x n left program o w) ≡ plus (ran_units n o) (going_on tune (left - ran_units n o) pid (ran pid x n program o (out pid w)))
   resumed_ran n left program (asks p t) w =
@@ -301,12 +301,19 @@ module _ (tune : Tune) (pid : ℤ) (x : Agent) where
 
 -- How many units a run is, with the one that it asks for.
 
-pub asked_so : (n : ℕ) (r : Ran) (o : Outcome) → RanAlike r o → n + asked_units r ≡ ran_units n o
-asked_so n (Going t) (goes k u) h = omega arith
-asked_so n (Asking p t) (asks q u) h = omega arith
-asked_so n Ended ended h = omega arith
-asked_so n (Faulted f) (faulted g) h = omega arith
-asked_so n _ _ h = absurd h
+pub asked_all : (n : ℕ) (r : Ran) (o : Outcome) → RanAlike r o → n + asked_units r ≡ ran_units n o
+asked_all n (Going t) (goes k u) h = omega arith
+asked_all n (Asking p t) (asks q u) h = omega arith
+asked_all n Ended ended h = omega arith
+asked_all n (Faulted f) (faulted g) h = omega arith
+asked_all n _ _ h = absurd h
+
+-- it asks for one at most
+pub asked_most : (r : Ran) → asked_units r ≤ 1
+asked_most (Going t) = omega arith
+asked_most (Asking p t) = omega arith
+asked_most Ended = omega arith
+asked_most (Faulted f) = omega arith
 
 pub taken_few : (most : ℕ) (s : Source) (n : ℕ) → n ≡ taken most s → n ≤ most
 taken_few most s n e = let few = taken_most most s in omega (arith, e, few)
@@ -314,6 +321,11 @@ taken_few most s n e = let few = taken_most most s in omega (arith, e, few)
 pub took_here : (most : ℕ) (s : Source) (x : Agent) (a : Actor) (program : Dbref) (stint : Stint) (w : World) → most < 2 ^ 32 → RanAlike stint.ran (units most s) → stint.units ≡ taken most s → AskedAt stint.ran →
     a ≡ acting x s w.live.objects → program.0 ≡ s.program.number → TookFrom most s x a program stint w
 took_here most s x a program stint w few ran count asked acts number = record { few = few; ran = ran; count = count; asked = asked; acts = acts; program = number }
+
+-- All units of the slice, by what the code has of it.
+units_all : (pid : ℤ) (tune : Tune) (most : ℕ) (w u : World) → tune ≡ w.live.board.tune → most ≡ slice_most tune → u ≡ process_awake pid w → length (units_run tune most pid u) ≡ length (units_of pid w)
+units_all pid tune most w u tuned count woke =
+    ap (λ n. length (units_run tune n pid u)) count ∙ ap (λ t. length (units_run t (slice_most t) pid u)) tuned ∙ ap (λ y. length (units_run w.live.board.tune (slice_most w.live.board.tune) pid y)) woke
 
 -- What a run outside left.
 
@@ -357,13 +369,38 @@ module _ (pid : ℤ) (stint : Stint) (w : World) (r : RanFrom pid stint w) where
       pub rest_ends : Runs pid x r.most r.state o v None → finish tune left pid u ≡ plus (ran_units (taken r.most r.state) (units r.most r.state)) (none v)
       rest_ends h = stops_made tune pid x left r.state u v stands_here (Units r.most) (r.some, may) r.most o r.some may lent h
 
+      -- no more were taken than may be
+      pub rest_few : (next : Option ℕ) → Runs pid x r.most r.state o v next → IfSome next (λ k. k ≤ left)
+      rest_few (Some k) h = (ran_left tune (acting x r.state u.live.objects).level left r.most k x r.state r.some may h.0).1
+      rest_few None h = tt
+
+      -- the units that are left behind them lead where the whole slice leads
+      pub rest_made : (next : Option ℕ) → Runs pid x r.most r.state o v next → last_world u (units_run tune left pid u) ≡ last_world v (left_behind tune pid left v next)
+      rest_made (Some k) h = ap (λ (m : Made). m.world) (rest_goes k h)
+      rest_made None h = ap (λ (m : Made). m.world) (rest_ends h)
+
+      -- and with them they are as many as those of the whole slice
+      pub rest_count : (next : Option ℕ) → Runs pid x r.most r.state o v next →
+          length (units_run tune left pid u) ≡ ran_units (taken r.most r.state) (units r.most r.state) + length (left_behind tune pid left v next)
+      rest_count (Some k) h =
+          let all : length (units_run tune left pid u) ≡ k + length (units_run tune (left - k) pid v) = ap (λ (m : Made). m.units) (rest_goes k h) in
+          let count : k ≡ ran_units (taken r.most r.state) (units r.most r.state) = h.0 in
+          omega (arith, all, count)
+      rest_count None h = ap (λ (m : Made). m.units) (rest_ends h)
+
+      -- so the meter shows the units of the slice but those that ran outside
+      pub rest_meter : (next : Option ℕ) → Runs pid x r.most r.state o v next → (before between shown : ℕ) → between ≡ before + asked_units stint.ran →
+          shown ≡ between + length (left_behind tune pid left v next) → MetersRest pid stint.units w before shown
+      rest_meter next h before between shown asked is =
+          let whole = units_all pid tune left w u tuned most_is woke in
+          let parts = rest_count next h in
+          let all = asked_all (taken r.most r.state) stint.ran (units r.most r.state) r.ran in
+          let count = r.count in
+          omega (arith, asked, is, whole, parts, all, count)
+
 -- The meter of a whole slice.
 pub slice_meter : (pid : ℤ) (tune : Tune) (most : ℕ) (w u : World) (before shown : ℕ) → tune ≡ w.live.board.tune → most ≡ slice_most tune → u ≡ process_awake pid w → shown ≡ before + length (units_run tune most pid u) → MetersRest pid 0 w before shown
-slice_meter pid tune most w u before shown tuned count woke is =
-    let all : length (units_run tune most pid u) ≡ length (units_of pid w)
-        = ap (λ n. length (units_run tune n pid u)) count ∙ ap (λ t. length (units_run t (slice_most t) pid u)) tuned ∙ ap (λ y. length (units_run w.live.board.tune (slice_most w.live.board.tune) pid y)) woke
-    in
-    omega (arith, is, all)
+slice_meter pid tune most w u before shown tuned count woke is = let all = units_all pid tune most w u tuned count woke in omega (arith, is, all)
 
 -- The whole of it: the process wakes, takes its units, and then nobody claims it.
 pub slice_so : (pid : ℤ) (tune : Tune) (most : ℕ) (w u v : World) → tune ≡ w.live.board.tune → most ≡ slice_most tune → u ≡ process_awake pid w → v ≡ last_world u (units_run tune most pid u) → on_queue (released pid) v ≡ happened w 0 (Slice pid)

@@ -30,14 +30,9 @@ impl Agent {
     pub fn awake(process: &Process) -> Self
         ensures { result ≡ agent_awake process.now }
     {
-        Agent {
-            player: process.player,
-            trigger: process.trigger,
-            descr: process.descr,
-            mode: process.mode,
-            units: process.units,
-            section: 0,
-        }
+        let mut agent = Agent::of(process);
+        agent.section = 0;
+        agent
     }
 }
 

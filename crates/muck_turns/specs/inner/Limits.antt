@@ -1,5 +1,5 @@
 -- Slices, by what the code of them answers.
-use Rattle.std.specs.Prelude.{◌≡◌, ◌⊎◌, ℕ, suc, ◌+◌, ◌<◌, ◌≤◌, ◌^◌, length, ℤ, Bool, true, false, Option, Some, None}
+use Rattle.std.specs.Prelude.{◌≡◌, ◌⊎◌, ℕ, suc, ◌+◌, ◌-◌, ◌<◌, ◌≤◌, ◌^◌, List, [], length, ℤ, Bool, true, false, Option, Some, None}
 use Rattle.muck_model.specs.declared.tune.Tune.{Tune}
 use Rattle.muck_model.specs.declared.dbref.Dbref.{Dbref}
 use Rattle.spec_rights.specs.declared.act.Actor.{Actor}
@@ -12,8 +12,9 @@ use Rattle.muf_model.specs.Unit.{Outcome, goes, asks, units}
 use Rattle.muf_model.specs.Chains.{taken}
 use Rattle.spec_events.specs.declared.starting.Agent.{Agent}
 use Rattle.spec_events.specs.World.{World}
-use Rattle.spec_events.specs.Slices.{acting, Went, on, rest, over, world_of, deed, after_deed, unit_went, is_through, limit_fault, units_run, last_world}
+use Rattle.spec_events.specs.Slices.{acting, Went, on, rest, over, world_of, deed, after_deed, unit_went, is_through, limit_fault, Taken, units_run, last_world}
 use Rattle.spec_events.specs.inner.Stints.{allowed, many_counted}
+use Rattle.spec_claims.specs.Loans.{loan_most}
 use Rattle.muck_turns.specs.declared.state.limits.Allowance.{Allowance}
 use Rattle.muck_turns.specs.declared.state.limits.Allowance.TheVariants.{Through, Spent, Units}
 
@@ -59,10 +60,19 @@ abbrev pub MetersOn : Tune → ℤ → ℕ → World → World → ℕ → ℕ �
 MetersOn tune pid n w v before shown (Some left) = (shown + left ≤ before + n) × (shown + length (units_run tune left pid v) ≡ before + length (units_run tune n pid w))
 MetersOn tune pid n w v before shown None = shown ≡ before + length (units_run tune n pid w)
 
+-- the units that a slice of so many takes behind those that ran, where it goes on
+abbrev pub left_behind : Tune → ℤ → ℕ → World → Option ℕ → List Taken
+left_behind tune pid most w (Some k) = units_run tune (most - k) pid w
+left_behind tune pid most w None = []
+
 -- the unit that a run asks for
 abbrev pub asked_units : Ran → ℕ
 asked_units (Asking p t) = 1
 asked_units r = 0
+
+-- what is copied of a process that acts for this one and stands there: that, and how many units it may take without being asked again
+abbrev pub copied_at : World → Agent × Source → Source × ℕ
+copied_at w at = (at.1, loan_most w at.0 at.1)
 
 -- This is what a run of at most so many units left of a process that stood here, in this program, and who acts there.
 pub record TookFrom (most : ℕ) (s : Source) (x : Agent) (a : Actor) (program : Dbref) (stint : Stint) (w : World) : Type 0 where

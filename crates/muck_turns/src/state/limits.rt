@@ -86,7 +86,7 @@ pub(super) fn allowed(tune: &Tune, level: u8, agent: &Agent, left: u64) -> u32
     ensures some { 0 < allowed tune.now level left agent.now → 0 < result }
 {
     let some = unbroken(tune, agent, left).min(unspent(tune, level, agent, left));
-    u32::try_from(some.min(left)).unwrap_or(u32::MAX)
+    u32::try_from(left.min(some)).unwrap_or(u32::MAX)
 }
 
 // The units before a section is too long, or a slice is through.

@@ -5,13 +5,12 @@ ghost use Rattle.muck_model.specs.declared.event.Event.{Event};
 ghost use Rattle.muf_model.specs.Source.{Source};
 ghost use Rattle.muf_model.specs.Chains.{StandsAt, taken};
 ghost use Rattle.muf_model.specs.Unit.{fault_met, units};
-ghost use Rattle.spec_events.specs.declared.starting.Agent.{Agent};
 ghost use Rattle.spec_events.specs.Slices.{acting, after_deed, broken, deed, last_world, out, units_run, seat, slice_most, unit_went};
-ghost use Rattle.spec_claims.specs.Loans.{loan_most, woken_seat, RanFrom, MetersRest};
+ghost use Rattle.spec_claims.specs.Loans.{woken_seat, RanFrom, MetersRest};
 ghost use Rattle.spec_events.specs.Steps.{happened, hooked_by};
 ghost use Rattle.muck_turns.specs.inner.Hooks.{AreTold};
 ghost use Rattle.spec_live.specs.Stood.{IsStill};
-ghost use Rattle.muck_turns.specs.inner.Limits.{LeadsTo, Runs, Stops, MetersOn, TookFrom, asked_units, ran_units};
+ghost use Rattle.muck_turns.specs.inner.Limits.{LeadsTo, Runs, Stops, MetersOn, TookFrom, asked_units, copied_at, left_behind, ran_units};
 
 use crate::state::State;
 use crate::state::deeds::Done;
@@ -57,7 +56,7 @@ impl State {
     /// A copy of a process as it stands once it is awake, and how many units of its slice it may take without being asked again; `None` exactly where it isn't
     /// there. Nothing changes.
     pub fn copy_awake(&self, pid: i32) -> Result<Option<(Running, u32)>, NoMemory>
-        ensures { IfOk result (λ found. found ≡ option_map (λ (at : Agent × Source). (at.1, loan_most self.now at.0 at.1)) (woken_seat pid self.now)) }
+        ensures { IfOk result (λ found. found ≡ option_map (copied_at self.now) (woken_seat pid self.now)) }
     {
         let Some(process) = self.queue.get(pid) else {
             return Ok(None);
@@ -68,7 +67,8 @@ impl State {
         let agent = Agent::awake(process);
         let actor = self.actor(agent, &running)?;
         let tune = self.board.tune();
-        let most = allowed(&tune, actor.level, &agent, slice_most(&tune));
+        let left = slice_most(&tune);
+        let most = allowed(&tune, actor.level, &agent, left);
         Ok(Some((running, most)))
     }
 
@@ -103,9 +103,8 @@ impl State {
         let actor = self.actor(agent, &own)?;
         let program = own.program();
         drop(own);
-        if let Some(units) = self.took(pid, agent, actor, program, stint, meter)? {
-            self.take_units(&tune, pid, most - units, meter)?;
-        }
+        let next = self.took(pid, agent, actor, program, stint, meter)?;
+        self.take_left(&tune, pid, most, next, meter)?;
         self.queue.release(pid);
         Ok(())
     }
@@ -127,6 +126,26 @@ impl State {
         match ran {
             Some(stint) => self.resume(pid, stint, meter),
             None => self.slice(pid, meter),
+        }
+    }
+
+    // The units of a slice of so many behind those that ran, where it goes on behind so many.
+    fn take_left(
+        &mut self,
+        tune: &Tune,
+        pid: i32,
+        most: u64,
+        next: Option<u64>,
+        meter: &mut Meter,
+    ) -> Result<(), NoMemory>
+        requires room { meter.old + most < 2 ^ 63 }
+        requires few { IfSome next (λ units. units ≤ most) }
+        ensures world { OnOk result (self.new ≡ last_world self.old (left_behind tune.now pid most self.old next)) }
+        ensures meter { OnOk result (meter.new ≡ meter.old + length (left_behind tune.now pid most self.old next)) }
+    {
+        match next {
+            Some(units) => self.take_units(tune, pid, most - units, meter),
+            None => Ok(()),
         }
     }
 

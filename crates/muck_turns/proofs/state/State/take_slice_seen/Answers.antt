@@ -1,4 +1,4 @@
-use Rattle.std.proofs.Common.{ap, ◌∙◌, arith}
+use Rattle.std.proofs.Common.{ap, ◌∙◌}
 use Rattle.std.proofs.lemmas.Int.{to_z-of_z}
 use Rattle.muck_queue.specs.Queues.{released, on_process, woken}
 use Rattle.spec_events.specs.World.{World, on_queue}

@@ -1,4 +1,4 @@
-use Rattle.std.proofs.Common.{◌+◌, true, false, Some, arith, sym, ap, subst, ◌∙◌}
+use Rattle.std.proofs.Common.{◌≡◌, ◌+◌, Some, arith, sym, ap, subst, ◌∙◌}
 use Rattle.muf_running.specs.inner.Stints.{AskedAt}
 use Rattle.muck_turns.specs.inner.Limits.{asked_units}
 use Rattle.std.proofs.lemmas.Int.{to_z-of_z}
@@ -36,29 +36,29 @@ returns-in-Going-clause-runs c m s f =
 pub ask-requires-clause-actor : goal.ask-requires-clause-actor
 ask-requires-clause-actor c =
     let (m, s, f) = c.requires.from in
-    acts_so c.args.pid c.args.agent m c.args.stint.units s c.args.self.now c.args.self.now c.args.stint.ran f.ran f.count c.in-Asking.prim c.in-Asking.at c.args.actor c.self.inside.db c.in-Asking.is
-    (f.acts ∙ ap (λ (y : World). acting c.args.agent s y.live.objects) (sym c.self.view_is))
+    acts_so c.args.pid c.args.agent m c.args.stint.units s c.args.self.now c.args.self.now c.args.stint.ran f.ran f.count c.in-Asking.prim c.in-Asking.at c.args.actor c.self-in-Asking.inside.db c.in-Asking.is
+    (f.acts ∙ ap (λ (y : World). acting c.args.agent s y.live.objects) (sym c.self-in-Asking.view_is))
 
 pub returns-then-goes_on-clause-runs : goal.returns-then-goes_on-clause-runs
 returns-then-goes_on-clause-runs c m s f =
     let h = c.ranges.pid in
     let same = c.from-then-goes_on.ensures in
     asking_so c.args.pid c.args.agent m c.args.stint.units s c.args.self.now _ c.args.stint.ran f.ran f.count c.in-Asking.prim c.in-Asking.at _ (c.args.stint.units + 1) (c.from-then-goes_on.result + 1) _ c.in-Asking.is
-    (omega arith) (ap (λ q. state.the_view (record c.self.inside { queue = q })) (simp to_z-of_z at c.count-in-Asking.ensures) ∙ ap (many_counted (c.args.stint.units + 1) c.args.pid) c.self.view_is)
+    (omega arith) (ap (λ q. state.the_view (record c.self-in-Asking.inside { queue = q })) (simp to_z-of_z at c.count-in-Asking.ensures) ∙ ap (many_counted (c.args.stint.units + 1) c.args.pid) c.self-in-Asking.view_is)
     c.if-goes_on.true (simp to_z-of_z at c.in_ok-goes_on-in-Asking.ensures) (omega arith)
 
 pub returns-else-goes_on-clause-runs : goal.returns-else-goes_on-clause-runs
 returns-else-goes_on-clause-runs c m s f =
     let h = c.ranges.pid in
     asked_so c.args.pid c.args.agent m c.args.stint.units s c.args.self.now _ c.args.stint.ran f.ran f.count c.in-Asking.prim c.in-Asking.at _ (c.args.stint.units + 1) _ c.in-Asking.is
-    (omega arith) (ap (λ q. state.the_view (record c.self.inside { queue = q })) (simp to_z-of_z at c.count-in-Asking.ensures) ∙ ap (many_counted (c.args.stint.units + 1) c.args.pid) c.self.view_is)
+    (omega arith) (ap (λ q. state.the_view (record c.self-in-Asking.inside { queue = q })) (simp to_z-of_z at c.count-in-Asking.ensures) ∙ ap (many_counted (c.args.stint.units + 1) c.args.pid) c.self-in-Asking.view_is)
     c.if-goes_on.false (simp to_z-of_z at c.in_ok-goes_on-in-Asking.ensures)
 
 pub returns-in-Ended-clause-runs : goal.returns-in-Ended-clause-runs
 returns-in-Ended-clause-runs c m s f =
     let h = c.ranges.pid in
     ended_so c.args.pid c.args.agent m c.args.stint.units s c.args.self.now _ c.args.stint.ran f.ran f.count c.in-Ended.is
-    (ap (λ q. state.the_view (record c.self.inside { queue = q })) (simp to_z-of_z at c.kill.ensures.rest) ∙ ap (ended_one c.args.pid) c.self.view_is)
+    (ap (λ q. state.the_view (record c.self-in-Ended.inside { queue = q })) (simp to_z-of_z at c.kill.ensures.rest) ∙ ap (ended_one c.args.pid) c.self-in-Ended.view_is)
 
 pub returns-in_ok-end_broken-in-Faulted-clause-runs : goal.returns-in_ok-end_broken-in-Faulted-clause-runs
 returns-in_ok-end_broken-in-Faulted-clause-runs c m s f =
@@ -72,16 +72,16 @@ ask-requires-clause-at c = let (m, s, f) = c.requires.from in subst AskedAt c.in
 -- the meter
 
 pub returns-in-Going-clause-meter : goal.returns-in-Going-clause-meter
-returns-in-Going-clause-meter c = let none = ap asked_units c.in-Going.is in omega (arith, none)
+returns-in-Going-clause-meter c = let none : asked_units c.args.stint.ran ≡ 0 = ap asked_units c.in-Going.is in omega (arith, none)
 
 pub returns-then-goes_on-clause-meter : goal.returns-then-goes_on-clause-meter
-returns-then-goes_on-clause-meter c = let one = ap asked_units c.in-Asking.is in let ticked = c.tick.ensures in omega (arith, one, ticked)
+returns-then-goes_on-clause-meter c = let one : asked_units c.args.stint.ran ≡ 1 = ap asked_units c.in-Asking.is in let ticked = c.tick.ensures in omega (arith, one, ticked)
 
 pub returns-else-goes_on-clause-meter : goal.returns-else-goes_on-clause-meter
-returns-else-goes_on-clause-meter c = let one = ap asked_units c.in-Asking.is in let ticked = c.tick.ensures in omega (arith, one, ticked)
+returns-else-goes_on-clause-meter c = let one : asked_units c.args.stint.ran ≡ 1 = ap asked_units c.in-Asking.is in let ticked = c.tick.ensures in omega (arith, one, ticked)
 
 pub returns-in-Ended-clause-meter : goal.returns-in-Ended-clause-meter
-returns-in-Ended-clause-meter c = let none = ap asked_units c.in-Ended.is in omega (arith, none)
+returns-in-Ended-clause-meter c = let none : asked_units c.args.stint.ran ≡ 0 = ap asked_units c.in-Ended.is in omega (arith, none)
 
 pub returns-in_ok-end_broken-in-Faulted-clause-meter : goal.returns-in_ok-end_broken-in-Faulted-clause-meter
-returns-in_ok-end_broken-in-Faulted-clause-meter c = let none = ap asked_units c.in-Faulted.is in omega (arith, none)
+returns-in_ok-end_broken-in-Faulted-clause-meter c = let none : asked_units c.args.stint.ran ≡ 0 = ap asked_units c.in-Faulted.is in omega (arith, none)
