@@ -24,6 +24,7 @@ use Rattle.spec_events.specs.Logged.{ArePlaced, IsCountPlaced, IsPlaced}
 use Rattle.spec_commands.specs.inner.Rising.{IsRising}
 use Rattle.spec_events.specs.inner.Sound.{IsSound}
 use Rattle.spec_events.proofs.Living.{dead-effect}
+use Rattle.spec_events.proofs.Numbers.{numbered_effect}
 use Rattle.spec_events.proofs.Reached.{sound-effect, died_lawful}
 use Rattle.spec_events.proofs.Runs.{after-append, lawful-append}
 use Rattle.spec_events.proofs.Stilling.{still_effect}
@@ -32,6 +33,7 @@ use Rattle.spec_events.proofs.Logging.{placed_entered, placed_noted, placed_link
 use Rattle.muck_turns.specs.inner.Hooks.{AreTold}
 use Rattle.muck_machine.specs.declared.past.Past.{Past}
 use Rattle.spec_origins.specs.Origins.{AreOwn}
+use Rattle.spec_origins.proofs.Runs.{effect_own}
 use Rattle.muck_queue.specs.Queues.{empty_queue}
 use Rattle.muck_machine.specs.inner.Keeping.{Keeps, history, told, remarked, counted_at_end, lost, Concludes}
 
@@ -132,6 +134,14 @@ told_after w (e ∷ es) told = told_after (effect w e) es (told_effect w e told)
 
 pub told_seen : (p : Past) (state : World) (h : History) → Keeps p state → history p ≡ h → (now h).dead ≡ false → AreTold state.live.objects
 told_seen p state h k v alive = subst (λ (w : World). AreTold w.live.objects) (sym (k.lives (sym (dead_seen p state h k v) ∙ alive))) (told_after p.origin p.tale.entries k.told)
+
+-- and each process runs its own program
+own_after : (w : World) (es : List Entry) → IsNumbered w.queue → AreOwn w → AreOwn (after w es)
+own_after w [] numbered own = own
+own_after w (e ∷ es) numbered own = own_after (effect w e) es (numbered_effect w e numbered) (effect_own w e numbered own)
+
+pub own_seen : (p : Past) (state : World) (h : History) → Keeps p state → history p ≡ h → (now h).dead ≡ false → AreOwn state
+own_seen p state h k v alive = subst AreOwn (sym (k.lives (sym (dead_seen p state h k v) ∙ alive))) (own_after p.origin p.tale.entries k.numbered k.own)
 
 -- and the connections stand by rising number
 pub rising_seen : (p : Past) (state : World) (h : History) → Keeps p state → history p ≡ h → (now h).dead ≡ false → IsRising state.live.board.connections

@@ -1,6 +1,7 @@
 // A process that was lent to a party.
 ghost use Rattle.std.specs.Prelude.{◌≡◌, ◌<◌, ◌+◌, ◌^◌, ◌&&◌, ◌==◌, ℕ, OnOk, OnErr, IfSome, IfNone, false, nat_lt};
 ghost use Rattle.muf_model.specs.Source.{Source};
+ghost use Rattle.muf_running.specs.declared.stint.Stint.{Stint};
 ghost use Rattle.spec_live.specs.Boards.{turns_most};
 ghost use Rattle.spec_claims.specs.Loans.{Phase, fresh, ran, refused, HasRun, units_in};
 ghost use Rattle.turn_lock.specs.declared.view.Place.TheVariants.{Idle as AtRest};
@@ -72,14 +73,15 @@ impl Lent {
     }
 
     // What its run left, where that counts in a world at this epoch: it is the same as at the claim, and isn't the last.
-    pub(crate) fn kept(self, epoch: u64) -> Option<Stint>
-        ensures some { IfSome result (λ stint. (self.phase ≡ ran stint) × ((self.epoch == epoch && nat_lt epoch turns_most) ≡ true) × (0 < self.most)) }
-        ensures none { IfNone result ((stint : _) → self.phase ≡ ran stint → 0 < self.most → (self.epoch == epoch && nat_lt epoch turns_most) ≡ false) }
+    pub(crate) fn kept(self, turns: u64) -> Option<Stint>
+        ensures some { IfSome result (λ stint. (self.phase ≡ ran stint) × ((self.epoch == turns && nat_lt turns turns_most) ≡ true) × (0 < self.most)) }
+        ensures none { IfNone result ((stint : Stint) → self.phase ≡ ran stint → 0 < self.most → (self.epoch == turns && nat_lt turns turns_most) ≡ false) }
     {
-        match self.step {
-            Step::Ran(stint) if self.epoch == epoch && epoch < u64::MAX && self.most > 0 => {
-                Some(stint)
-            }
+        let Lent {
+            epoch, most, step, ..
+        } = self;
+        match step {
+            Step::Ran(stint) if epoch == turns && turns < u64::MAX && most > 0 => Some(stint),
             _ => None,
         }
     }

@@ -340,9 +340,10 @@ impl World {
         Ok(Sliced::Ran)
     }
 
-    // Whether the process is there. On a dead world nothing is said of the answer.
+    // Whether the process is there. On a dead world nothing is said of the answer. Each entry so far was lawful where it stands.
     fn has_process(&self, pid: i32) -> bool
-        ensures { (now self.now).dead ≡ false → result ≡ is_process_there pid (now self.now) }
+        ensures there { (now self.now).dead ≡ false → result ≡ is_process_there pid (now self.now) }
+        ensures lawful { AllLawful self.now.start self.now.entries }
     {
         let state = &self.state;
         state.queue.get(pid).is_some()

@@ -2,6 +2,7 @@
 ghost use Rattle.std.specs.Prelude.{◌≡◌, ◌<◌, ◌^◌, IfOk, OnErr, false, true, if◌then◌else◌};
 ghost use Rattle.muck_model.specs.declared.event.Event.{Event};
 ghost use Rattle.spec_events.specs.Histories.{now, entered, EntryLicensed};
+ghost use Rattle.spec_origins.specs.Origins.{AreOwn};
 ghost use Rattle.spec_events.specs.Sections.{IsWhole};
 ghost use Rattle.spec_events.specs.Slices.{process_awake, units_of};
 ghost use Rattle.spec_events.specs.Steps.{has_claim, is_process_there};
@@ -12,6 +13,7 @@ ghost use Rattle.muck_machine.specs.inner.Claims.{commit_event, starved_event, M
 use crate::lent::{Lent, Step};
 use crate::world::{Sliced, World};
 use muck_model::{Entry, Event, NoMemory};
+use muck_turns::State;
 use muf_run::Meter;
 
 impl World {
@@ -21,20 +23,15 @@ impl World {
         ensures { IfOk result (λ lent. LentAs party pid (now self.now) lent) }
     {
         let state = &self.state;
-        if !state.queue.has_claim(party, pid) {
-            return Ok(None);
-        }
-        let Some((running, most)) = state.copy_awake(pid)? else {
-            return Ok(None);
-        };
-        Ok(Some(Lent {
-            alloc: state.alloc,
-            party,
-            pid,
-            epoch: state.board.turns(),
-            most,
-            step: Step::Fresh(running),
-        }))
+        lent_in(state, party, pid)
+    }
+
+    // The epoch. On a dead world nothing is said of it.
+    fn epoch(&self) -> u64
+        ensures { (now self.now).dead ≡ false → result ≡ (now self.now).live.board.turns }
+    {
+        let state = &self.state;
+        state.board.turns()
     }
 
     // It is learned that the process has ended.
@@ -42,7 +39,8 @@ impl World {
         requires alive { (now self.old).dead ≡ false }
         requires claim { has_claim party pid (now self.old) ≡ true }
         requires ended { is_process_there pid (now self.old) ≡ false }
-        ensures { self.new ≡ entered self.old (record { party = party; event = Event.Lost pid }) }
+        ensures step { self.new ≡ entered self.old (record { party = party; event = Event.Lost pid }) }
+        ensures licensed { EntryLicensed (record { party = party; event = Event.Lost pid }) (now self.old) (now self.new) }
     {
         let state = &mut self.state;
         state.queue.release(pid);
@@ -76,7 +74,7 @@ impl World {
             self.loses(party, pid);
             return Ok(Sliced::Lost);
         }
-        let epoch = self.state.board.turns();
+        let epoch = self.epoch();
         let ran = lent.kept(epoch);
         let done = self.state.take_over(pid, ran, meter);
         let entry = Entry {
@@ -107,4 +105,28 @@ impl World {
         });
         Sliced::Ran
     }
+}
+
+// What is lent of a process in a state in which each one runs its own program: it as it stands once it is awake.
+fn lent_in(state: &State, party: u8, pid: i32) -> Result<Option<Lent>, NoMemory>
+    requires { AreOwn state.now }
+    ensures { IfOk result (λ lent. LentAs party pid state.now lent) }
+{
+    if !state.queue.has_claim(party, pid) {
+        return Ok(None);
+    }
+    let alloc = state.alloc;
+    let epoch = state.board.turns();
+    let Some((running, most)) = state.copy_awake(pid)? else {
+        return Ok(None);
+    };
+    let step = Step::Fresh(running);
+    Ok(Some(Lent {
+        alloc,
+        party,
+        pid,
+        epoch,
+        most,
+        step,
+    }))
 }

@@ -14,7 +14,7 @@ use Rattle.muck_machine.proofs.world.World.slice.Goals as goal
 pub invariant_of-self : goal.invariant_of-self
 invariant_of-self c =
     let back : to_z w32 (of_z w32 c.args.pid) ≡ c.args.pid = search rules in
-    let there : is_process_there c.args.pid (now c.args.self.now) ≡ false = ap (λ n. is_process_there n (now c.args.self.now)) (sym back) ∙ sym (c.has_process.ensures c.requires.alive) ∙ c.if-not-has_process.true in
+    let there : is_process_there c.args.pid (now c.args.self.now) ≡ false = ap (λ n. is_process_there n (now c.args.self.now)) (sym back) ∙ sym (c.has_process.ensures.there c.requires.alive) ∙ c.if-not-has_process.true in
     let may = ap (λ pid. is_lawful (now c.args.self.now) (record { party = c.args.party; event = Lost pid })) back ∙ lost_lawful (now c.args.self.now) c.args.party c.args.pid c.requires.alive c.requires.claim there in
     keeps_entered c.self.inside.past _ _ _ _ _ c.self.invariant c.self.view_is may refl c.enter.ensures
     (lost_so (to_z w32 (of_z w32 c.args.pid)) c.args.party (state.the_view c.state.inside) _ _ c.release.ensures c.state.view_is)
@@ -22,7 +22,7 @@ invariant_of-self c =
 pub returns-then-not-has_process-clause-ran : goal.returns-then-not-has_process-clause-ran
 returns-then-not-has_process-clause-ran c =
     let back : to_z w32 (of_z w32 c.args.pid) ≡ c.args.pid = search rules in
-    let there : is_process_there c.args.pid (now c.args.self.now) ≡ false = ap (λ n. is_process_there n (now c.args.self.now)) (sym back) ∙ sym (c.has_process.ensures c.requires.alive) ∙ c.if-not-has_process.true in
+    let there : is_process_there c.args.pid (now c.args.self.now) ≡ false = ap (λ n. is_process_there n (now c.args.self.now)) (sym back) ∙ sym (c.has_process.ensures.there c.requires.alive) ∙ c.if-not-has_process.true in
     sym (cond-false _ _ _ there)
 
 pub slice-done-requires-clause-still : goal.slice-done-requires-clause-still
@@ -34,21 +34,21 @@ slice-done-requires-clause-told c = told_seen c.self.inside.past _ _ c.self.inva
 pub invariant_of-self-2 : goal.invariant_of-self-2
 invariant_of-self-2 c =
     let back : to_z w32 (of_z w32 c.args.pid) ≡ c.args.pid = search rules in
-    let there : is_process_there c.args.pid (now c.args.self.now) ≡ true = ap (λ n. is_process_there n (now c.args.self.now)) (sym back) ∙ sym (c.has_process.ensures c.requires.alive) ∙ c.if-not-has_process.false in
+    let there : is_process_there c.args.pid (now c.args.self.now) ≡ true = ap (λ n. is_process_there n (now c.args.self.now)) (sym back) ∙ sym (c.has_process.ensures.there c.requires.alive) ∙ c.if-not-has_process.false in
     let may = ap (λ pid. is_lawful (now c.args.self.now) (record { party = c.args.party; event = Slice pid })) back ∙ slice_lawful (now c.args.self.now) c.args.party c.args.pid c.requires.alive c.requires.claim there in
     keeps_concluded c.self.inside.past _ _ _ _ _ c.slice-done.result c.conclude.result c.self.invariant c.self.view_is may refl c.slice-done.ensures.slice c.conclude.ensures.same c.conclude.ensures.past
 
 pub invariant_of-self-in_err-conclude : goal.invariant_of-self-in_err-conclude
 invariant_of-self-in_err-conclude c =
     let back : to_z w32 (of_z w32 c.args.pid) ≡ c.args.pid = search rules in
-    let there : is_process_there c.args.pid (now c.args.self.now) ≡ true = ap (λ n. is_process_there n (now c.args.self.now)) (sym back) ∙ sym (c.has_process.ensures c.requires.alive) ∙ c.if-not-has_process.false in
+    let there : is_process_there c.args.pid (now c.args.self.now) ≡ true = ap (λ n. is_process_there n (now c.args.self.now)) (sym back) ∙ sym (c.has_process.ensures.there c.requires.alive) ∙ c.if-not-has_process.false in
     let may = ap (λ pid. is_lawful (now c.args.self.now) (record { party = c.args.party; event = Slice pid })) back ∙ slice_lawful (now c.args.self.now) c.args.party c.args.pid c.requires.alive c.requires.claim there in
     keeps_concluded c.self.inside.past _ _ _ _ _ c.slice-done.result c.conclude.result c.self.invariant c.self.view_is may refl c.slice-done.ensures.slice c.conclude.ensures.same c.conclude.ensures.past
 
 pub returns-clause-ran : goal.returns-clause-ran
 returns-clause-ran c =
     let back : to_z w32 (of_z w32 c.args.pid) ≡ c.args.pid = search rules in
-    let there : is_process_there c.args.pid (now c.args.self.now) ≡ true = ap (λ n. is_process_there n (now c.args.self.now)) (sym back) ∙ sym (c.has_process.ensures c.requires.alive) ∙ c.if-not-has_process.false in
+    let there : is_process_there c.args.pid (now c.args.self.now) ≡ true = ap (λ n. is_process_there n (now c.args.self.now)) (sym back) ∙ sym (c.has_process.ensures.there c.requires.alive) ∙ c.if-not-has_process.false in
     sym (cond-true _ _ _ there)
 
 pub returns-then-not-has_process-clause-licensed : goal.returns-then-not-has_process-clause-licensed

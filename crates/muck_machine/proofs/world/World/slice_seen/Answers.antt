@@ -22,21 +22,21 @@ slice_seen-done-requires-clause-told g c = told_seen c.self.inside.past _ _ c.se
 pub invariant_of-self : goal.invariant_of-self
 invariant_of-self g c =
     let back : to_z w32 (of_z w32 c.args.pid) ≡ c.args.pid = search rules in
-    let there : is_process_there c.args.pid (now c.args.self.now) ≡ true = ap (λ n. is_process_there n (now c.args.self.now)) (sym back) ∙ sym (c.has_process.ensures c.requires.alive) ∙ c.if-not-has_process.false in
+    let there : is_process_there c.args.pid (now c.args.self.now) ≡ true = ap (λ n. is_process_there n (now c.args.self.now)) (sym back) ∙ sym (c.has_process.ensures.there c.requires.alive) ∙ c.if-not-has_process.false in
     let may = ap (λ pid. is_lawful (now c.args.self.now) (record { party = c.args.party; event = Slice pid })) back ∙ slice_lawful (now c.args.self.now) c.args.party c.args.pid c.requires.alive c.requires.claim there in
     keeps_concluded c.self.inside.past _ _ _ _ _ c.slice_seen-done.result c.conclude.result c.self.invariant c.self.view_is may refl c.slice_seen-done.ensures.same c.conclude.ensures.same c.conclude.ensures.past
 
 pub invariant_of-self-2 : goal.invariant_of-self-2
 invariant_of-self-2 g c =
     let back : to_z w32 (of_z w32 c.args.pid) ≡ c.args.pid = search rules in
-    let there : is_process_there c.args.pid (now c.args.self.now) ≡ true = ap (λ n. is_process_there n (now c.args.self.now)) (sym back) ∙ sym (c.has_process.ensures c.requires.alive) ∙ c.if-not-has_process.false in
+    let there : is_process_there c.args.pid (now c.args.self.now) ≡ true = ap (λ n. is_process_there n (now c.args.self.now)) (sym back) ∙ sym (c.has_process.ensures.there c.requires.alive) ∙ c.if-not-has_process.false in
     let may = ap (λ pid. is_lawful (now c.args.self.now) (record { party = c.args.party; event = Slice pid })) back ∙ slice_lawful (now c.args.self.now) c.args.party c.args.pid c.requires.alive c.requires.claim there in
     keeps_concluded c.self.inside.past _ _ _ _ _ c.slice_seen-done.result c.conclude.result c.self.invariant c.self.view_is may refl c.slice_seen-done.ensures.same c.conclude.ensures.same c.conclude.ensures.past
 
 pub returns-clause-ran : goal.returns-clause-ran
 returns-clause-ran g c =
     let back : to_z w32 (of_z w32 c.args.pid) ≡ c.args.pid = search rules in
-    let there : is_process_there c.args.pid (now c.args.self.now) ≡ true = ap (λ n. is_process_there n (now c.args.self.now)) (sym back) ∙ sym (c.has_process.ensures c.requires.alive) ∙ c.if-not-has_process.false in
+    let there : is_process_there c.args.pid (now c.args.self.now) ≡ true = ap (λ n. is_process_there n (now c.args.self.now)) (sym back) ∙ sym (c.has_process.ensures.there c.requires.alive) ∙ c.if-not-has_process.false in
     sym (cond-true _ _ _ there)
 
 pub returns-clause-licensed : goal.returns-clause-licensed
@@ -51,7 +51,7 @@ returns-clause-whole g c = λ ran. (returns-clause-licensed g c).0.whole
 pub returns-then-not-has_process-clause-seen : goal.returns-then-not-has_process-clause-seen
 returns-then-not-has_process-clause-seen g c =
     let back : to_z w32 (of_z w32 c.args.pid) ≡ c.args.pid = search rules in
-    let there : is_process_there c.args.pid (now c.args.self.now) ≡ false = ap (λ n. is_process_there n (now c.args.self.now)) (sym back) ∙ sym (c.has_process.ensures c.requires.alive) ∙ c.if-not-has_process.true in
+    let there : is_process_there c.args.pid (now c.args.self.now) ≡ false = ap (λ n. is_process_there n (now c.args.self.now)) (sym back) ∙ sym (c.has_process.ensures.there c.requires.alive) ∙ c.if-not-has_process.true in
     whatever c.slice.result (nothing_seen g.W.Watch.tells c.args.pid (now c.args.self.now) c.args.watch.now there)
 
 pub returns-clause-seen : goal.returns-clause-seen
