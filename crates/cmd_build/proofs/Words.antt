@@ -11,19 +11,21 @@ use Rattle.spec_commands.specs.Commands.{build_own, set_word, build_words}
 
 in_both : (rows more : List (List ℕ × BuildWord)) (word : List ℕ) → looked_up (rows ++ more) word ≡ option_or (looked_up rows word) (looked_up more word)
 in_both [] more word = refl
-in_both (row ∷ rows) more word = at (is_alike word row.0)
+in_both (row ∷ rows) more word = at (in_both rows more word) (is_alike word row.0)
   where
-    at : (b : Bool) → cond b (Some row.1) (looked_up (rows ++ more) word) ≡ option_or (cond b (Some row.1) (looked_up rows word)) (looked_up more word)
-    at true = refl
-    at false = in_both rows more word
+    at : looked_up (rows ++ more) word ≡ option_or (looked_up rows word) (looked_up more word) → (b : Bool)
+        → cond b (Some row.1) (looked_up (rows ++ more) word) ≡ option_or (cond b (Some row.1) (looked_up rows word)) (looked_up more word)
+    at later true = refl
+    at later false = later
 
 in_messages : (ms : List Message) (word : List ℕ) → looked_up (map set_word ms) word ≡ option_map Set (find (λ m. is_alike word (row_of m).word) ms)
 in_messages [] word = refl
-in_messages (m ∷ ms) word = at (is_alike word (row_of m).word)
+in_messages (m ∷ ms) word = at (in_messages ms word) (is_alike word (row_of m).word)
   where
-    at : (b : Bool) → cond b (Some (Set m)) (looked_up (map set_word ms) word) ≡ option_map Set (cond b (Some m) (find (λ m. is_alike word (row_of m).word) ms))
-    at true = refl
-    at false = in_messages ms word
+    at : looked_up (map set_word ms) word ≡ option_map Set (find (λ m. is_alike word (row_of m).word) ms) → (b : Bool)
+        → cond b (Some (Set m)) (looked_up (map set_word ms) word) ≡ option_map Set (cond b (Some m) (find (λ m. is_alike word (row_of m).word) ms))
+    at later true = refl
+    at later false = later
 
 found : (word : List ℕ) → looked_up build_words word ≡ option_or (looked_up build_own word) (option_map Set (find (λ m. is_alike word (row_of m).word) messages))
 unfolding build_words

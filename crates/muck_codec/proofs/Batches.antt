@@ -91,21 +91,27 @@ words_codes n = record {
       (several_again itself (λ before. number_at w32) (to_be_bytes w32) IsWord (λ before. codes32) None ns rest rule.1);
 }
 
-as_words : (ps : List Parameter) (tune : Tune) (before : Option ℕ) (bytes : List ℕ) → parameters_at ps tune bytes ≡ mapped (λ ns. put_all ps ns tune) (words_at before (length ps)) bytes
+abbrev before_others : ℕ → List ℕ × List ℕ → Result (List ℕ × List ℕ) ℕ
+before_others n others = Ok (n ∷ others.0, others.1)
+
+abbrev put_into : List Parameter → Tune → List ℕ × List ℕ → Result (Tune × List ℕ) ℕ
+put_into ps tune ns = Ok (put_all ps ns.0 tune, ns.1)
+
+regrouped : (p : Parameter) (ps : List Parameter) (tune : Tune) (n : ℕ) (r : Result (List ℕ × List ℕ) ℕ) → (r >>= put_into ps (with_parameter p n tune)) ≡ ((r >>= before_others n) >>= put_into (p ∷ ps) tune)
+regrouped p ps tune n (Ok ns) = refl
+regrouped p ps tune n (Err left) = refl
+
+as_words : (ps : List Parameter) (tune : Tune) (before : Option ℕ) (bytes : List ℕ) → parameters_at ps tune bytes ≡ (words_at before (length ps) bytes >>= put_into ps tune)
 unfolding several
 as_words [] tune before bytes = refl
 as_words (p ∷ ps) tune before bytes = step (λ n. as_words ps (with_parameter p n.0 tune) (Some n.0) n.1) (number_at w32 bytes)
   where
     Later : ℕ × List ℕ → Type 0
-    Later n = parameters_at ps (with_parameter p n.0 tune) n.1 ≡ mapped (λ ns. put_all ps ns (with_parameter p n.0 tune)) (words_at (Some n.0) (length ps)) n.1
-
-    regroup : (n : ℕ) (r : Result (List ℕ × List ℕ) ℕ) → (r >>= λ x. Ok (put_all ps x.0 (with_parameter p n tune), x.1)) ≡ ((r >>= λ o. Ok (n ∷ o.0, o.1)) >>= λ x. Ok (put_all (p ∷ ps) x.0 tune, x.1))
-    regroup n (Ok o) = refl
-    regroup n (Err left) = refl
+    Later n = parameters_at ps (with_parameter p n.0 tune) n.1 ≡ (words_at (Some n.0) (length ps) n.1 >>= put_into ps (with_parameter p n.0 tune))
 
     step : ((n : ℕ × List ℕ) → Later n) → (r : Result (ℕ × List ℕ) ℕ) → (r >>= λ n. parameters_at ps (with_parameter p n.0 tune) n.1)
-        ≡ ((r >>= λ n. words_at (Some n.0) (length ps) n.1 >>= λ o. Ok (n.0 ∷ o.0, o.1)) >>= λ x. Ok (put_all (p ∷ ps) x.0 tune, x.1))
-    step later (Ok n) = later n ∙ regroup n.0 (words_at (Some n.0) (length ps) n.1)
+        ≡ ((r >>= λ n. words_at (Some n.0) (length ps) n.1 >>= before_others n.0) >>= put_into (p ∷ ps) tune)
+    step later (Ok n) = later n ∙ regrouped p ps tune n.0 (words_at (Some n.0) (length ps) n.1)
     step later (Err left) = refl
 
 by_words : (tune : Tune) → tune_bytes tune ≡ flat_map (to_be_bytes w32) (values_of tune)

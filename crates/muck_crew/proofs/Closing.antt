@@ -28,8 +28,8 @@ use Rattle.muck_machine.specs.declared.beginning.Beginning.{Beginning}
 use Rattle.muck_machine.specs.inner.Beginnings.{beginning, begun}
 use Rattle.muck_machine.specs.inner.Seats.{Sight, Chair, Rests, AllOrderly}
 use Rattle.muck_machine.proofs.Seating.{begun_settled}
-use Rattle.muck_dumping.specs.declared.store.Store.{Store}
-use Rattle.muck_dumping.specs.inner.Between.{IsReady as HasLog, Knows}
+use Rattle.muck_dumper.specs.declared.Store.{Store}
+use Rattle.muck_dumper.specs.inner.Between.{IsReady as HasLog, Knows}
 use Rattle.muck_dumper.specs.inner.Dumping.{history_from, history_seen}
 use Rattle.muck_porter.specs.inner.Porter.{PorterReady}
 use Rattle.muck_crew.specs.declared.seats.Part.{Part}

@@ -34,10 +34,10 @@ use Rattle.muck_machine.specs.declared.beginning.Beginning.{Beginning}
 use Rattle.muck_machine.specs.inner.Beginnings.{beginning, begun}
 use Rattle.muck_machine.specs.inner.Seats.{Sight, Chair, AllOrderly, SameLists}
 use Rattle.muck_machine.proofs.Seating.{settled_begun, others_none, others_quiet, orderly_back}
-use Rattle.muck_dumping.specs.declared.store.Store.{Store}
-use Rattle.muck_dumping.specs.inner.Between.{IsReady as HasLog, Knows}
+use Rattle.muck_dumper.specs.declared.Store.{Store}
+use Rattle.muck_dumper.specs.inner.Between.{IsReady as HasLog, Knows}
 use Rattle.muck_dumper.specs.inner.Dumping.{history_from, history_seen, DumperDone}
-use Rattle.muck_dumping.proofs.Knowing.{knows_quiet}
+use Rattle.muck_dumper.proofs.StoreKnowing.{knows_quiet}
 use Rattle.muck_dumper.specs.declared.dumping.Why.{Why as DumperWhy}
 use Rattle.muck_dumper.specs.declared.dumping.Why.TheVariants as dumper
 use Rattle.muck_worker.specs.inner.Working.{WorkerDone}

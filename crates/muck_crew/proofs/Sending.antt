@@ -40,8 +40,8 @@ use Rattle.muck_queue.proofs.claim.Claim.TheSendSync as claim
 use Rattle.muck_db.proofs.db.Db.TheSendSync as db
 use Rattle.muck_board.proofs.board.Board.TheSendSync as board
 use Rattle.muck_library.proofs.library.Library.TheSendSync as library
-use Rattle.muck_turns.proofs.dumps.Dumps.TheSendSync as dumps
-use Rattle.muck_turns.specs.contracts.state.State as State
+use Rattle.muck_machine.proofs.Dumps.TheSendSync as dumps
+use Rattle.muck_machine.specs.contracts.State as State
 use Rattle.muck_machine.proofs.past.Past.TheSendSync as past
 use Rattle.muck_machine.specs.contracts.world.World as World
 use Rattle.muck_machine.specs.contracts.world.sharing.WorldStory.TheImpl as story
@@ -52,8 +52,8 @@ use Rattle.atomic_table.proofs.shared.Seat.TheSendSync as seat
 use Rattle.turn_lock.specs.contracts.view.View as View
 use Rattle.turn_lock.specs.contracts.turn.Turn as Turn
 use Rattle.turn_lock.proofs.turn.Turn.TheSendSync as turn
-use Rattle.muck_dumping.specs.contracts.store.Store as Store
-use Rattle.muck_dumping.proofs.store.Store.TheSendSync as store
+use Rattle.muck_dumper.specs.contracts.Store as Store
+use Rattle.muck_dumper.proofs.Store.TheSendSync as store
 
 -- Locks.
 

@@ -7,8 +7,7 @@ ghost use Rattle.muck_crew.specs.inner.Parts.{IsAble, IsReady, IsDone, AreDone};
 
 use crate::seats::{Part, Parts};
 use muck_disk::Disk;
-use muck_dumper::{Why as DumperWhy, dumper};
-use muck_dumping::Store;
+use muck_dumper::{Store, Why as DumperWhy, dumper};
 use muck_io::{Clock, Gate, Rest};
 use muck_links::Links;
 use muck_machine::World;

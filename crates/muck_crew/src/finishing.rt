@@ -2,13 +2,13 @@
 ghost use Rattle.std.specs.Prelude.{◌≡◌, ℕ, true, false, None};
 ghost use Rattle.spec_dumps.specs.inner.Holding.{Keeps};
 ghost use Rattle.spec_events.specs.Histories.{now};
-ghost use Rattle.muck_dumping.specs.inner.Between.{Knows};
+ghost use Rattle.muck_dumper.specs.inner.Between.{Knows};
 ghost use Rattle.muck_crew.specs.inner.Runs.{HasStopped};
 ghost use Rattle.muck_crew.specs.inner.Finished.{why_by, HasDump, IsFinish};
 
 use crate::serving::Way;
 use muck_disk::Disk;
-use muck_dumping::{Store, dump};
+use muck_dumper::{Store, dump};
 use muck_io::{Gate, place};
 use muck_log::LogFault;
 use muck_machine::World;

@@ -1,6 +1,6 @@
 // All parts of a server over one world, until the run is over.
 ghost use Rattle.std.specs.Prelude.{◌≡◌, ◌<◌, ◌≤◌, ℕ, List, [], true, IfOk, OnErr, vec_capacity};
-ghost use Rattle.muck_dumping.specs.inner.Between.{IsReady as HasLog, Knows};
+ghost use Rattle.muck_dumper.specs.inner.Between.{IsReady as HasLog, Knows};
 ghost use Rattle.muck_model.specs.declared.note.Note.{Note};
 ghost use Rattle.muck_porter.specs.inner.Kept.{account};
 ghost use Rattle.muck_crew.specs.inner.Runs.{IsFresh, IsWhy, IsEndOf, HasStopped, HasRun};
@@ -8,8 +8,7 @@ ghost use Rattle.muck_crew.specs.inner.Runs.{IsFresh, IsWhy, IsEndOf, HasStopped
 use crate::beside::all_beside;
 use crate::seats::{Part, Parts, deal, take_in};
 use muck_disk::Disk;
-use muck_dumper::Why as DumperWhy;
-use muck_dumping::Store;
+use muck_dumper::{Store, Why as DumperWhy};
 use muck_io::{Clock, Gate, Rest};
 use muck_links::Links;
 use muck_machine::World;

@@ -1,6 +1,6 @@
 // A whole run of a server, with its last dump.
 ghost use Rattle.std.specs.Prelude.{◌≡◌, ◌<◌, ◌≤◌, ℕ, [], true, Some, IfSome, IfNone, vec_capacity};
-ghost use Rattle.muck_dumping.specs.inner.Between.{IsReady as HasLog};
+ghost use Rattle.muck_dumper.specs.inner.Between.{IsReady as HasLog};
 ghost use Rattle.muck_model.specs.declared.note.Note.{Note};
 ghost use Rattle.muck_porter.specs.inner.Kept.{account};
 ghost use Rattle.muck_crew.specs.inner.Runs.{IsFresh};
@@ -10,7 +10,7 @@ use crate::finishing::finish;
 use crate::seats::Parts;
 use crate::serving::run;
 use muck_disk::Disk;
-use muck_dumping::Store;
+use muck_dumper::Store;
 use muck_io::{Clock, Gate, Rest};
 use muck_links::Links;
 use muck_log::Log;

@@ -28,3 +28,4 @@ pub mod Bounds
 pub mod Blocked
 pub mod Passing
 pub mod Moved
+pub mod Heard

@@ -7,6 +7,7 @@ pub mod Kept
 pub mod Dumps
 pub mod Exits
 pub mod Ties
+pub mod Hearing
 pub mod Table
 pub mod Lent
 pub mod Blocks

@@ -1,6 +1,6 @@
 // The objects of the world.
 ghost use Rattle.std.specs.Prelude.{◌≡◌, ◌<◌, ◌≤◌, ◌^◌, true, false, length, IfOk, IfSome, OnOk, OnErr, is_ok, All};
-ghost use Rattle.std.specs.List.{count_by, list_all};
+ghost use Rattle.std.specs.List.{count_by, list_all, list_any};
 ghost use Rattle.std.specs.Option.{option_copied, option_map};
 ghost use Rattle.spec_live.specs.Objects.{object_at};
 ghost use Rattle.spec_live.specs.Making.{create_check, Creates};
@@ -21,6 +21,7 @@ ghost use Rattle.muck_store.specs.inner.Changes.{KeepsUndue, LeavesOut};
 ghost use Rattle.muck_store.specs.Forms.{loaded, persist};
 ghost use Rattle.muck_store.specs.Limits.{record_fits};
 ghost use Rattle.muck_store.specs.Whole.{is_whole_store};
+ghost use Rattle.muck_db.specs.inner.Hearing.{listens};
 ghost use Rattle.muck_db.specs.inner.Limits.{FitsLimits, IsWithinLimits};
 ghost use Rattle.muck_db.specs.inner.Settings.{MaySet, with_setting};
 ghost use Rattle.muck_db.specs.inner.Shown.{is_there, after_in, first_in, next_in, Knows};
@@ -32,7 +33,7 @@ use crate::cut::{Extent, records_of};
 use crate::links::dbref_of;
 use crate::load::slots_of;
 use crate::marking::{Moment, pass};
-use crate::moves::{check_move, count_there, found, list_of, relocate};
+use crate::moves::{check_move, count_there, found, list_of, number_of, relocate};
 use crate::password::{digest_word, is_digest_of};
 use crate::paths::KnownPaths;
 use crate::players::{list_player, players_of};
@@ -211,6 +212,50 @@ impl Db {
         ensures short { length result ≤ length self.now }
     {
         list_of(&self.slots, true, d)
+    }
+
+    /// Whether something that is in a place, or a player there, has properties below `_listen`. It takes no memory, and where nothing that has them came since the server began it
+    /// looks at nothing else; in another place it looks at what is there.
+    pub fn is_heard_in(&self, place: Dbref) -> bool
+        ensures { result ≡ list_any (listens self.now) (listed_in false place self.now) }
+    {
+        if self.is_unheard(place) {
+            return false;
+        }
+        self.any_listens(place)
+    }
+
+    fn any_listens(&self, place: Dbref) -> bool
+        ensures { result ≡ list_any (listens self.now) (listed_in false place self.now) }
+    {
+        let mut left = self.contents(place);
+        while let Some(d) = left.next() {
+            if self.listens(d) {
+                return true;
+            }
+        }
+        false
+    }
+
+    // Whether it is known that nothing listens in a place.
+    fn is_unheard(&self, place: Dbref) -> bool
+        ensures { result ≡ true → list_any (listens self.now) (listed_in false place self.now) ≡ false }
+    {
+        match number_of(&self.slots, place) {
+            Some(p) => self.slots.is_unheard(p),
+            None => false,
+        }
+    }
+
+    // Whether an object has properties below `_listen`.
+    #[tactic(auto, unfolding(crate::specs::inner::Hearing::listens))]
+    fn listens(&self, d: Dbref) -> bool
+        ensures { result ≡ listens self.now d }
+    {
+        match self.get(d) {
+            Some(object) => object.props.is_dir(self.slots.listen()),
+            None => false,
+        }
     }
 
     /// What a dump hands to the log, over what is kept already: the stored form of each object that isn't kept so, and

@@ -7,6 +7,7 @@ mod chain;
 mod creation;
 mod cut;
 mod db;
+mod hearing;
 mod kept;
 mod links;
 mod load;

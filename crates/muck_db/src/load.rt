@@ -94,7 +94,7 @@ pub fn slots_of(alloc: Global, records: &[Stored]) -> Result<Slots, NoMemory>
     requires { All (λ s. AreProperties 2 s.props) records.now }
     ensures { IfOk result (λ slots. slots.items ≡ slots_of records.now) }
 {
-    let mut slots = Slots::new(alloc);
+    let mut slots = Slots::new(alloc)?;
     for record in records {
         slots.push(slot_of(alloc, record)?)?;
     }

@@ -1,15 +1,18 @@
 // The table of the objects, in blocks of neighbours. Of each block is kept what may be in it, so that what looks for some slots passes over the others.
-ghost use Rattle.std.specs.Prelude.{◌≡◌, ◌<◌, ◌≤◌, ℕ, [], ◌∷◌, ◌++◌, length, Some, slice_get, OnOk, OnErr};
+ghost use Rattle.std.specs.Prelude.{◌≡◌, ◌<◌, ◌≤◌, ℕ, true, [], ◌∷◌, ◌++◌, length, Some, slice_get, IfOk, OnOk, OnErr};
 ghost use Rattle.std.specs.Option.{option_copied};
 ghost use Rattle.std.specs.Borrow.{sem};
 ghost use Rattle.muck_db.specs.inner.Lent.{LendsSlot};
 ghost use Rattle.muck_db.specs.inner.Blocks.{LacksAt};
 ghost use Rattle.muck_db.specs.inner.Moves.{NoneMoved, AreBefore};
+ghost use Rattle.muck_db.specs.inner.Hearing.{listen_path, IsUnheard};
 
 use crate::blocks::{Block, Flag, SIZE, block_of, flagged, full, put_block};
+use crate::hearing::Hearers;
 use crate::slot::Slot;
 use crate::stood::{Moves, looked_at, none_moved, written};
 use muck_model::NoMemory;
+use muck_prop::Path;
 use std::alloc::Global;
 use std::marker::Model;
 
@@ -20,6 +23,8 @@ pub struct Slots {
     blocks: Vec<Block>,
     // which slots may have moved since the event began
     moves: Moves,
+    // where something may stand that listens
+    hearers: Hearers,
 }
 
 impl Model for Slots {
@@ -34,21 +39,23 @@ impl Model for Slots {
 
     ghost use Rattle.muck_db.specs.inner.Blocks.{IsCovered};
     ghost use Rattle.muck_db.specs.inner.Moves.{AreNoted};
+    ghost use Rattle.muck_db.specs.inner.Hearing.{AreHeard};
 
     ghost view = { λ a. record { items = a.table.items } };
 
-    ghost invariant = { λ a. IsCovered a.table.items a.blocks.items × AreNoted a.moves a.table.items };
+    ghost invariant = { λ a. IsCovered a.table.items a.blocks.items × AreNoted a.moves a.table.items × AreHeard a.hearers a.table.items };
 }
 
 impl Slots {
-    pub fn new(alloc: Global) -> Slots
-        ensures { result.items ≡ [] }
+    pub fn new(alloc: Global) -> Result<Slots, NoMemory>
+        ensures { IfOk result (λ slots. slots.items ≡ []) }
     {
-        Slots {
+        Ok(Slots {
             table: Vec::new(alloc),
             blocks: Vec::new(alloc),
             moves: none_moved(),
-        }
+            hearers: Hearers::none(alloc)?,
+        })
     }
 
     // How many slots there are.
@@ -88,6 +95,7 @@ impl Slots {
     {
         put_block(&mut self.blocks, (k / SIZE) as usize, full());
         self.moves = written(looked_at(self.moves, &self.table), k as usize);
+        self.hearers.write(&self.table, k as usize);
         &mut self.table[k as usize]
     }
 
@@ -117,6 +125,7 @@ impl Slots {
         let at = self.table.len() / SIZE as usize;
         put_block(&mut self.blocks, at, full());
         self.moves = written(looked_at(self.moves, &self.table), self.table.len());
+        self.hearers.write(&self.table, self.table.len());
         self.table.push(slot)?;
         Ok(())
     }
@@ -131,6 +140,20 @@ impl Slots {
         let moves = looked_at(self.moves, &self.table);
         let end = if moves.high < n { moves.high + 1 } else { n };
         (moves.low.min(n) as u32, end as u32)
+    }
+
+    // The directory that names what listens.
+    pub fn listen(&self) -> &Path
+        ensures { result.now ≡ listen_path }
+    {
+        &self.hearers.listen
+    }
+
+    // Whether it is known that nothing listens in a place. It looks at no slot but that which was written last.
+    pub fn is_unheard(&self, place: u32) -> bool
+        ensures { result ≡ true → IsUnheard place self.now.items }
+    {
+        self.hearers.are_elsewhere(&self.table, place)
     }
 
     // None has moved.

@@ -64,7 +64,7 @@ fn player_one(alloc: Global) -> Result<Object, NoMemory>
 pub fn first_slots(alloc: Global) -> Result<Slots, NoMemory>
     ensures { IfOk result (λ slots. slots.items ≡ first_slots) }
 {
-    let mut slots = Slots::new(alloc);
+    let mut slots = Slots::new(alloc)?;
     slots.push(Slot {
         object: Some(room_zero(alloc)?),
         first_content: Some(1),

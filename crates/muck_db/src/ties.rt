@@ -102,8 +102,8 @@ fn is_still_tied(slots: &Slots, k: u32, d: u32) -> bool
 }
 
 impl Tied {
-    // Nothing is tied to it yet.
-    fn new(alloc: Global) -> Tied
+    // Nothing is among them yet.
+    pub fn new(alloc: Global) -> Tied
         ensures { result.is_whole ≡ true }
     {
         Tied {
@@ -120,6 +120,23 @@ impl Tied {
         if self.numbers.insert(k).is_err() {
             self.is_whole = false;
         }
+    }
+
+    // A number is among these, if there is one.
+    pub fn note_some(&mut self, k: Option<u32>)
+        ensures others { (j : ℕ) → Notes self.old j → Notes self.new j }
+        ensures noted { (n : ℕ) → k ≡ Some n → Notes self.new n }
+    {
+        if let Some(k) = k {
+            self.note(k);
+        }
+    }
+
+    // Whether it is known that a number isn't among these.
+    pub fn lacks(&self, k: u32) -> bool
+        ensures { result ≡ true → Notes self.now k → ⊥ }
+    {
+        self.is_whole && !self.numbers.contains(&k)
     }
 
     // A number isn't tied to it any more.

@@ -7,9 +7,8 @@ ghost use Rattle.muck_script.specs.inner.Settling.{entries_of, slice_of, DiedDur
 ghost use Rattle.muf_debug.specs.Watching.{SeesAll};
 ghost use Rattle.muck_debugging.specs.Seen.{views_in};
 
-use muck_machine::World;
 use muck_model::NoMemory;
-use muck_script::TURNS_MOST;
+use muck_script::{TURNS_MOST, World};
 use muf_debug::Watch;
 
 // The party that does everything in a run of a script.

@@ -1,5 +1,5 @@
 -- The history that the dumper's seat knows, and what others enter meanwhile.
-use Rattle.std.proofs.Common.{◌≡◌, ℕ, List, [], ◌∷◌, ◌++◌, refl, sym, ◌∙◌, ap, subst, append-nil}
+use Rattle.std.proofs.Common.{◌≡◌, List, [], ◌∷◌, ◌++◌, refl, sym, ◌∙◌, ap, subst, append-nil}
 use Rattle.turn_lock.specs.Histories.{StartsWith, own_of}
 use Rattle.muck_model.specs.declared.note.Note.{Note}
 use Rattle.spec_events.specs.declared.logged.Logged.{Logged}
@@ -9,10 +9,10 @@ use Rattle.spec_events.specs.Logged.{logged, logged_by, entries_of, notes_of, hi
 use Rattle.spec_events.proofs.Logging.{rebuilt, entries_append, notes_append}
 use Rattle.spec_dumps.specs.inner.Holding.{Quietly}
 use Rattle.spec_dumps.proofs.Quiet.{quiet_grew}
-use Rattle.muck_machine.specs.declared.beginning.Beginning.{Beginning}
-use Rattle.muck_machine.specs.inner.Beginnings.{beginning, begun, IsBegun}
-use Rattle.muck_machine.specs.inner.Seats.{Chair, AllOrderly, Rests}
-use Rattle.muck_machine.proofs.Seating.{orderly_back, others_none, others_quiet, settled_begun}
+use Rattle.muck_work.specs.declared.Beginning.{Beginning}
+use Rattle.muck_work.specs.inner.Beginnings.{beginning, begun, IsBegun}
+use Rattle.muck_work.specs.inner.Seats.{Chair, AllOrderly, Rests}
+use Rattle.muck_work.proofs.Seating.{orderly_back, others_none, others_quiet, settled_begun}
 use Rattle.muck_work.specs.inner.Holds.{HasTurn}
 use Rattle.muck_work.proofs.Holding.{others_since}
 use Rattle.muck_dumper.specs.inner.Dumping.{history_from, history_seen, IsKnown}

@@ -6,7 +6,7 @@ use Rattle.muck_log.specs.declared.fault.LogFault.TheVariants.{NoMemory, DiskFau
 use Rattle.spec_events.specs.Histories.{History}
 use Rattle.spec_events.specs.Own.{Stage}
 use Rattle.spec_dumps.specs.inner.Holding.{Keeps}
-use Rattle.muck_machine.specs.inner.Seats.{Chair}
+use Rattle.muck_work.specs.inner.Seats.{Chair}
 use Rattle.muck_dumping.specs.inner.Between.{IsReady, IsWritten, EndsAs}
 use Rattle.muck_dumper.specs.declared.holds.Fault.{Fault}
 use Rattle.muck_dumper.specs.inner.Dumping.{history_seen}

@@ -10,8 +10,8 @@ use Rattle.spec_events.specs.Logged.{is_cut, logged, bare_item, noted_item, even
 use Rattle.spec_events.specs.Own.{Stage, next_stage, stage_of}
 use Rattle.spec_events.proofs.Logging.{placed_entered, placed_noted, events_append, no_counts_one, orderly_noted, orderly_bare}
 use Rattle.spec_events.proofs.Owning.{stage_more}
-use Rattle.muck_machine.specs.inner.Seats.{Chair, OneMore, Waited}
-use Rattle.muck_machine.proofs.Seating.{held_settled, one_bare, one_noted, given_root, seen_later}
+use Rattle.muck_work.specs.inner.Seats.{Chair, OneMore, Waited}
+use Rattle.muck_work.proofs.Seating.{held_settled, one_bare, one_noted, given_root, seen_later}
 use Rattle.muck_work.specs.inner.Holds.{HasTurn, HasEntered, HasGiven}
 use Rattle.muck_dumping.specs.inner.Dumps.{by}
 use Rattle.muck_dumping.specs.inner.Between.{GoesByMarks}

@@ -13,11 +13,11 @@ use Rattle.spec_dumps.specs.Survival.{IsSafe}
 use Rattle.spec_dumps.specs.inner.Holding.{Quietly, Keeps, Rests as HasRests}
 use Rattle.spec_dumps.proofs.Quiet.{quiet_one, safe_quiet, keeps_quiet}
 use Rattle.spec_dumps.proofs.Idle.{idle_quiet}
-use Rattle.muck_machine.specs.declared.beginning.Beginning.{Beginning}
+use Rattle.muck_work.specs.declared.Beginning.{Beginning}
 use Rattle.muck_dumping.specs.declared.parts.Pending.{Pending}
 use Rattle.muck_dumping.specs.declared.store.Store.{Store}
-use Rattle.muck_machine.specs.inner.Seats.{Chair, Rests, Left, Waited}
-use Rattle.muck_machine.proofs.Seating.{left_rests}
+use Rattle.muck_work.specs.inner.Seats.{Chair, Rests, Left, Waited}
+use Rattle.muck_work.proofs.Seating.{left_rests}
 use Rattle.muck_dumping.specs.inner.Dumps.{by, ending_event}
 use Rattle.muck_dumping.specs.inner.Between.{IsReady, Knows, IsPending}
 use Rattle.muck_dumping.proofs.Beginning.{ready_quiet}

@@ -14,8 +14,8 @@ ghost use Rattle.muck_dumper.specs.inner.Steps.{event_of, MadeBy, LeavesBy, Kept
 use muck_disk::Disk;
 use muck_dumping::{Pending, Store, begin, end};
 use muck_io::{Gate, place};
-use muck_machine::World;
 use muck_model::NoMemory;
+use muck_work::World;
 
 // The party that makes the dumps of a world that is shared.
 pub(crate) const DUMPER: u8 = 9;

@@ -8,7 +8,7 @@ use crate::holds::{Fault, makes, watch_turn};
 use muck_disk::Disk;
 use muck_dumping::Store;
 use muck_io::{Gate, Rest, place};
-use muck_machine::World;
+use muck_work::World;
 use std::alloc::Global;
 use std::sync::Wait;
 use turn_lock::{Turn, TurnSeat};

@@ -6,3 +6,5 @@ mod dumping;
 mod holds;
 
 pub use dumping::{Why, dumper};
+// the store to which dumps are made, and a dump at once, for when no dumper goes on
+pub use muck_dumping::{Store, dump};

@@ -6,6 +6,8 @@ mod parts;
 mod store;
 mod whole;
 
+// the world that is dumped
+pub use muck_machine::World;
 pub use parts::{Pending, begin, end, write};
 pub use store::{FILE_MOST, Store};
 pub use whole::dump;

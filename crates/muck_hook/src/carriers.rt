@@ -1,12 +1,12 @@
 // The objects that a cause meets: a place or a player and its places upward, or a place and what is in it.
-ghost use Rattle.std.specs.Prelude.{◌≡◌, ◌++◌, ◌∷◌, [], false, not, MatchOption, OnOk};
+ghost use Rattle.std.specs.Prelude.{◌≡◌, ◌++◌, ◌∷◌, [], false, not, codes, MatchOption, IfOk, OnOk};
 ghost use Rattle.std.specs.List.{filter, flat_map};
 ghost use Rattle.spec_live.specs.Seen.{listed_in, places_of};
 ghost use Rattle.spec_rights.specs.Levels.{is_player_at};
 ghost use Rattle.spec_hooks.specs.Firing.{directory, fired_by};
 ghost use Rattle.muck_hook.specs.Firing.{fired_unplayed};
 
-use crate::fires::push_fires;
+use crate::firing::push_fires;
 use muck_db::Db;
 use muck_match::Scene;
 use muck_model::{Dbref, NoMemory};
@@ -83,8 +83,15 @@ fn push_others(
     Ok(())
 }
 
-// By a place and by what is in it but players.
-#[tactic(auto, using(crate::proofs::Listed::fired_others))]
+// What is in a place.
+fn things_in(alloc: Global, db: &Db, place: Dbref) -> Result<Vec<Dbref>, NoMemory>
+    ensures { IfOk result (λ things. things.items ≡ listed_in false place db.now) }
+{
+    let things = db.contents(place).collect(alloc)?;
+    Ok(things)
+}
+
+// By a place and by what is in it but players. Where nothing in it listens it looks at the place alone.
 pub fn around(
     alloc: Global,
     db: &Db,
@@ -93,10 +100,14 @@ pub fn around(
     place: Dbref,
     fires: &mut Vec<Fire>,
 ) -> Result<(), NoMemory>
-    requires { dir.now ≡ directory cause.now }
+    requires dir { dir.now ≡ directory cause.now }
+    requires listen { directory cause.now ≡ codes "_listen" ∷ [] }
     ensures { OnOk result (fires.new.items ≡ fires.old.items ++ flat_map (fired_by db.now cause.now) (place ∷ filter (λ d. not (is_player_at db.now d)) (listed_in false place db.now))) }
 {
-    let things: Vec<Dbref> = db.contents(place).collect(alloc)?;
     push_fires(alloc, db, cause, dir, place, fires)?;
+    if !db.is_heard_in(place) {
+        return Ok(());
+    }
+    let things = things_in(alloc, db, place)?;
     push_others(alloc, db, cause, dir, &things, fires)
 }

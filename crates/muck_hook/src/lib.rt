@@ -2,6 +2,6 @@
 #![tactic(auto)]
 
 mod carriers;
-mod fires;
+mod firing;
 
-pub use fires::fires;
+pub use firing::fires;

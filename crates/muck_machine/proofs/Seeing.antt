@@ -12,7 +12,7 @@ use Rattle.spec_events.specs.World.{World}
 use Rattle.spec_events.specs.Histories.{History, now}
 use Rattle.spec_events.specs.Slices.{Taken, seat, seat_of, slice_most, process_awake}
 use Rattle.spec_events.specs.Steps.{is_process_there}
-use Rattle.spec_views.specs.Views.{view_of, views_of}
+use Rattle.muck_turns.specs.Views.{view_of, views_of}
 use Rattle.muck_turns.proofs.Seeing.{none_there}
 use Rattle.muck_machine.specs.declared.past.Past.{Past}
 use Rattle.muck_machine.specs.inner.Keeping.{history, Keeps}

@@ -6,6 +6,7 @@ use Rattle.std.specs.Prelude.{All, nat_le}
 use Rattle.std.specs.List.{list_all}
 use Rattle.muck_codec.specs.declared.stored.Stored.{Stored}
 use Rattle.muck_codec.specs.inner.Stored.{AreProperties, IsStored}
+use Rattle.muck_model.specs.Parameters.{tune_fits}
 use Rattle.muck_store.specs.Limits.{record_fits}
 use Rattle.muck_store.specs.Whole.{is_whole_store}
 use Rattle.muck_log.specs.World.{StoredWorld, is_fine}

@@ -10,8 +10,8 @@ mod shown;
 
 pub use guard::Guard;
 pub use levels::{
-    MASTER, command_level, controls_as, effective, flag_at, is_player_at, level, level_at, owner_at,
-    user,
+    MASTER, command_level, controls_as, effective, flag_at, is_player_at, level, level_at,
+    owner_at, user,
 };
 pub use locks::{lock_text, message_at, opens_at};
 pub use rules::{Pass, verdict};

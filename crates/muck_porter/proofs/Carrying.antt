@@ -34,8 +34,8 @@ use Rattle.spec_serve.proofs.Pairs.{all2_map}
 use Rattle.spec_serve.proofs.Promising.{books_promised}
 use Rattle.spec_serve.proofs.Connecting.{nobody_there}
 use Rattle.spec_serve.proofs.Turning.{turn_others, turn_quiet, turn_heard, turn_taken, turn_opened, turn_closed, turn_halted}
-use Rattle.muck_machine.specs.inner.Beginnings.{begun}
-use Rattle.muck_machine.specs.inner.Seats.{Sight, Waited}
+use Rattle.muck_work.specs.inner.Beginnings.{begun}
+use Rattle.muck_work.specs.inner.Seats.{Sight, Waited}
 use Rattle.muck_peer.specs.Moves.{PeerStep, HasCause}
 use Rattle.muck_porter.specs.inner.Notes.{first_note, note_in}
 use Rattle.muck_porter.specs.inner.Kept.{tally, BooksAt, PromisedIn, KeptBy}

@@ -8,7 +8,7 @@ use Rattle.spec_events.specs.World.{World}
 use Rattle.spec_serve.specs.Promises.{Tally}
 use Rattle.spec_serve.specs.inner.Keeping.{Peer}
 use Rattle.muck_io.specs.Faults.{Rose}
-use Rattle.muck_machine.specs.inner.Seats.{Chair, Rests}
+use Rattle.muck_work.specs.inner.Seats.{Chair, Rests}
 use Rattle.muck_peer.specs.Moves.{Clocked}
 use Rattle.muck_porter.specs.declared.desk.Fault.TheVariants.{NoMemory}
 use Rattle.muck_porter.specs.declared.deeds.Served.{Served}

@@ -20,8 +20,8 @@ use Rattle.spec_serve.specs.inner.Keeping.{Peer}
 use Rattle.spec_serve.specs.inner.Books.{BooksOf}
 use Rattle.spec_serve.proofs.Booking.{books_linked}
 use Rattle.spec_serve.proofs.Promising.{books_lost}
-use Rattle.muck_machine.specs.inner.Seats.{Sight, Chair, Rests, Left, Waited}
-use Rattle.muck_machine.proofs.Seating.{left_rests}
+use Rattle.muck_work.specs.inner.Seats.{Sight, Chair, Rests, Left, Waited}
+use Rattle.muck_work.proofs.Seating.{left_rests}
 use Rattle.muck_peer.specs.Moves.{LinkStep, LinkLoss}
 use Rattle.muck_porter.specs.inner.Notes.{note_in}
 use Rattle.muck_porter.specs.inner.Kept.{tally, BooksAt, PromisedIn, IsAt, IsFree, Resting, Ready, ReadyTimed, Over}

@@ -8,10 +8,7 @@ use Rattle.muck_porter.specs.declared.rounds.Round.TheVariants.{Busy, Idle, Left
 use Rattle.muck_porter.specs.inner.Rounds.{is_left}
 use Rattle.muck_porter.specs.inner.Desks.{Stand, Far, Stands, Booked, Books, Goes}
 use Rattle.muck_porter.specs.inner.Reaches.{round_far}
-use Rattle.muck_porter.proofs.InRounds.{rose_since}
-
-pub rose_on : (a n m : ℕ) → Rose a n → n ≤ m → Rose a m
-rose_on a n m rose le = omega arith
+use Rattle.muck_porter.proofs.Rising.{rose_since, rose_on}
 
 later_rose : {A : Type 0} (l m n : ℕ) → m ≤ n → A ⊎ Rose l m → A ⊎ Rose l n
 later_rose l m n le (inl a) = inl a

@@ -11,7 +11,7 @@ use Rattle.spec_events.specs.Own.{Stage, next_stage, IsWellFormed}
 use Rattle.spec_events.proofs.Owning.{over_with}
 use Rattle.spec_serve.specs.Promises.{Tally}
 use Rattle.spec_serve.specs.inner.Keeping.{Peer}
-use Rattle.muck_machine.specs.inner.Seats.{Chair, Rests, Left as LeftSeat, Waited}
+use Rattle.muck_work.specs.inner.Seats.{Chair, Rests, Left as LeftSeat, Waited}
 use Rattle.muck_peer.specs.Moves.{Clocked}
 use Rattle.muck_work.specs.declared.jobs.Job.TheVariants.{Line, Claim as JobClaim, Idle as JobIdle, Died as JobDied}
 use Rattle.muck_porter.specs.declared.desk.Fault.TheVariants.{NoMemory, Spent}

@@ -21,12 +21,12 @@ use Rattle.spec_serve.specs.inner.Keeping.{Peer, new_peer}
 use Rattle.spec_serve.specs.inner.Books.{BooksOf}
 use Rattle.spec_serve.proofs.Booking.{books_begin, books_still, books_came}
 use Rattle.spec_serve.proofs.Promising.{books_worked_off}
-use Rattle.muck_machine.specs.declared.world.Sliced.{Sliced}
-use Rattle.muck_machine.specs.declared.world.Sliced.TheVariants.{Ran, Lost as WasLost}
-use Rattle.muck_machine.specs.inner.Claims.{slice_event}
-use Rattle.muck_machine.specs.inner.Beginnings.{begun}
+use Rattle.muck_work.specs.declared.Sliced.{Sliced}
+use Rattle.muck_work.specs.declared.Sliced.TheVariants.{Ran, Lost as WasLost}
+use Rattle.muck_work.specs.inner.Claims.{slice_event}
+use Rattle.muck_work.specs.inner.Beginnings.{begun}
 use Rattle.muck_peer.specs.Moves.{IsUntimed}
-use Rattle.muck_machine.specs.inner.Seats.{Sight, Chair, Rests}
+use Rattle.muck_work.specs.inner.Seats.{Sight, Chair, Rests}
 use Rattle.muck_porter.specs.declared.deeds.Deed.{Deed}
 use Rattle.muck_porter.specs.declared.deeds.Deed.TheVariants.{Open, Slice, Time, Stop, Leave, Die}
 use Rattle.muck_porter.specs.declared.deeds.Did.{Did}
@@ -121,9 +121,6 @@ pub came_carries : (v : Sight) (k k' : LinksTold) (n n' : ℕ) (peers : List Pee
     → Carries v v (tally k n) (tally k' n') peers peers None (Some p.number)
 came_carries v k k' n n' peers d p is came more =
     subst (λ (x : ℕ). Carries v v (tally k n) (tally k' n') peers peers None (Some x)) (sym (ap (λ (x : Peer). x.number) is)) (told_came v k k' n n' peers d came more)
-
-pub rose_since : (a n m : ℕ) → a ≤ n → Rose n m → Rose a m
-rose_since a n m le rose = omega arith
 
 -- links that are tended
 pub tended : (noted : Bool) (v : Sight) (k k' : LinksTold) (n n' : ℕ) (ps ps' : List Peer) → noted ≡ is_some (note_in v.own) → n' ≡ n → Tends noted k k' ps ps' → CarriesOn v v (tally k n) (tally k' n') ps ps'

@@ -7,8 +7,8 @@ use Rattle.spec_events.specs.declared.logged.Logged.{Logged}
 use Rattle.spec_events.specs.World.{World}
 use Rattle.spec_events.specs.Logged.{NoCounts, placed_count, count_from}
 use Rattle.spec_serve.specs.Marks.{LinksNote, counts_in}
-use Rattle.muck_machine.specs.declared.beginning.Beginning.{Beginning}
-use Rattle.muck_machine.specs.inner.Beginnings.{begun}
+use Rattle.muck_work.specs.declared.Beginning.{Beginning}
+use Rattle.muck_work.specs.inner.Beginnings.{begun}
 use Rattle.muck_porter.specs.inner.Notes.{first_note, note_in}
 
 -- the world of the beginning

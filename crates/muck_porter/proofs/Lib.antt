@@ -7,6 +7,7 @@ pub mod Carrying
 pub mod Doing
 pub mod Quiet
 pub mod OneServed
+pub mod Rising
 pub mod InRounds
 pub mod Going
 pub mod Holding

@@ -11,8 +11,9 @@ use Rattle.muck_porter.specs.inner.Moves.{Carries, Tends, Loses, number_in, IsNe
 use Rattle.muck_porter.specs.inner.Desks.{Stand, Far, Stands, Booked, Goes}
 use Rattle.muck_porter.specs.inner.Reaches.{EndsLast}
 use Rattle.muck_porter.proofs.Carrying.{promised_in}
-use Rattle.muck_porter.proofs.InRounds.{told_came, told_same_on, told_over, came_carries, tended, rose_since}
-use Rattle.muck_porter.proofs.Going.{rose_on, broken}
+use Rattle.muck_porter.proofs.InRounds.{told_came, told_same_on, told_over, came_carries, tended}
+use Rattle.muck_porter.proofs.Going.{broken}
+use Rattle.muck_porter.proofs.Rising.{rose_since, rose_on}
 
 module _ (d : Stand) (tells' : Bool) (told' : LinksTold) (listening' : ℕ) (tells : tells' ≡ d.tells) (later : d.listening ≤ listening') (ports : d.tells ≡ true → told'.ports ≡ d.told.ports) where
   -- the desk behind the call, and what else became of what is kept

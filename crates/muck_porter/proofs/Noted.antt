@@ -16,8 +16,8 @@ use Rattle.spec_events.specs.Steps.{effect}
 use Rattle.spec_events.specs.Histories.{after}
 use Rattle.spec_events.specs.Logged.{logged_by, entries_of, placed_count, count_from}
 use Rattle.spec_serve.specs.Marks.{LinksNote, ActsStopping, IsLinksNote}
-use Rattle.muck_machine.specs.inner.Seats.{AllOrderly}
-use Rattle.muck_machine.proofs.Seating.{none_or_more, others_none, orderly_back}
+use Rattle.muck_work.specs.inner.Seats.{AllOrderly}
+use Rattle.muck_work.proofs.Seating.{none_or_more, others_none, orderly_back}
 use Rattle.muck_porter.specs.inner.Notes.{first_note, note_in}
 use Rattle.muck_porter.specs.inner.Turns.{Marked}
 use Rattle.muck_porter.specs.Noted.{AllNoted}

@@ -14,7 +14,7 @@ use Rattle.spec_events.specs.World.{World}
 use Rattle.spec_events.specs.Histories.{by_porter}
 use Rattle.spec_events.specs.Own.{Stage}
 use Rattle.spec_serve.specs.inner.Keeping.{Peer}
-use Rattle.muck_machine.specs.inner.Seats.{Chair, Rests}
+use Rattle.muck_work.specs.inner.Seats.{Chair, Rests}
 use Rattle.muck_peer.specs.Moves.{PeerStep}
 use Rattle.muck_porter.specs.declared.deeds.Served.{Served}
 use Rattle.muck_porter.specs.declared.deeds.Served.TheVariants.{Went as ServedOne, Closed as ClosedOne, Nobody, Dead as ServedDead}

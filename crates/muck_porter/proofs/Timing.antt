@@ -18,8 +18,8 @@ use Rattle.spec_events.proofs.Logging.{entries_append}
 use Rattle.spec_talks.specs.Parties.{party_of}
 use Rattle.spec_talks.proofs.Histories.{lawful_back, not_first, others_own}
 use Rattle.spec_talks.proofs.Items.{own_entries_of}
-use Rattle.muck_machine.specs.inner.Beginnings.{begun}
-use Rattle.muck_machine.specs.inner.Seats.{Sight, Chair, AllOrderly, Rests, Waited}
+use Rattle.muck_work.specs.inner.Beginnings.{begun}
+use Rattle.muck_work.specs.inner.Seats.{Sight, Chair, AllOrderly, Rests, Waited}
 use Rattle.muck_peer.specs.Moves.{Clocked}
 use Rattle.muck_porter.specs.inner.Notes.{note_in}
 use Rattle.muck_porter.specs.inner.Kept.{Resting}

@@ -12,8 +12,8 @@ use Rattle.spec_events.specs.Logged.{NoCounts, is_dump, logged, logged_by, entri
 use Rattle.spec_events.proofs.Logging.{orderly_bare, orderly_counted}
 use Rattle.spec_events.specs.Steps.{has_claim}
 use Rattle.spec_talks.specs.Counts.{counts}
-use Rattle.muck_machine.specs.inner.Seats.{Chair, OneMore, AllOrderly, Rests}
-use Rattle.muck_machine.proofs.Seating.{one_bare, one_counted, held_settled, held_start, not_counted}
+use Rattle.muck_work.specs.inner.Seats.{Chair, OneMore, AllOrderly, Rests}
+use Rattle.muck_work.proofs.Seating.{one_bare, one_counted, held_settled, held_start, not_counted}
 use Rattle.muck_work.specs.inner.Holds.{HasTurn, HasEntered, HasGiven}
 use Rattle.muck_work.proofs.Holding.{others_since, entries_since, claim_held}
 use Rattle.muck_porter.specs.declared.deeds.Deed.{Deed}

@@ -7,10 +7,9 @@ ghost use Rattle.muck_peer.specs.Moves.{Clocked, IsUntimed};
 ghost use Rattle.muck_porter.specs.inner.Deeds.{AllOff, IsWantedAt, IsFound, ServedAs, ServedFrom, WorkedAs, DidAs, ClaimOf};
 
 use muck_io::Clock;
-use muck_machine::World;
 use muck_model::NoMemory;
 use muck_peer::{Chose, Peer, Want, tells_time};
-use muck_work::{Job, does_job};
+use muck_work::{Job, World, does_job};
 
 /// A deed that isn't for one peer, nor work.
 #[derive(Drop)]

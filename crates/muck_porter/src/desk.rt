@@ -1,7 +1,7 @@
 // The desk of the porter.
 
-use muck_machine::World;
 use muck_peer::Peer;
+use muck_work::World;
 use std::alloc::Global;
 use turn_lock::{Turn, TurnSeat};
 

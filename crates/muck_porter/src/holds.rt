@@ -3,7 +3,7 @@ ghost use Rattle.std.specs.Prelude.{◌≡◌, ◌≤◌, ◌^◌, IfOk, OnErr, 
 ghost use Rattle.muck_model.specs.declared.event.Event.{Event};
 ghost use Rattle.spec_events.specs.Histories.{now, AllLawful};
 ghost use Rattle.spec_events.specs.Logged.{IsPlaced};
-ghost use Rattle.muck_machine.specs.inner.Seats.{Left, Waited};
+ghost use Rattle.muck_work.specs.inner.Seats.{Left, Waited};
 ghost use Rattle.muck_porter.specs.inner.Kept.{Resting};
 ghost use Rattle.muck_porter.specs.inner.Turns.{MarkedIn, Given};
 ghost use Rattle.muck_porter.specs.inner.Desks.{stand, Far, Stands, Goes};
@@ -13,8 +13,7 @@ use crate::deeds::{Deed, Did, Worked, does, works};
 use crate::desk::{Desk, Fault};
 use muck_io::{Clock, Gate, Rest};
 use muck_links::Links;
-use muck_machine::World;
-use muck_work::{gives, takes};
+use muck_work::{World, gives, takes};
 use std::sync::Wait;
 use turn_lock::{Held, Spent, Turn, TurnSeat};
 

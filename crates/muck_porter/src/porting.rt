@@ -11,7 +11,7 @@ use crate::desk::{Desk, Fault};
 use crate::rounds::Round;
 use muck_io::{Clock, Gate, Rest};
 use muck_links::Links;
-use muck_machine::World;
+use muck_work::World;
 use std::alloc::Global;
 use std::sync::Wait;
 use turn_lock::{Turn, TurnSeat};

@@ -16,3 +16,4 @@ pub mod Noted
 pub mod Untouched
 pub mod Called
 pub mod Drilled
+pub use Rattle.muck_dumping.proofs.Knowing

@@ -10,9 +10,9 @@ ghost use Rattle.muck_run.specs.inner.Plays.{PlaysOrBreaks};
 
 use crate::playing::RunFault;
 use muck_disk::Disk;
+use muck_dumping::World;
 pub use muck_dumping::{FILE_MOST, Store};
 use muck_log::LogFault;
-use muck_machine::World;
 use muck_model::NoMemory;
 use std::alloc::Global;
 

@@ -10,5 +10,7 @@ mod running;
 
 pub use drilling::drill;
 pub use mounting::{awake, mount};
+// the world of a run, and the store to which it is dumped
+pub use muck_dumping::{Store, World};
 pub use playing::{RunFault, act, greatest, make_asked, serve_all};
 pub use running::{begin, last_dump, run, stop};

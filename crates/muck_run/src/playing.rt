@@ -13,8 +13,8 @@ ghost use Rattle.muck_run.specs.inner.Plays.{PlaysOrBreaks};
 
 use crate::dumping::{Store, dump};
 use muck_disk::Disk;
+use muck_dumping::World;
 use muck_io::{Sink, WriteFailed, write_all};
-use muck_machine::World;
 use muck_model::NoMemory;
 use muck_script::{Act, farewell_text, lines_text, settle};
 use std::alloc::{AllocError, Global};

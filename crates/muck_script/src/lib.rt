@@ -11,6 +11,8 @@ mod turns;
 
 pub use act::Act;
 pub use lines::cut_line;
+// the world that a script is played on, and what a slice of a process comes to
+pub use muck_machine::{Sliced, World};
 pub use parsing::act_of;
 pub use script::{Script, ScriptFault, read};
 pub use shown::{farewell_text, lines_text};

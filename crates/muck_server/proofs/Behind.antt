@@ -14,10 +14,10 @@ use Rattle.spec_talks.proofs.Histories.{worlds_one}
 use Rattle.spec_talks.proofs.Talking.{talks_one}
 use Rattle.spec_serve.specs.Marks.{LinksNote}
 use Rattle.spec_serve.specs.Promises.{Tally, HaltCause, Promised, PromisedOf}
-use Rattle.muck_peer.specs.Moves.{IsUntimed}
-use Rattle.muck_porter.specs.inner.Kept.{Account}
-use Rattle.muck_porter.specs.Times.{Timely}
-use Rattle.muck_porter.proofs.InRounds.{rose_since}
+use Rattle.muck_crew.specs.PeerMoves.{IsUntimed}
+use Rattle.muck_crew.specs.inner.Kept.{Account}
+use Rattle.muck_crew.specs.Times.{Timely}
+use Rattle.muck_crew.proofs.Rising.{rose_since}
 use Rattle.muck_crew.specs.Shared.{LeavesWorkedOff}
 
 pub record TellsNothing (e : Entry) : Type 0 where

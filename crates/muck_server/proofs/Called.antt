@@ -15,9 +15,9 @@ use Rattle.spec_dumps.specs.inner.Holding.{Keeps}
 use Rattle.spec_events.specs.Steps.{is_lawful, may_cut}
 use Rattle.spec_events.specs.Histories.{History, now, entered, links_noted, by_porter, AllLawful}
 use Rattle.spec_talks.specs.Counts.{counts}
-use Rattle.muck_dumping.specs.inner.Between.{IsReady as HasLog}
-use Rattle.muck_dumping.specs.inner.Dumps.{HasDumped, Dumps}
-use Rattle.muck_porter.specs.inner.Kept.{Account}
+use Rattle.muck_crew.specs.inner.Between.{IsReady as HasLog}
+use Rattle.muck_crew.specs.inner.Dumps.{HasDumped, Dumps}
+use Rattle.muck_crew.specs.inner.Kept.{Account}
 use Rattle.muck_crew.specs.inner.Finished.{HasDump}
 use Rattle.muck_why.specs.declared.why.Why.{Why}
 use Rattle.muck_why.specs.declared.why.Why.TheVariants.{ListenFault}

@@ -25,9 +25,9 @@ use Rattle.spec_talks.specs.Talks.{talks}
 use Rattle.spec_serve.specs.Marks.{LinksNote, counts_in, IsLinksNote}
 use Rattle.spec_serve.specs.Promises.{PromisedOf}
 use Rattle.spec_serve.proofs.Counted.{counts_made}
-use Rattle.muck_dumping.specs.inner.Between.{IsReady as HasLog}
-use Rattle.muck_porter.specs.inner.Kept.{Account}
-use Rattle.muck_porter.specs.Times.{Timely}
+use Rattle.muck_crew.specs.inner.Between.{IsReady as HasLog}
+use Rattle.muck_crew.specs.inner.Kept.{Account}
+use Rattle.muck_crew.specs.Times.{Timely}
 use Rattle.muck_crew.specs.Shared.{IsShared, AllOver, EndsStopped, LeavesWorkedOff}
 use Rattle.muck_crew.specs.inner.Finished.{HasDump}
 use Rattle.muck_why.specs.declared.why.Why.TheVariants.{ListenFault}

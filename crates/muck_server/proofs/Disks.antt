@@ -9,12 +9,12 @@ use Rattle.muck_model.specs.declared.memory.NoMemory.{NoMemory as Wanting}
 use Rattle.spec_dumps.specs.inner.Holding.{Keeps}
 use Rattle.spec_dumps.specs.Survival.{IsSafe, RoseInLast, StandsWhole}
 use Rattle.spec_events.specs.Histories.{History}
-use Rattle.muck_dumping.specs.inner.Dumps.{Dumps, IsFull, IsDumpFault}
+use Rattle.muck_crew.specs.inner.Dumps.{Dumps, IsFull, IsDumpFault}
 use Rattle.muck_crew.specs.inner.Finished.{why_by, HasDump}
 use Rattle.muck_why.specs.declared.why.Why.{Why}
 use Rattle.muck_why.specs.declared.why.Why.TheVariants.{Fine, NoMemory, DiskFault, Damaged, StoreFull, Spent}
 use Rattle.muck_why.proofs.Causes.{never_fine, is_full, is_disk}
-use Rattle.muck_porter.proofs.InRounds.{rose_since}
+use Rattle.muck_crew.proofs.Rising.{rose_since}
 
 -- Which answers come of which last dump.
 

@@ -11,7 +11,7 @@ use Rattle.spec_events.specs.World.{World}
 use Rattle.spec_events.specs.Steps.{effect}
 use Rattle.spec_events.specs.Histories.{History, after, entered, noted, Longer, by_porter}
 use Rattle.spec_events.proofs.Runs.{after-append, longer_one, longer_noted, longer_on}
-use Rattle.muck_dumping.specs.inner.Dumps.{by, HasDumped, Dies, first as died_first, begun as died_begun, cut as died_cut, ending as died_ending}
+use Rattle.muck_crew.specs.inner.Dumps.{by, HasDumped, Dies, first as died_first, begun as died_begun, cut as died_cut, ending as died_ending}
 use Rattle.muck_server.specs.Served.{last_dump, IsLast}
 use Rattle.muck_server.proofs.Behind.{TellsNothing, AllTellNothing}
 

@@ -1,5 +1,5 @@
 -- The note of the links behind a last dump, and where nobody was let in.
-use Rattle.std.proofs.Common.{◌≡◌, ℕ, zero, suc, ◌<◌, Bool, true, false, List, [], ◌∷◌, ◌++◌, refl, sym, ap, ◌∙◌, subst, arith, eqb-true, Option, Some}
+use Rattle.std.proofs.Common.{◌≡◌, ℕ, zero, suc, ◌<◌, Bool, true, false, List, [], ◌∷◌, ◌++◌, refl, ap, ◌∙◌, subst, arith, eqb-true, Option, Some}
 use Rattle.std.specs.Prelude.{◌==◌, map, slice_get, is_some}
 use Rattle.std.proofs.lemmas.Option.{none-some, same_Some}
 use Rattle.muck_laws.proofs.Truths.{opposed}
@@ -15,7 +15,7 @@ use Rattle.spec_events.specs.Histories.{by_porter, AllLawful}
 use Rattle.spec_talks.specs.Parties.{party_of}
 use Rattle.spec_serve.specs.Marks.{ActsStopping, IsLinksNote}
 use Rattle.spec_serve.proofs.Longer.{links_note_longer, stop_noted}
-use Rattle.muck_dumping.specs.inner.Dumps.{by}
+use Rattle.muck_crew.specs.inner.Dumps.{by}
 use Rattle.muck_crew.specs.Shared.{events_done_by, EndsStopped}
 
 -- What a party did last stands in the tale.

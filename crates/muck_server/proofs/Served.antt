@@ -16,11 +16,11 @@ use Rattle.spec_events.specs.World.{World}
 use Rattle.spec_events.specs.Histories.{History, now, entered, AllLawful}
 use Rattle.spec_events.specs.Own.{Stage}
 use Rattle.spec_serve.specs.Marks.{counts_in, IsLinksNote}
-use Rattle.muck_dumping.specs.inner.Between.{IsReady as HasLog}
-use Rattle.muck_dumping.specs.inner.Dumps.{by}
-use Rattle.muck_porter.specs.inner.Kept.{Account}
-use Rattle.muck_porter.specs.Times.{Timely}
-use Rattle.muck_porter.proofs.InRounds.{rose_since}
+use Rattle.muck_crew.specs.inner.Between.{IsReady as HasLog}
+use Rattle.muck_crew.specs.inner.Dumps.{by}
+use Rattle.muck_crew.specs.inner.Kept.{Account}
+use Rattle.muck_crew.specs.Times.{Timely}
+use Rattle.muck_crew.proofs.Rising.{rose_since}
 use Rattle.muck_crew.specs.Shared.{IsParty, IsShared, AllOver, EndsStopped}
 use Rattle.muck_crew.specs.inner.Finished.{why_by, HasDump, IsFinish}
 use Rattle.muck_crew.specs.declared.serving.Way.{Way}

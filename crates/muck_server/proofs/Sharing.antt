@@ -14,9 +14,9 @@ use Rattle.spec_events.specs.Histories.{by_porter}
 use Rattle.spec_events.specs.Own.{Stage, next_stage, stage_of, IsWellFormed, is_last, IsPartyOver}
 use Rattle.spec_events.proofs.Owning.{stage_one, stage_more, well_formed, over_with, over_stop}
 use Rattle.spec_talks.specs.Parties.{party_of}
-use Rattle.muck_dumping.specs.inner.Dumps.{by}
+use Rattle.muck_crew.specs.inner.Dumps.{by}
 use Rattle.muck_crew.specs.Shared.{IsParty, events_done_by, IsShared, IsThrough, AllOver, EndsStopped}
-use Rattle.muck_server.specs.Served.{last_dump, IsLast}
+use Rattle.muck_server.specs.Served.{IsLast}
 
 -- What each party did, with one entry more.
 

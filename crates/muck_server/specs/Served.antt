@@ -14,9 +14,9 @@ use Rattle.spec_talks.specs.Talks.{Talk, talks, talks_with, bytes_sent}
 use Rattle.spec_serve.specs.Marks.{LinksNote, counts_in, IsLinksNote}
 use Rattle.spec_serve.specs.Accounts.{Agrees}
 use Rattle.spec_serve.specs.Promises.{Tally, PromisedOf, sessions_with}
-use Rattle.muck_porter.specs.inner.Kept.{Account}
-use Rattle.muck_porter.specs.Times.{Timely}
-use Rattle.muck_dumping.specs.inner.Dumps.{IsFull}
+use Rattle.muck_crew.specs.inner.Kept.{Account}
+use Rattle.muck_crew.specs.Times.{Timely}
+use Rattle.muck_crew.specs.inner.Dumps.{IsFull}
 use Rattle.muck_crew.specs.Shared.{IsParty, IsShared, AllOver, EndsStopped, LeavesWorkedOff}
 use Rattle.muck_why.specs.declared.why.Why.{Why}
 use Rattle.muck_why.specs.declared.why.Why.TheVariants.{Fine, NoMemory, DiskFault, Damaged, StoreFull}

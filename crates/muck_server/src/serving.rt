@@ -1,8 +1,8 @@
 // A call of a server.
 ghost use Rattle.std.specs.Prelude.{◌≡◌, ◌⊎◌, ◌<◌, ℕ, true, false, Some};
-ghost use Rattle.muck_dumping.specs.inner.Between.{IsReady as HasLog};
+ghost use Rattle.muck_crew.specs.inner.Between.{IsReady as HasLog};
 ghost use Rattle.muck_model.specs.declared.note.Note.{Note};
-ghost use Rattle.muck_porter.specs.inner.Kept.{account};
+ghost use Rattle.muck_crew.specs.inner.Kept.{account};
 ghost use Rattle.spec_events.specs.Histories.{now};
 ghost use Rattle.spec_talks.specs.Counts.{counts};
 ghost use Rattle.muck_crew.specs.inner.Finished.{HasDump};
@@ -10,13 +10,11 @@ ghost use Rattle.muck_crew.specs.inner.Runs.{IsFresh};
 ghost use Rattle.muck_server.specs.inner.{halted};
 ghost use Rattle.muck_server.specs.Served.{IsUnserved, IsServed};
 
-use muck_crew::{room, serve_links};
+use muck_crew::{Store, World, dump, room, serve_links};
 use muck_disk::Disk;
-use muck_dumping::{Store, dump};
 use muck_io::{Clock, Gate, Rest, place};
 use muck_links::{Links, Listened};
 use muck_log::Log;
-use muck_machine::World;
 use muck_model::Tale;
 use muck_why::Why;
 use std::alloc::Global;

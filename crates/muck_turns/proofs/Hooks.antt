@@ -65,14 +65,14 @@ left_here cs i c lt is = drop_more cs i c lt ∙ ap (λ (x : Call). x ∷ drop (
 -- and others may be behind it
 pub start_next : (cs : List Call) (i : ℕ) (c : Call) (w v : World) (more : Bool) → i < length cs → c ≡ get_or cs i c → GoesOn (program_begun (by_hook w) c w) v more → more ≡ true → started_all (drop i cs) w ≡ started_all (drop (i + 1) cs) v
 unfolding started_all
-start_next cs i c w v more lt is goes yes =
-    ap (λ l. started_all l w) (left_here cs i c lt is) ∙ goes (started_all (drop (i + 1) cs)) ∙ ap (λ b. cond b (started_all (drop (i + 1) cs) v) v) yes
+start_next cs i c w v more lt is goes may =
+    ap (λ l. started_all l w) (left_here cs i c lt is) ∙ goes (started_all (drop (i + 1) cs)) ∙ ap (λ b. cond b (started_all (drop (i + 1) cs) v) v) may
 
 -- a limit refuses it
 pub start_stop : (cs : List Call) (i : ℕ) (c : Call) (w v : World) (more : Bool) → i < length cs → c ≡ get_or cs i c → GoesOn (program_begun (by_hook w) c w) v more → more ≡ false → started_all (drop i cs) w ≡ v
 unfolding started_all
-start_stop cs i c w v more lt is goes no =
-    ap (λ l. started_all l w) (left_here cs i c lt is) ∙ goes (started_all (drop (i + 1) cs)) ∙ ap (λ b. cond b (started_all (drop (i + 1) cs) v) v) no
+start_stop cs i c w v more lt is goes ends =
+    ap (λ l. started_all l w) (left_here cs i c lt is) ∙ goes (started_all (drop (i + 1) cs)) ∙ ap (λ b. cond b (started_all (drop (i + 1) cs) v) v) ends
 
 pub start_end : (cs : List Call) (i : ℕ) (w : World) → length cs ≤ i → started_all (drop i cs) w ≡ w
 unfolding started_all
@@ -90,12 +90,12 @@ went_more p m ms cs lt = append_assoc cs (of_move m) (told (Went p) ms) ∙ ap (
 
 pub went_here : (p : Dbref) (m : Move) (ms : List Move) (cs : List Cause) → int_lt m.player.0 p.0 ≡ false → ((cs ++ Disconnect p ∷ []) ++ of_move m) ++ told Nobody ms ≡ cs ++ told (Went p) (m ∷ ms)
 unfolding told
-went_here p m ms cs no =
-    append_assoc (cs ++ Disconnect p ∷ []) (of_move m) (of_moves ms) ∙ append_assoc cs (Disconnect p ∷ []) (of_moves (m ∷ ms)) ∙ ap (λ l. cs ++ l) (sym (cond-false _ _ _ no))
+went_here p m ms cs not_below =
+    append_assoc (cs ++ Disconnect p ∷ []) (of_move m) (of_moves ms) ∙ append_assoc cs (Disconnect p ∷ []) (of_moves (m ∷ ms)) ∙ ap (λ l. cs ++ l) (sym (cond-false _ _ _ not_below))
 
 pub came_more : (p : Dbref) (m : Move) (ms : List Move) (cs : List Cause) → int_lt p.0 m.player.0 ≡ false → (cs ++ of_move m) ++ told (Came p) ms ≡ cs ++ told (Came p) (m ∷ ms)
 unfolding told
-came_more p m ms cs no = append_assoc cs (of_move m) (told (Came p) ms) ∙ ap (λ l. cs ++ l) (sym (cond-false _ _ _ no))
+came_more p m ms cs not_above = append_assoc cs (of_move m) (told (Came p) ms) ∙ ap (λ l. cs ++ l) (sym (cond-false _ _ _ not_above))
 
 pub came_here : (p : Dbref) (m : Move) (ms : List Move) (cs : List Cause) → int_lt p.0 m.player.0 ≡ true → ((cs ++ Connect p ∷ []) ++ of_move m) ++ told Nobody ms ≡ cs ++ told (Came p) (m ∷ ms)
 unfolding told
@@ -142,7 +142,7 @@ line_hooked d w u v before said turned r quiet still rising b e s t done =
     let now : turned ≡ came_on d (player_in d w.live.board) after.live = t ∙ ap (λ (x : World). came_on d before x.live) e ∙ ap (λ o. came_on d o after.live) b in
     on_ok_as r (v ≡ hooked_told turned said u) (v ≡ hooked_by w (Exec d) after)
     (λ h. h ∙ ap (λ (x : World). hooked_told turned said x) e ∙ ap (λ x. hooked_told x said after) now
-        ∙ hooked_by_told (came_on d (player_in d w.live.board) after.live) said w after (turns_exec d w 0 quiet rising still) ∙ ap (λ x. hooked w (rested after) x) s)
+    ∙ hooked_by_told (came_on d (player_in d w.live.board) after.live) said w after (turns_exec d w 0 quiet rising still) ∙ ap (λ x. hooked w (rested after) x) s)
     done
 
 -- behind a slice

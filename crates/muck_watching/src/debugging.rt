@@ -12,11 +12,10 @@ ghost use Rattle.muck_watching.specs.Debugged.{HasReadDebugScript, HasWrittenSee
 use crate::watching::play_seen;
 use muck_debugging::{DebugAct, DebugScript, read_debug};
 use muck_disk::Disk;
-use muck_dumping::Store;
 use muck_io::{ReadFault, Sink, Source, read_all};
 use muck_log::Log;
 use muck_model::Tale;
-use muck_run::{RunFault, begin, last_dump, mount, stop};
+use muck_run::{RunFault, Store, begin, last_dump, mount, stop};
 use muck_script::{SCRIPT_MOST, ScriptFault};
 use muck_why::Why;
 use muf_debug::Tracer;

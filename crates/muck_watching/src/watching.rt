@@ -4,7 +4,7 @@ ghost use Rattle.muck_io.specs.Faults.{Rose};
 ghost use Rattle.spec_events.specs.Histories.{now};
 ghost use Rattle.muck_script.specs.Story.{acted, turns, turns_most, plain_part, both_parts, line_story};
 ghost use Rattle.spec_dumps.specs.inner.Holding.{Quietly, Rests};
-ghost use Rattle.muck_dumping.specs.inner.Between.{Knows};
+ghost use Rattle.muck_run.specs.inner.Between.{Knows};
 ghost use Rattle.muf_debug.specs.Shown.{TellsSo};
 ghost use Rattle.muf_debug.specs.Watching.{SeesAll};
 ghost use Rattle.muck_debugging.specs.Seen.{views_in};
@@ -15,11 +15,9 @@ ghost use Rattle.muck_watching.specs.inner.Seen.{IsReady, Shows, PlaysOrBreaksSe
 
 use muck_debugging::{DebugAct, settle_seen, units_text};
 use muck_disk::Disk;
-use muck_dumping::Store;
 use muck_io::{Sink, WriteFailed, write_all};
-use muck_machine::World;
 use muck_model::NoMemory;
-use muck_run::{RunFault, act, greatest, make_asked, serve_all};
+use muck_run::{RunFault, Store, World, act, greatest, make_asked, serve_all};
 use muck_script::Act;
 use muf_debug::Tracer;
 use std::alloc::Global;

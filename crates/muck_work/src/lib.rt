@@ -6,3 +6,5 @@ mod jobs;
 
 pub use holds::{gives, takes};
 pub use jobs::{Job, does_job};
+// the world that parties share, for each of them
+pub use muck_machine::{Beginning, Sliced, World};

@@ -4,15 +4,15 @@ use Rattle.std.specs.Prelude.{nat_lt}
 use Rattle.std.proofs.lemmas.Bool.{ne_eqb, lt-ltb}
 use Rattle.turn_lock.specs.Histories.{StartsWith}
 use Rattle.muck_model.specs.declared.event.Event.{Event}
-use Rattle.muck_model.specs.declared.event.Event.TheVariants.{Exec, Claim, Idle, Died}
+use Rattle.muck_model.specs.declared.event.Event.TheVariants.{Exec, Claim, Idle}
 use Rattle.spec_events.specs.declared.logged.Logged.{Logged}
 use Rattle.spec_events.specs.Histories.{History, now}
 use Rattle.spec_events.specs.Logged.{bare_item, events_of, NoNotes, NoCounts}
 use Rattle.spec_events.specs.Own.{Stage, porter_next, worker_next, dumper_next, party_next, next_stage, stage_of}
 use Rattle.spec_events.proofs.Logging.{events_append, no_notes_one, no_counts_one}
 use Rattle.spec_events.proofs.Owning.{stage_more, well_formed, over_with}
-use Rattle.muck_machine.specs.inner.Seats.{Sight, Chair, Rests, SameLists, Turned}
-use Rattle.muck_machine.proofs.Seating.{left_rests, seen_later}
+use Rattle.muck_work.specs.inner.Seats.{Sight, Chair, Rests, SameLists, Turned}
+use Rattle.muck_work.proofs.Seating.{left_rests, seen_later}
 use Rattle.muck_work.specs.declared.jobs.Job.{Job}
 use Rattle.muck_work.specs.declared.jobs.Job.TheVariants.{Line, Claim as JobClaim, Idle as JobIdle, Died as JobDied}
 use Rattle.muck_work.specs.inner.Jobs.{by, JobAs}

@@ -6,9 +6,8 @@ ghost use Rattle.spec_events.specs.Steps.{has_claim};
 ghost use Rattle.muck_work.specs.inner.Jobs.{by};
 ghost use Rattle.muck_worker.specs.inner.Deeds.{did_as, DidAs, IsOpen};
 
-use muck_machine::{Sliced, World};
 use muck_model::NoMemory;
-use muck_work::{Job, does_job};
+use muck_work::{Job, Sliced, World, does_job};
 
 /// What a worker has to do in its next turn.
 #[derive(Clone, Copy)]

@@ -2,15 +2,14 @@
 ghost use Rattle.std.specs.Prelude.{◌≡◌, ◌<◌, ◌≤◌, ◌^◌, ℕ, IfOk, OnErr, length};
 ghost use Rattle.muck_model.specs.declared.event.Event.{Event};
 ghost use Rattle.spec_events.specs.Logged.{bare_item};
-ghost use Rattle.muck_machine.specs.inner.Seats.{Rests, Left, Waited, Turned};
+ghost use Rattle.muck_work.specs.inner.Seats.{Rests, Left, Waited, Turned};
 ghost use Rattle.muck_worker.specs.inner.Working.{WorkerReady, WorkerDone};
 ghost use Rattle.muck_work.specs.inner.Jobs.{by};
 ghost use Rattle.muck_worker.specs.inner.Deeds.{DidAs, IsHeld};
 
 use crate::deeds::{Did, Task, works};
 use muck_io::{Gate, Rest, place};
-use muck_machine::World;
-use muck_work::{gives, takes};
+use muck_work::{World, gives, takes};
 use std::sync::Wait;
 use turn_lock::{Spent, Turn, TurnSeat};
 

@@ -15,9 +15,9 @@ use Rattle.spec_dumps.specs.Fronts.{file_most}
 use Rattle.spec_events.specs.World.{World, world_booted}
 use Rattle.spec_events.specs.Histories.{History}
 use Rattle.spec_live.specs.Boards.{early_board}
-use Rattle.muck_dumping.specs.inner.Between.{IsReady as HasLog}
-use Rattle.muck_porter.specs.inner.Kept.{Account, account}
-use Rattle.muck_crew.specs.inner.Runs.{IsFresh}
+use Rattle.muck_server.specs.inner.Between.{IsReady as HasLog}
+use Rattle.muck_server.specs.inner.Kept.{Account, account}
+use Rattle.muck_server.specs.inner.Runs.{IsFresh}
 use Rattle.muck_server.specs.Served.{IsServed, IsUnserved as Never, EndsTo, HasEnded}
 use Rattle.muck_run.specs.Outcome.{IsUntouched, EndsFull}
 use Rattle.muck_run.specs.inner.Dumps.{note_of}

@@ -19,8 +19,8 @@ use Rattle.spec_origins.specs.Stops.{AllStops}
 use Rattle.spec_origins.specs.There.{StaysThere}
 use Rattle.spec_serve.specs.Marks.{counts_in, IsLinksNote}
 use Rattle.spec_serve.specs.Promises.{Tally}
-use Rattle.muck_porter.specs.Times.{Timely}
-use Rattle.muck_crew.specs.Shared.{IsShared, AllOver, LeavesWorkedOff}
+use Rattle.muck_server.specs.Times.{Timely}
+use Rattle.muck_server.specs.Shared.{IsShared, AllOver, LeavesWorkedOff}
 use Rattle.muck_server.specs.Served.{IsCarried, HasStopped, HasRunOut, HasEnded}
 use Rattle.muckd.specs.Words.{Command, serve}
 use Rattle.muck_run.specs.Outcome.{IsStart, IsOpened, IsUntouched, IsTooLarge, EndsFull}

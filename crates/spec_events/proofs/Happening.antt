@@ -32,13 +32,13 @@ is_hooked event = false
 -- of all others the effect is what happened
 pub effect-is : (w : World) (e : Entry) → is_hooked e.event ≡ false → effect w e ≡ happened w e.party e.event
 unfolding effect
-effect-is w e no = none e.event no
+effect-is w e follows = none e.event follows
   where
     none : (event : Event) → is_hooked event ≡ false → hooked_by w event (happened w e.party event) ≡ happened w e.party event
-    none (Exec d) no = absurd cc
-    none (Slice pid) no = absurd cc
-    none (Closed d) no = absurd cc
-    none event no = refl
+    none (Exec d) follows = absurd cc
+    none (Slice pid) follows = absurd cc
+    none (Closed d) follows = absurd cc
+    none event follows = refl
 
 -- what stays so where something that is there starts a program so
 abbrev pub Lasts : (World → Type 0) → Type 0

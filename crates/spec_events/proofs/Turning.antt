@@ -253,12 +253,12 @@ module _ (w v : Live) (stood : (n : ℕ) → stood_in v.objects n ≡ stands_in 
     comes n lt = ap (λ b. b && not (is_connected (dbref_of n) w)) (is_now (dbref_of n)) ∙ ap (λ b. (had (dbref_of n) || same (dbref_of n) p) && not b) (was (dbref_of n)) ∙ at (same (dbref_of n) p) refl
       where
         other : (b : Bool) → same (dbref_of n) p ≡ false → is_come (cond b (Came p) Nobody) (dbref_of n) ≡ false
-        other true no = turn_round (same p (dbref_of n)) refl
+        other true differs = turn_round (same p (dbref_of n)) refl
           where
             turn_round : (c : Bool) → same p (dbref_of n) ≡ c → same p (dbref_of n) ≡ false
             turn_round false k = k
-            turn_round true k = absurd (false≢true (sym no ∙ same_eq (dbref_of n) p (sym (eq_same p (dbref_of n) k))))
-        other false no = refl
+            turn_round true k = absurd (false≢true (sym differs ∙ same_eq (dbref_of n) p (sym (eq_same p (dbref_of n) k))))
+        other false differs = refl
 
         this : (b : Bool) → p ≡ dbref_of n → had p ≡ b → (not b) ≡ is_come (cond (is_number p v && not b) (Came p) Nobody) (dbref_of n)
         this true is k = sym (ap (λ c. is_come (cond c (Came p) Nobody) (dbref_of n)) (and_false (is_number p v)))
@@ -342,12 +342,12 @@ module _ (w v : Live) (stood : (n : ℕ) → stood_in v.objects n ≡ stands_in 
             ap (λ b. b && not (is_connected (dbref_of n) v)) (stays (dbref_of n) ∙ ap (λ o. is_connected (dbref_of n) v || option_map_or (same (dbref_of n)) o false) is) ∙ by (same (dbref_of n) p) refl
           where
             other : (b : Bool) → same (dbref_of n) p ≡ false → is_gone (cond b (Went p) Nobody) (dbref_of n) ≡ false
-            other true no = turn_round (same p (dbref_of n)) refl
+            other true differs = turn_round (same p (dbref_of n)) refl
               where
                 turn_round : (c : Bool) → same p (dbref_of n) ≡ c → same p (dbref_of n) ≡ false
                 turn_round false k = k
-                turn_round true k = absurd (false≢true (sym no ∙ same_eq (dbref_of n) p (sym (eq_same p (dbref_of n) k))))
-            other false no = refl
+                turn_round true k = absurd (false≢true (sym differs ∙ same_eq (dbref_of n) p (sym (eq_same p (dbref_of n) k))))
+            other false differs = refl
 
             this : (b : Bool) → p ≡ dbref_of n → (not b) ≡ is_gone (cond (is_number p v && not b) (Went p) Nobody) (dbref_of n)
             this true same_one = sym (ap (λ c. is_gone (cond c (Went p) Nobody) (dbref_of n)) (and_false (is_number p v)))
@@ -390,11 +390,11 @@ Sits d w v = (seats v ≡ seats w) ⊎ ((p : Dbref) × IsFree d (seats w) × (se
 
 free_found : (d : ℕ) (c : Connection) (cs : List Connection) → find (is_connection d) cs ≡ Some c → c.player ≡ None → IsFree d (seats_of cs)
 free_found d c [] f n = absurd cc
-free_found d c (x ∷ cs) f n = at (x.number == d) refl f
+free_found d c (x ∷ cs) f n = at (x.number == d) refl f (λ k. free_found d c cs k n)
   where
-    at : (b : Bool) → (x.number == d) ≡ b → cond b (Some x) (find (is_connection d) cs) ≡ Some c → IsFree d (seats_of (x ∷ cs))
-    at true e k = let one : x ≡ c = cc in inl (e, ap (λ (y : Connection). y.player) one ∙ n)
-    at false e k = inr (e, free_found d c cs k n)
+    at : (b : Bool) → (x.number == d) ≡ b → cond b (Some x) (find (is_connection d) cs) ≡ Some c → (find (is_connection d) cs ≡ Some c → IsFree d (seats_of cs)) → IsFree d (seats_of (x ∷ cs))
+    at true e k later = let one : x ≡ c = cc in inl (e, ap (λ (y : Connection). y.player) one ∙ n)
+    at false e k later = inr (e, later k)
 
 free_at : (d : ℕ) (xs : Seats) → IsFree d xs → seat_at d xs ≡ None
 free_at d [] h = absurd h
@@ -459,7 +459,7 @@ sits_line d (Some pid) player editor line lines w free l = sits_given d pid line
 sits_line d None (Some player) editor line lines w free l = inl (seats_ties (actor_of w.live.objects player) w.live.board.connections _ l.0.connections)
 sits_line d None None editor line lines w free l =
     let waited : seats (waits d lines w.live) ≡ seats w.live = seats_loose (waits d lines) (loose_waits d lines) w.live in
-    sits_behind d w.live (waits d lines w.live) _ waited (sits_at_login d line (waits d lines w.live) (subst (IsFree d) (sym waited) (free refl)))
+    sits_behind d w.live (waits d lines w.live) (at_login d line (waits d lines w.live)) waited (sits_at_login d line (waits d lines w.live) (subst (IsFree d) (sym waited) (free refl)))
 
 sits_lines : (d : ℕ) (player : Option Dbref) (editor : Option EditState) (lines : List (List ℕ)) (w : World) → (player ≡ None → IsFree d (seats w.live)) →
     LineLicensed d (reader d w.queue) player editor lines w (line_done d player editor lines w) → Sits d w.live (line_done d player editor lines w).live

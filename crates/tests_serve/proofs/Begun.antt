@@ -2,8 +2,8 @@
 use Rattle.std.proofs.Common.{◌≡◌, ℕ, List, refl, ap, Some}
 use Rattle.std.specs.Prelude.{All}
 use Rattle.muck_codec.specs.inner.Stored.{AreProperties}
-use Rattle.muck_crew.specs.inner.Runs.{IsFresh}
-use Rattle.muck_dumping.specs.inner.Between.{IsReady as HasLog}
+use Rattle.muck_server.specs.inner.Runs.{IsFresh}
+use Rattle.muck_server.specs.inner.Between.{IsReady as HasLog}
 use Rattle.muck_log.specs.inner.Mount.{IsMountedAs}
 use Rattle.muck_log.specs.Store.{LogState}
 use Rattle.muck_model.specs.declared.note.Note.{Note}

@@ -8,7 +8,7 @@ use Rattle.muck_model.specs.declared.event.Event.TheVariants.{Died}
 use Rattle.muck_model.specs.declared.memory.NoMemory.{NoMemory as Wanting}
 use Rattle.spec_dumps.specs.inner.Holding.{Keeps}
 use Rattle.spec_events.specs.Histories.{History, now, entered}
-use Rattle.muck_dumping.specs.inner.Dumps.{by, Dumps, HasDumped}
+use Rattle.muck_dumper.specs.inner.Dumps.{by, Dumps, HasDumped}
 use Rattle.muck_crew.specs.declared.serving.Way.{Way}
 use Rattle.muck_crew.specs.declared.serving.Way.TheVariants as ends
 use Rattle.muck_why.specs.declared.why.Why.{Why}

@@ -4,8 +4,8 @@ use Rattle.atomic_table.specs.Seated.{TableId}
 use Rattle.turn_lock.specs.inner.Turns.{left_after, newcomer, taken_in}
 use Rattle.turn_lock.specs.declared.view.Place.TheVariants.{Idle, Told}
 use Rattle.muck_worker.specs.inner.Working.{WorkerReady, WorkerDone}
-use Rattle.muck_dumping.specs.declared.store.Store.{Store}
-use Rattle.muck_dumping.specs.inner.Between.{IsReady as HasLog, Knows}
+use Rattle.muck_dumper.specs.declared.Store.{Store}
+use Rattle.muck_dumper.specs.inner.Between.{IsReady as HasLog, Knows}
 use Rattle.muck_dumper.specs.inner.Dumping.{history_seen, DumperReady}
 use Rattle.muck_machine.specs.inner.Seats.{Sight, Chair}
 use Rattle.muck_crew.specs.declared.seats.Part.{Part}

@@ -9,7 +9,7 @@ use Rattle.spec_events.specs.Histories.{History, now, AllLawful}
 use Rattle.spec_events.specs.Logged.{IsPlaced}
 use Rattle.spec_serve.specs.Marks.{counts_in, IsLinksNote}
 use Rattle.spec_serve.specs.Promises.{PromisedOf}
-use Rattle.muck_dumping.specs.inner.Between.{IsReady as HasLog}
+use Rattle.muck_dumper.specs.inner.Between.{IsReady as HasLog}
 use Rattle.muck_porter.specs.inner.Kept.{Account}
 use Rattle.muck_porter.specs.Times.{Timely}
 use Rattle.muck_porter.specs.declared.porting.Why.{Why as PorterWhy}

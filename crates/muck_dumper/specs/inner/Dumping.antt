@@ -1,5 +1,5 @@
 -- What the dumper comes to.
-use Rattle.std.specs.Prelude.{◌≡◌, ℕ, ◌≤◌, ◌^◌, Bool, true, List, [], ◌∷◌, ◌++◌, length, Option, None}
+use Rattle.std.specs.Prelude.{◌≡◌, ℕ, ◌≤◌, ◌^◌, Bool, true, List, [], ◌∷◌, ◌++◌, length, None}
 use Rattle.turn_lock.specs.Histories.{StartsWith, own_of}
 use Rattle.muck_model.specs.declared.event.Event.{Event}
 use Rattle.muck_model.specs.declared.event.Event.TheVariants.{StopSeen, Died}
@@ -9,8 +9,8 @@ use Rattle.spec_events.specs.Histories.{History, now}
 use Rattle.spec_events.specs.Logged.{logged_by, entries_of, events_of, notes_of, count_from, NoCounts}
 use Rattle.spec_events.specs.Own.{IsWellFormed}
 use Rattle.spec_dumps.specs.Survival.{IsSafe}
-use Rattle.muck_machine.specs.declared.beginning.Beginning.{Beginning}
-use Rattle.muck_machine.specs.inner.Seats.{Sight, Chair, AllOrderly, Rests, Left, SameLists}
+use Rattle.muck_work.specs.declared.Beginning.{Beginning}
+use Rattle.muck_work.specs.inner.Seats.{Sight, Chair, AllOrderly, Rests, Left, SameLists}
 use Rattle.muck_dumping.specs.inner.Dumps.{by}
 use Rattle.muck_dumping.specs.declared.store.Store.{Store}
 use Rattle.muck_dumping.specs.inner.Between.{IsReady, Knows}

@@ -12,7 +12,7 @@ use Rattle.spec_events.specs.Logged.{events_of, NoCounts}
 use Rattle.spec_events.specs.Own.{Stage, stage_of}
 use Rattle.spec_dumps.specs.Survival.{IsSafe}
 use Rattle.spec_dumps.specs.inner.Holding.{Quietly, Keeps, Rests as HasRests}
-use Rattle.muck_machine.specs.inner.Seats.{Chair, Rests, Left, SameLists}
+use Rattle.muck_work.specs.inner.Seats.{Chair, Rests, Left, SameLists}
 use Rattle.muck_dumping.specs.declared.store.Store.{Store}
 use Rattle.muck_dumping.specs.inner.Dumps.{by}
 use Rattle.muck_dumping.specs.inner.Between.{IsReady, IsBatchAtCut, base_in, next_number, IsPending}

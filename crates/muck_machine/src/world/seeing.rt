@@ -6,7 +6,7 @@ ghost use Rattle.spec_events.specs.Histories.{now, entered, EntryLicensed};
 ghost use Rattle.spec_events.specs.Sections.{IsWhole};
 ghost use Rattle.spec_events.specs.Slices.{process_awake, units_of};
 ghost use Rattle.spec_events.specs.Steps.{has_claim, is_process_there};
-ghost use Rattle.spec_views.specs.Views.{views_of};
+ghost use Rattle.muck_turns.specs.Views.{views_of};
 ghost use Rattle.muck_machine.specs.declared.world.Sliced.TheVariants.{Ran, Lost};
 ghost use Rattle.muck_machine.specs.inner.Claims.{slice_event};
 

@@ -6,7 +6,7 @@ use Rattle.muck_links.specs.Sessions.{LinksTold}
 use Rattle.spec_events.specs.Own.{Stage}
 use Rattle.spec_serve.specs.Promises.{Tally}
 use Rattle.spec_serve.specs.inner.Keeping.{Peer}
-use Rattle.muck_machine.specs.inner.Seats.{Chair, SameLists}
+use Rattle.muck_work.specs.inner.Seats.{Chair, SameLists}
 use Rattle.muck_work.specs.inner.Holds.{HasClaimed}
 use Rattle.muck_porter.specs.declared.desk.Desk.{Desk}
 use Rattle.muck_porter.specs.declared.desk.Fault.{Fault}

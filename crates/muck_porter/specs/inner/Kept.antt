@@ -13,8 +13,8 @@ use Rattle.spec_talks.specs.Talks.{talks}
 use Rattle.spec_serve.specs.Promises.{Tally, PromisedOf, OpenWorkedOff}
 use Rattle.spec_serve.specs.inner.Keeping.{Peer}
 use Rattle.spec_serve.specs.inner.Books.{BooksOf}
-use Rattle.muck_machine.specs.inner.Beginnings.{begun}
-use Rattle.muck_machine.specs.inner.Seats.{Sight, Chair, Rests, Left}
+use Rattle.muck_work.specs.inner.Beginnings.{begun}
+use Rattle.muck_work.specs.inner.Seats.{Sight, Chair, Rests, Left}
 use Rattle.muck_porter.specs.inner.Notes.{note_in}
 
 abbrev pub tally : LinksTold → ℕ → Tally

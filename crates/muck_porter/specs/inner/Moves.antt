@@ -6,7 +6,7 @@ use Rattle.muck_io.specs.Faults.{Rose}
 use Rattle.muck_links.specs.Sessions.{LinksTold}
 use Rattle.spec_serve.specs.Promises.{Tally}
 use Rattle.spec_serve.specs.inner.Keeping.{Peer, new_peer}
-use Rattle.muck_machine.specs.inner.Seats.{Sight}
+use Rattle.muck_work.specs.inner.Seats.{Sight}
 use Rattle.muck_work.specs.inner.Holds.{HasClaimed}
 use Rattle.muck_porter.specs.declared.deeds.Deed.{Deed}
 use Rattle.muck_porter.specs.declared.deeds.Deed.TheVariants.{Slice}

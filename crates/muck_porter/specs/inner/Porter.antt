@@ -5,8 +5,8 @@ use Rattle.muck_model.specs.declared.note.Note.{Note}
 use Rattle.spec_events.specs.World.{World}
 use Rattle.spec_events.specs.Logged.{events_of}
 use Rattle.spec_events.specs.Own.{IsPartyOver}
-use Rattle.muck_machine.specs.inner.Beginnings.{begun}
-use Rattle.muck_machine.specs.inner.Seats.{Chair, Rests, SameLists}
+use Rattle.muck_work.specs.inner.Beginnings.{begun}
+use Rattle.muck_work.specs.inner.Seats.{Chair, Rests, SameLists}
 use Rattle.muck_porter.specs.declared.porting.Why.{Why}
 use Rattle.muck_porter.specs.declared.porting.Why.TheVariants.{Fine, ListenFault, Spent}
 use Rattle.muck_porter.specs.inner.Kept.{Account, KeptBy, Stopped, EndsWithStop, Over}

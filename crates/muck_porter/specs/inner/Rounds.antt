@@ -9,7 +9,7 @@ use Rattle.spec_serve.specs.Marks.{LinksNote}
 use Rattle.spec_serve.specs.Promises.{Tally}
 use Rattle.spec_serve.specs.inner.Keeping.{Peer}
 use Rattle.muck_peer.specs.Moves.{LinkStep}
-use Rattle.muck_machine.specs.inner.Seats.{Sight}
+use Rattle.muck_work.specs.inner.Seats.{Sight}
 use Rattle.muck_porter.specs.declared.desk.Fault.{Fault}
 use Rattle.muck_porter.specs.declared.desk.Fault.TheVariants.{NoMemory, Spent}
 use Rattle.muck_porter.specs.declared.rounds.Round.{Round}

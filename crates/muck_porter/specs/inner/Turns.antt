@@ -1,5 +1,5 @@
 -- One turn of the porter, as its seat sees it.
-use Rattle.std.specs.Prelude.{◌≡◌, ℕ, Bool, true, false, List, [], ◌∷◌, ◌++◌, Some, None}
+use Rattle.std.specs.Prelude.{◌≡◌, Bool, true, false, List, [], ◌∷◌, ◌++◌, Some, None}
 use Rattle.turn_lock.specs.Histories.{own_of}
 use Rattle.muck_links.specs.Sessions.{LinksTold}
 use Rattle.muck_model.specs.declared.event.Event.{Event}
@@ -10,8 +10,8 @@ use Rattle.spec_events.specs.Histories.{History, now, after, AllLawful, by_porte
 use Rattle.spec_events.specs.Logged.{logged_by, entries_of}
 use Rattle.spec_talks.specs.Counts.{counts}
 use Rattle.spec_serve.specs.Marks.{LinksNote}
-use Rattle.muck_machine.specs.inner.Beginnings.{begun}
-use Rattle.muck_machine.specs.inner.Seats.{Sight, Chair, SameLists}
+use Rattle.muck_work.specs.inner.Beginnings.{begun}
+use Rattle.muck_work.specs.inner.Seats.{Sight, Chair, SameLists}
 use Rattle.muck_work.specs.inner.Holds.{HasTurn}
 
 -- The note of the links is made in a hold, where the world is stopping, memory wasn't wanted, and there is none yet; or not.

@@ -4,6 +4,7 @@ use Rattle.std.specs.List.{list_all}
 use Rattle.muck_model.specs.declared.event.Entry.{Entry}
 use Rattle.muck_model.specs.declared.note.Note.{Note}
 use Rattle.muck_store.specs.Forms.{loaded}
+use Rattle.muck_model.specs.Parameters.{tune_fits}
 use Rattle.muck_store.specs.Limits.{record_fits}
 use Rattle.muck_store.specs.Whole.{is_whole_store}
 use Rattle.muck_log.specs.World.{StoredWorld as Kept}

@@ -1,6 +1,6 @@
 // What is hooked to an event: causes, what they fire, and the programs that start.
-ghost use Rattle.std.specs.Prelude.{◌≡◌, ◌++◌, List, [], ◌∷◌, Some, None, if◌then◌else◌, map, IfOk, OnOk};
-ghost use Rattle.std.specs.List.{flat_map};
+ghost use Rattle.std.specs.Prelude.{◌≡◌, ◌&&◌, not, ◌++◌, List, [], ◌∷◌, Some, None, if◌then◌else◌, map, IfOk, OnOk};
+ghost use Rattle.std.specs.List.{flat_map, list_any};
 ghost use Rattle.spec_hooks.specs.Causes.{heard};
 ghost use Rattle.spec_hooks.specs.Firing.{player_of};
 ghost use Rattle.spec_hooks.specs.Told.{of_move, told, is_number, is_alone, came_by, came_on, went_of};
@@ -10,11 +10,13 @@ ghost use Rattle.muck_model.specs.Bytes.{text_fault};
 ghost use Rattle.spec_commands.specs.Replies.{says};
 ghost use Rattle.spec_commands.specs.Talking.{heard_as, pose_tail};
 ghost use Rattle.spec_events.specs.Lines.{spoken_by};
+ghost use Rattle.spec_live.specs.Connections.{is_connection, is_connection_of};
 ghost use Rattle.spec_live.specs.Lives.{name_at};
 ghost use Rattle.muck_turns.specs.inner.Hooks.{GoesOn, MoreIs, hooked_moves, hooked_told, said_of};
 
 use crate::state::State;
 use crate::state::deeds::DeedFault;
+use muck_board::Connection;
 use muck_hook::fires;
 use muck_model::{Dbref, Line, NoMemory, TEXT_MOST};
 use muck_queue::Mode;
@@ -91,7 +93,7 @@ fn heard_as(alloc: Global, pose: bool, name: &[u8], text: &[u8]) -> Result<Line,
 }
 
 fn push_move(causes: &mut Vec<Cause>, moved: &Move) -> Result<(), NoMemory>
-    ensures { OnOk result (causes.new.items ≡ causes.old.items ++ of_move moved) }
+    ensures { OnOk result (causes.new.items ≡ causes.old.items ++ of_move moved.now) }
 {
     causes.push(Cause::Depart {
         player: moved.player,
@@ -106,12 +108,8 @@ fn push_move(causes: &mut Vec<Cause>, moved: &Move) -> Result<(), NoMemory>
 
 // Before one that moved: one whose last connection went with a number up to this one, or whose first one came with one below; what is still to be told of.
 #[tactic(auto, using(crate::proofs::Hooks::nobody_more, crate::proofs::Hooks::went_more, crate::proofs::Hooks::went_here, crate::proofs::Hooks::came_more, crate::proofs::Hooks::came_here))]
-fn push_before(
-    causes: &mut Vec<Cause>,
-    turned: Turned,
-    moved: &Move,
-) -> Result<Turned, NoMemory>
-    ensures { IfOk result (λ rest. (ms : List Move) → (causes.new.items ++ of_move moved) ++ told rest ms ≡ causes.old.items ++ told turned (moved ∷ ms)) }
+fn push_before(causes: &mut Vec<Cause>, turned: Turned, moved: &Move) -> Result<Turned, NoMemory>
+    ensures { IfOk result (λ rest. (ms : List Move) → (causes.new.items ++ of_move moved.now) ++ told rest ms ≡ causes.old.items ++ told turned (moved.now ∷ ms)) }
 {
     match turned {
         Turned::Nobody => Ok(Turned::Nobody),
@@ -133,12 +131,8 @@ fn push_before(
 }
 
 // One that moved, with what is told of before it.
-fn push_next(
-    causes: &mut Vec<Cause>,
-    turned: Turned,
-    moved: &Move,
-) -> Result<Turned, NoMemory>
-    ensures { IfOk result (λ rest. (ms : List Move) → causes.new.items ++ told rest ms ≡ causes.old.items ++ told turned (moved ∷ ms)) }
+fn push_next(causes: &mut Vec<Cause>, turned: Turned, moved: &Move) -> Result<Turned, NoMemory>
+    ensures { IfOk result (λ rest. (ms : List Move) → causes.new.items ++ told rest ms ≡ causes.old.items ++ told turned (moved.now ∷ ms)) }
 {
     let rest = push_before(causes, turned, moved)?;
     push_move(causes, moved)?;
@@ -245,6 +239,13 @@ fn more_is(begun: Result<i32, DeedFault>) -> Result<bool, NoMemory>
     }
 }
 
+// It is a connection of this player, and another than `d`.
+fn is_other_of(player: Dbref, d: u32, connection: &Connection) -> bool
+    ensures { result ≡ (is_connection_of player connection.now && not (is_connection d connection.now)) }
+{
+    connection.is_of(player) && connection.number() != d
+}
+
 impl State {
     /// Behind an event: what is hooked to who moved, to whose connections came or went, and to what was said. Where nobody moved, came, went or spoke, nothing is looked at.
     #[tactic(auto, unfolding(crate::specs::inner::Hooks::hooked_told))]
@@ -315,15 +316,21 @@ impl State {
         (player.0 as u32) < self.db.count()
     }
 
+    // Another connection than `d` is of this player.
+    fn has_other(&self, d: u32, player: Dbref) -> bool
+        ensures { result ≡ list_any (λ c. is_connection_of player c && not (is_connection d c)) self.now.live.board.connections }
+    {
+        self.board
+            .connections()
+            .iter()
+            .any(|c| is_other_of(player, d, c))
+    }
+
     // No other connection than `d` is of this player.
     fn is_alone(&self, d: u32, player: Dbref) -> bool
         ensures { result ≡ is_alone d player self.now.live }
     {
-        !self
-            .board
-            .connections()
-            .iter()
-            .any(|c| c.is_of(player) && c.number() != d)
+        !self.has_other(d, player)
     }
 
     /// Of which player the first connection came by a line of the connection `d`, whose player was this one before.

@@ -7,7 +7,7 @@ use Rattle.spec_events.specs.World.{World}
 use Rattle.spec_events.specs.Steps.{has_claim}
 use Rattle.spec_events.specs.Logged.{is_dump, events_of, NoNotes, NoCounts}
 use Rattle.spec_events.specs.Own.{Stage, next_stage, stage_of}
-use Rattle.muck_machine.specs.inner.Seats.{Sight, Chair, Rests, SameLists}
+use Rattle.muck_work.specs.inner.Seats.{Sight, Chair, Rests, SameLists}
 use Rattle.muck_work.specs.declared.jobs.Job.{Job}
 use Rattle.muck_work.specs.declared.jobs.Job.TheVariants.{Line, Claim as JobClaim, Idle as JobIdle, Died as JobDied}
 use Rattle.muck_work.specs.inner.Holds.{HasClaimed}

@@ -5,7 +5,7 @@ use Rattle.muck_model.specs.declared.event.Event.TheVariants.{StopSeen, Died}
 use Rattle.spec_events.specs.declared.logged.Logged.{Logged}
 use Rattle.spec_events.specs.Logged.{bare_item, events_of, NoNotes, NoCounts}
 use Rattle.spec_events.specs.Own.{IsWellFormed, IsPartyOver}
-use Rattle.muck_machine.specs.inner.Seats.{Chair, Rests, Left, SameLists}
+use Rattle.muck_work.specs.inner.Seats.{Chair, Rests, Left, SameLists}
 use Rattle.muck_worker.specs.declared.working.Why.{Why}
 use Rattle.muck_worker.specs.declared.working.Why.TheVariants.{Fine, NoMemory, Spent}
 

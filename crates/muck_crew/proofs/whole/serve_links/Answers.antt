@@ -1,7 +1,7 @@
 use Rattle.std.proofs.Common.{sym, subst, Option}
 use Rattle.muck_log.specs.Store.{LogState}
-use Rattle.muck_dumping.specs.inner.Between.{IsReady as HasLog}
-use Rattle.muck_dumping.proofs.Knowing.{knows_new}
+use Rattle.muck_dumper.specs.inner.Between.{IsReady as HasLog}
+use Rattle.muck_dumper.proofs.StoreKnowing.{knows_new}
 use Rattle.muck_crew.proofs.whole.serve_links.Goals as goal
 
 pub run-requires-clause-knows : goal.run-requires-clause-knows

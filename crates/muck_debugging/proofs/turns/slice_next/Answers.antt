@@ -2,9 +2,9 @@ use Rattle.std.proofs.Common.{◌≡◌, ℤ, cond, sym, ◌∙◌, ap, to_z, of
 use Rattle.std.specs.Prelude.{is_some}
 use Rattle.spec_events.specs.Steps.{has_claim, is_process_there}
 use Rattle.spec_events.specs.Histories.{now, entered, by_porter}
-use Rattle.muck_machine.specs.inner.Claims.{slice_event}
-use Rattle.muck_machine.specs.declared.world.Sliced.{Sliced}
-use Rattle.muck_machine.specs.declared.world.Sliced.TheVariants.{Ran, Lost}
+use Rattle.muck_script.specs.inner.Claims.{slice_event}
+use Rattle.muck_script.specs.declared.Sliced.{Sliced}
+use Rattle.muck_script.specs.declared.Sliced.TheVariants.{Ran, Lost}
 use Rattle.muck_script.proofs.Taking.{no_slice, may_slice, sliced}
 use Rattle.spec_views.specs.Views.{views_of}
 use Rattle.muck_debugging.proofs.Watched.{sees_as, sees_none, nothing_sliced, views_sliced}

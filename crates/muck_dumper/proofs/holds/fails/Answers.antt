@@ -4,7 +4,7 @@ use Rattle.muck_laws.proofs.Results.{on_ok}
 use Rattle.muck_log.specs.declared.fault.LogFault.TheVariants.{DiskFault}
 use Rattle.spec_events.specs.Own.{Stage}
 use Rattle.spec_dumps.specs.inner.Holding.{FailedLast}
-use Rattle.muck_machine.specs.inner.Seats.{Chair}
+use Rattle.muck_work.specs.inner.Seats.{Chair}
 use Rattle.muck_dumping.specs.inner.Between.{Knows, IsWritten}
 use Rattle.muck_dumper.specs.inner.Dumping.{history_seen}
 use Rattle.muck_dumper.proofs.Making.{watches_after, stops_after}

@@ -1,7 +1,7 @@
 use Rattle.std.proofs.Common.{◌≡◌, ℤ, to_z, of_z, w32, rules, ap, ◌∙◌}
 use Rattle.spec_events.specs.Steps.{has_claim}
 use Rattle.spec_events.specs.Histories.{now, entered, by_porter}
-use Rattle.muck_machine.specs.inner.Claims.{slice_event}
+use Rattle.muck_work.specs.inner.Claims.{slice_event}
 use Rattle.muck_porter.proofs.InRounds.{sliced_as, untimed_slice}
 use Rattle.muck_porter.proofs.deeds.slices.Goals as goal
 

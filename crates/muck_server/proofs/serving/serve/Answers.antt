@@ -1,5 +1,5 @@
 use Rattle.std.proofs.Common.{inr, refl, sym, ◌∙◌, Some}
-use Rattle.muck_porter.specs.inner.Kept.{account}
+use Rattle.muck_crew.specs.inner.Kept.{account}
 use Rattle.muck_server.proofs.Deaf.{same_sessions, told_port}
 use Rattle.muck_server.proofs.Called.{call_served, call_deaf}
 use Rattle.muck_server.proofs.serving.serve.Goals as goal

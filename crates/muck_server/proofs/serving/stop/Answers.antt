@@ -1,6 +1,6 @@
 use Rattle.std.proofs.Common.{Some}
 use Rattle.spec_talks.specs.Counts.{counts}
-use Rattle.muck_dumping.proofs.Knowing.{knows_new}
+use Rattle.muck_crew.proofs.StoreKnowing.{knows_new}
 use Rattle.muck_server.proofs.Called.{alive_then, may_then, keeps_then, dump_then}
 use Rattle.muck_server.proofs.serving.stop.Goals as goal
 

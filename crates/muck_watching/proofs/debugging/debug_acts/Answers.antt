@@ -1,7 +1,7 @@
 use Rattle.std.proofs.Common.{inr, refl, ap, Err}
 use Rattle.spec_dumps.proofs.Idle.{idle_quiet}
 use Rattle.spec_dumps.proofs.Quiet.{rests_quiet}
-use Rattle.muck_dumping.proofs.Knowing.{knows_new, knows_quiet}
+use Rattle.muck_run.proofs.Knowing.{knows_new, knows_quiet}
 use Rattle.muck_run.proofs.Called.{dump_may, not_write, either_since}
 use Rattle.muck_run.proofs.Closing.{halted_lives}
 use Rattle.muck_run.proofs.Noted.{noted_then, noted_quiet}

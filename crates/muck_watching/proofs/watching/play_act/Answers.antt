@@ -1,6 +1,6 @@
 use Rattle.std.proofs.Common.{None}
 use Rattle.spec_dumps.proofs.Idle.{idle_quiet}
-use Rattle.muck_dumping.proofs.Knowing.{knows_quiet}
+use Rattle.muck_run.proofs.Knowing.{knows_quiet}
 use Rattle.muck_run.proofs.Lining.{held_quiet}
 use Rattle.muck_run.proofs.Noted.{noted_quiet}
 use Rattle.muck_watching.proofs.Seeing.{act_seen, command_seen, opens_nothing}

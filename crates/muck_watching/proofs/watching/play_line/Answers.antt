@@ -3,7 +3,7 @@ use Rattle.spec_live.specs.Connections.{connections_most}
 use Rattle.muck_script.specs.Story.{turns_most}
 use Rattle.spec_dumps.proofs.Quiet.{rests_quiet}
 use Rattle.spec_dumps.proofs.Idle.{idle_quiet}
-use Rattle.muck_dumping.proofs.Knowing.{knows_quiet}
+use Rattle.muck_run.proofs.Knowing.{knows_quiet}
 use Rattle.muck_run.proofs.Lining.{held_quiet}
 use Rattle.muck_watching.proofs.Seeing.{plays_of, line_breaks_seen, line_breaks_dumping_seen, line_serves_seen}
 use Rattle.muck_run.proofs.Opening.{opens_plays, opens_if, turned_within, asked_within, served_within}

@@ -1,7 +1,7 @@
 use Rattle.std.proofs.Common.{◌≡◌, refl, sym, ◌∙◌, arith, Err, rules}
 use Rattle.spec_dumps.proofs.Quiet.{quiet_one}
 use Rattle.spec_dumps.proofs.Idle.{idle_quiet}
-use Rattle.muck_dumping.proofs.Knowing.{knows_quiet}
+use Rattle.muck_run.proofs.Knowing.{knows_quiet}
 use Rattle.muck_run.proofs.Lining.{held_resting, held_quiet}
 use Rattle.muck_run.proofs.Opening.{opens_more}
 use Rattle.muck_run.proofs.Noted.{noted_same, noted_one, noted_then}

@@ -1,7 +1,7 @@
 use Rattle.std.proofs.Common.{◌≡◌, ℕ, ◌≤◌, true, None, drop}
 use Rattle.spec_dumps.specs.inner.Holding.{Rests}
 use Rattle.spec_events.specs.Histories.{now}
-use Rattle.muck_dumping.specs.inner.Between.{Knows}
+use Rattle.muck_run.specs.inner.Between.{Knows}
 use Rattle.muck_run.specs.inner.Dumps.{IsNotedOn}
 use Rattle.muck_run.specs.inner.Opens.{Opens}
 use Rattle.muck_watching.proofs.Onward.{TowardsLines}

@@ -1,4 +1,4 @@
-use Rattle.std.proofs.Common.{◌≡◌, Err, inl, inr, refl, sym, ap, subst, ◌∙◌}
+use Rattle.std.proofs.Common.{Err, inl, inr, refl, ap, subst}
 use Rattle.muck_run.specs.inner.Dumps.{note_of}
 use Rattle.muck_run.specs.inner.Ends.{unbegun_at, IsMountWhy}
 use Rattle.muckd.proofs.Served.{fresh_begun, start_begun, ready_begun, refused_serves, server_ends, serve_done, disk_failed, not_damaged}

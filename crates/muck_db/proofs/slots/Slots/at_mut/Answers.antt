@@ -5,6 +5,7 @@ use Rattle.std.proofs.lemmas.Option.{slice_get_read}
 use Rattle.muck_db.specs.inner.Table.{Table}
 use Rattle.muck_db.proofs.Blocked.{written}
 use Rattle.muck_db.proofs.Moved.{noted_as}
+use Rattle.muck_db.proofs.Heard.{heard_written}
 use Rattle.muck_db.specs.declared.blocks.Block.{Block}
 use Rattle.muck_db.proofs.slots.Slots.at_mut.Goals as goal
 
@@ -13,6 +14,7 @@ invariant_of-self-lent c = λ w.
     let P : List Block → Type 0 = λ z. IsCovered (slice_set c.self.inside.table.items c.args.k w) z in (
       subst P (rw (c.put_block.ensures, c.full.ensures) refl) (written c.self.inside.table.items c.self.inside.blocks.items c.args.k w c.self.invariant.0),
       noted_as c.looked_at.result c.written-self-inside.result c.self.inside.table.items c.args.k w c.written-self-inside.ensures (c.looked_at.ensures c.self.invariant.1),
+      heard_written _ c.self.inside.table.items c.args.k w c.write.ensures.last c.write.ensures.heard,
     )
 
 pub returns : goal.returns

@@ -7,4 +7,4 @@ use Rattle.muck_db.proofs.slots.Slots.open_block.Goals as goal
 pub invariant_of-self : goal.invariant_of-self
 invariant_of-self c =
     let P : List Block → Type 0 = λ z. IsCovered c.self.inside.table.items z in
-    (subst P (sym (c.in_ok-push.ensures.items ∙ ap (λ (b : Block). c.self.inside.blocks.items ++ b ∷ []) c.full.ensures)) (opened c.self.inside.table.items c.self.inside.blocks.items c.self.invariant.0), c.self.invariant.1)
+    (subst P (sym (c.in_ok-push.ensures.items ∙ ap (λ (b : Block). c.self.inside.blocks.items ++ b ∷ []) c.full.ensures)) (opened c.self.inside.table.items c.self.inside.blocks.items c.self.invariant.0), c.self.invariant.1, c.self.invariant.2)

@@ -6,6 +6,7 @@ use Rattle.muck_db.specs.inner.Blocks.{IsCovered, full}
 use Rattle.muck_db.specs.inner.Moves.{AreNoted}
 use Rattle.muck_db.proofs.Blocked.{covered_by, pushed, flagged_full}
 use Rattle.muck_db.proofs.Moved.{kept_as, pushed_as}
+use Rattle.muck_db.proofs.Heard.{heard_same, heard_grown}
 use Rattle.muck_db.proofs.slots.Slots.push_open.Goals as goal
 
 pub invariant_of-self : goal.invariant_of-self
@@ -15,6 +16,7 @@ invariant_of-self c =
       covered_by _ _ (slice_set blocks (c.len.result / 16) full) _ (sym c.in_err-push.ensures.items) (sym (c.put_block.ensures ∙ ap (λ (b : Block). slice_set blocks (c.len.result / 16) b) c.full.ensures))
           (flagged_full c.self.inside.table.items blocks (c.len.result / 16) c.self.invariant.0),
       subst N (sym c.in_err-push.ensures.items) (kept_as c.looked_at.result c.written-self-inside.result c.self.inside.table.items _ c.written-self-inside.ensures (c.looked_at.ensures c.self.invariant.1)),
+      heard_same _ _ _ c.in_err-push.ensures.items c.write.ensures.heard,
     )
 
 pub invariant_of-self-2 : goal.invariant_of-self-2
@@ -27,4 +29,5 @@ invariant_of-self-2 c =
       covered_by _ _ (slice_set blocks (c.len.result / 16) full) _ (sym c.in_ok-push.ensures.items) (sym (c.put_block.ensures ∙ ap (λ (b : Block). slice_set blocks (c.len.result / 16) b) c.full.ensures))
           (subst P (sym many) (pushed table blocks c.args.slot c.self.invariant.0)),
       subst N (sym c.in_ok-push.ensures.items) (pushed_as c.looked_at.result c.written-self-inside.result table _ c.args.slot c.written-self-inside.ensures (c.len-2.ensures ∙ c.self.inside.table.ok.0) (c.looked_at.ensures c.self.invariant.1)),
+      heard_grown _ table _ _ c.args.slot c.in_ok-push.ensures.items c.write.ensures.last (c.len-3.ensures ∙ c.self.inside.table.ok.0) c.write.ensures.heard,
     )

@@ -52,7 +52,10 @@ returns-clause-ran c =
     sym (cond-true _ _ _ there)
 
 pub returns-then-not-has_process-clause-licensed : goal.returns-then-not-has_process-clause-licensed
-returns-then-not-has_process-clause-licensed c = told_licensed c.self.inside.past c.enter.new.self _ _ _ c.self.invariant c.self.view_is c.enter.ensures
+returns-then-not-has_process-clause-licensed c =
+    let back : to_z w32 (of_z w32 c.args.pid) ≡ c.args.pid = search rules in
+    subst (λ pid. EntryLicensed (record { party = c.args.party; event = Lost pid }) (now c.args.self.now) (now (history c.enter.new.self))) back
+    (told_licensed c.self.inside.past c.enter.new.self _ _ _ c.self.invariant c.self.view_is c.enter.ensures)
 
 pub returns-clause-licensed : goal.returns-clause-licensed
 returns-clause-licensed c =

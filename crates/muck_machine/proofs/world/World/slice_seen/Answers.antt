@@ -6,7 +6,7 @@ use Rattle.muf_debug.specs.Watching.{SeesAll}
 use Rattle.spec_events.specs.Steps.{is_lawful, is_process_there}
 use Rattle.spec_events.specs.Histories.{now, EntryLicensed}
 use Rattle.spec_events.proofs.Claims.{slice_lawful}
-use Rattle.spec_views.specs.Views.{views_of}
+use Rattle.muck_turns.specs.Views.{views_of}
 use Rattle.muck_machine.specs.inner.Keeping.{history}
 use Rattle.muck_machine.proofs.Keepings.{keeps_concluded, told_seen, still_seen}
 use Rattle.muck_machine.proofs.Licences.{told_licensed}

@@ -32,6 +32,6 @@ pub returns-in-Some-clause-said : goal.returns-in-Some-clause-said
 returns-in-Some-clause-said c =
     if_ok_as c.bring.result _ _
     (λ said k.
-        let P : World → Type 0 = λ w. said_of said ≡ spoken c.args.d (connection c.args.d w) w in
-        subst P c.self.view_is (k ∙ line_said c.args.d (state.the_view c.self.inside) c.take_line.new.self c.in-Some.player c.in-Some.line c.in-Some.ensures))
+    let P : World → Type 0 = λ w. said_of said ≡ spoken c.args.d (connection c.args.d w) w in
+    subst P c.self.view_is (k ∙ line_said c.args.d (state.the_view c.self.inside) c.take_line.new.self c.in-Some.player c.in-Some.line c.in-Some.ensures))
     c.bring.ensures.said

@@ -18,6 +18,6 @@ pub returns-in-None-clause-said : goal.returns-in-None-clause-said
 returns-in-None-clause-said c =
     if_ok_as c.in_world.result _ _
     (λ said k.
-        let P : World → Type 0 = λ v. said_of said ≡ line_spoken None (Some c.args.player) (editor_in c.args.d v.live.board) c.args.d c.args.line.now v in
-        subst P c.self.view_is (k ∙ unedited_said c.args.d c.args.player c.args.line.now (state.the_view c.self.inside) c.take_editor.new.self c.in-None.ensures.editor c.in-None.ensures.rest))
+    let P : World → Type 0 = λ v. said_of said ≡ line_spoken None (Some c.args.player) (editor_in c.args.d v.live.board) c.args.d c.args.line.now v in
+    subst P c.self.view_is (k ∙ unedited_said c.args.d c.args.player c.args.line.now (state.the_view c.self.inside) c.take_editor.new.self c.in-None.ensures.editor c.in-None.ensures.rest))
     c.in_world.ensures.said

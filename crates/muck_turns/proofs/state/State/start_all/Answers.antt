@@ -1,6 +1,6 @@
 use Rattle.std.proofs.Common.{refl, sym, ◌∙◌}
 use Rattle.muck_turns.proofs.Hooks.{start_next, start_stop, start_end}
-use Rattle.muck_turns.proofs.state.hook.State.start_all.Goals as goal
+use Rattle.muck_turns.proofs.state.State.start_all.Goals as goal
 
 pub loop-call-init : goal.loop-call-init
 loop-call-init c = refl

@@ -1,6 +1,6 @@
 use Rattle.std.proofs.Common.{◌≡◌, drop}
 use Rattle.spec_events.specs.Hooked.{started_all}
-use Rattle.muck_turns.proofs.state.hook.State.start_all.Given as goal
+use Rattle.muck_turns.proofs.state.State.start_all.Given as goal
 
 -- what starts the rest from here starts all from the start
 abbrev pub invariant-loop-call : goal.invariant-loop-call
