@@ -26,6 +26,7 @@ ghost use Rattle.muck_db.specs.inner.Limits.{FitsLimits, IsWithinLimits};
 ghost use Rattle.muck_db.specs.inner.Settings.{MaySet, with_setting};
 ghost use Rattle.muck_db.specs.inner.Shown.{is_there, after_in, first_in, next_in, Knows};
 ghost use Rattle.muck_model.specs.Bytes.{lines_most};
+ghost use Rattle.muck_prop.specs.Store.{IsSpellable};
 
 use crate::chain::Chain;
 use crate::creation::{check_create, new_object, put_object};

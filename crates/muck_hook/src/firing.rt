@@ -41,13 +41,14 @@ fn argument(alloc: Global, cause: &Cause) -> Result<Line, NoMemory>
     }
 }
 
-// The program that a value names: `#N`.
+// The program that a value names: the text `#N`, or the number itself.
 fn named_program(value: &PropValue) -> Option<Dbref>
     ensures { result ≡ named_program value.now }
 {
     match value {
         PropValue::Text(text) => Dbref::read(text.as_slice()),
-        PropValue::Number(_) | PropValue::Ref(_) | PropValue::Key(_) => None,
+        PropValue::Ref(d) => Some(*d),
+        PropValue::Number(_) | PropValue::Key(_) => None,
     }
 }
 

@@ -61,11 +61,11 @@ values_among dir es = filter_map (λ e. if is_below dir e.0 && length e.0 == len
 abbrev pub values_in : List (List ℕ) → PropMap → List PropValue
 values_in dir props = values_among dir (entries props)
 
--- the program that a value names: `#N`
+-- the program that a value names: the text `#N`, or the number itself
 abbrev pub named_program : PropValue → Option Dbref
 named_program (Text text) = dbref_written text
 named_program (Number n) = None
-named_program (Ref d) = None
+named_program (Ref d) = Some d
 named_program (Key lock) = None
 
 -- What an object names fires where it is a program with a level, and has flag L or the owner of that object.

@@ -9,7 +9,7 @@ use Rattle.muck_model.specs.declared.dbref.Kind.TheVariants.{Room, Program, Play
 use Rattle.muck_model.specs.Decimal.{decimal_of}
 use Rattle.muck_model.specs.Numbers.{dbref_written as number_named}
 use Rattle.muck_prop.specs.declared.value.PropValue.{PropValue}
-use Rattle.muck_prop.specs.declared.value.PropValue.TheVariants.{Text}
+use Rattle.muck_prop.specs.declared.value.PropValue.TheVariants.{Text, Ref}
 use Rattle.muck_prop.specs.Order.{path_cmp}
 use Rattle.muck_prop.specs.Store.{PropMap}
 use Rattle.spec_live.specs.declared.object.Object.{Object}
@@ -47,8 +47,9 @@ zero_hooks =
 abbrev pub den_hooks : Hooks
 den_hooks = hook (codes "_arrive") (codes "a") (codes "#99") ∷ hook (codes "_arrive") (codes "b") (codes "#4") ∷ hook (codes "_arrive") (codes "c") (codes "#3") ∷ hook (codes "_listen") (codes "x") (codes "#3") ∷ []
 
+-- one of them is the number itself, and no text
 abbrev pub one_hooks : Hooks
-one_hooks = hook (codes "_connect") (codes "in") (codes "#3") ∷ hook (codes "_disconnect") (codes "out") (codes "#3") ∷ hook (codes "_listen") (codes "x") (codes "#3") ∷ []
+one_hooks = hook (codes "_connect") (codes "in") (codes "#3") ∷ (codes "_disconnect" ∷ codes "out" ∷ [], Ref (dbref_of 3)) ∷ hook (codes "_listen") (codes "x") (codes "#3") ∷ []
 
 abbrev pub props_of : Hooks → PropMap
 props_of hooks = from_sorted hooks
@@ -118,6 +119,7 @@ WorkedRows =
     × (firing (scene 2) moved_in ≡ fire 3 2 (codes "Arrive") ∷ fire 3 0 (codes "Arrive") ∷ [])
     × (firing (scene 2) moved_out ≡ fire 3 0 (codes "Depart") ∷ [])
     × (firing (scene 0) (Connect one) ≡ fire 3 1 (codes "Connect") ∷ [])
+    × (firing (scene 0) (Disconnect one) ≡ fire 3 1 (codes "Disconnect") ∷ [])
     -- what is said is heard twice by Room Zero, and by the Den in it, but by no player
     × (firing (scene 0) spoke ≡ fire 3 0 hi ∷ fire 3 0 hi ∷ fire 3 2 hi ∷ [])
 
@@ -165,6 +167,10 @@ connect_fires : firing (scene 0) (Connect one) ≡ fire 3 1 (codes "Connect") �
 unfolding firing listed_in places_of walk object_at number_in kind_in object_in place_in list_in room_zero player_one level_at owner_at flag_at is_player_at effective number_named decimal_of
 connect_fires = ap (λ fs. fs ++ (fired_by (scene 0) (Connect one) (dbref_of 0) ++ [])) (one_fires 0 (Connect one)) ∙ ap (λ fs. by_hooks (scene 0) (Connect one) 1 one_hooks ++ (fs ++ [])) (zero_fires 0 (Connect one))
 
+disconnect_fires : firing (scene 0) (Disconnect one) ≡ fire 3 1 (codes "Disconnect") ∷ []
+unfolding firing listed_in places_of walk object_at number_in kind_in object_in place_in list_in room_zero player_one level_at owner_at flag_at is_player_at effective number_named decimal_of
+disconnect_fires = ap (λ fs. fs ++ (fired_by (scene 0) (Disconnect one) (dbref_of 0) ++ [])) (one_fires 0 (Disconnect one)) ∙ ap (λ fs. by_hooks (scene 0) (Disconnect one) 1 one_hooks ++ (fs ++ [])) (zero_fires 0 (Disconnect one))
+
 heard_fires : firing (scene 0) spoke ≡ fire 3 0 hi ∷ fire 3 0 hi ∷ fire 3 2 hi ∷ []
 unfolding firing listed_in places_of walk object_at number_in kind_in object_in place_in list_in room_zero player_one level_at owner_at flag_at is_player_at effective number_named decimal_of
 heard_fires = ap (λ fs. fs ++ (fired_by (scene 0) spoke (dbref_of 2) ++ [])) (zero_fires 0 spoke) ∙ ap (λ fs. by_hooks (scene 0) spoke 0 zero_hooks ++ (fs ++ [])) (den_fires 0 spoke)
@@ -183,5 +189,6 @@ worked_rows = (
   in_fires,
   out_fires,
   connect_fires,
+  disconnect_fires,
   heard_fires,
 )
