@@ -25,8 +25,8 @@ use Rattle.muck_codec.proofs.Fields.{dbref_with, dbref_codes, text_codes}
 -- bytes that are too many for a text are none
 pub long_differs : (a b : List ℕ) → text_most < length a → length b ≤ text_most → bytes_eq a b ≡ false
 long_differs a b over short = elim (cases_Bool (bytes_eq a b)) [
-  | inl yes ↦ absurd (omega (arith, over, short, ap length (same_bytes a b yes)))
-  | inr no ↦ no
+  | inl equal ↦ absurd (omega (arith, over, short, ap length (same_bytes a b equal)))
+  | inr differs ↦ differs
 ]
 
 -- what was taken behind a tag: a value of that kind, as it is written
