@@ -257,7 +257,7 @@ fn key_at(alloc: Global, most: u16, bytes: &[u8]) -> Result<(PropValue, &[u8]), 
 {
     let (text, rest) = text_at(alloc, 1, most, bytes)?;
     match spelled_lock(alloc, &text)? {
-        Some(lock) => Ok((PropValue::Key(lock), rest)),
+        Some(lock) => Ok((PropValue::of_lock(alloc, lock)?, rest)),
         None => Err(Unread::Left(1 + rest.len())),
     }
 }

@@ -76,7 +76,7 @@ fn put_value(alloc: Global, out: &mut Vec<u8>, value: &PropValue) -> Result<(), 
         }
         PropValue::Key(lock) => {
             out.push(3)?;
-            put_lock(alloc, out, lock)
+            put_lock(alloc, out, lock.get())
         }
     }
 }

@@ -64,7 +64,7 @@ pub fn value_text(alloc: Global, value: &PropValue) -> Result<Line, NoMemory>
         PropValue::Text(text) => text.copy(alloc),
         PropValue::Number(number) => number_line(alloc, *number),
         PropValue::Ref(d) => object_line(alloc, *d),
-        PropValue::Key(lock) => lock_line(alloc, lock),
+        PropValue::Key(lock) => lock_line(alloc, lock.get()),
     }
 }
 

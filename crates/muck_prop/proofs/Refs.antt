@@ -59,7 +59,7 @@ any_apart d f (e ∷ es) h =
     whether (is_ref d e.1) (f ≡ d → ⊥)
     (λ is. any_apart d f es (sym (ap (λ b. any_ref f (cond (not b) (e ∷ filter (λ e. not (is_ref d e.1)) es) (filter (λ e. not (is_ref d e.1)) es))) is) ∙ h))
     (λ isnt. either_so (is_ref f e.1) (any_ref f (filter (λ e. not (is_ref d e.1)) es)) (f ≡ d → ⊥) (λ q. one_ref d f e.1 q isnt) (λ q. any_apart d f es q)
-      (sym (ap (λ b. any_ref f (cond (not b) (e ∷ filter (λ e. not (is_ref d e.1)) es) (filter (λ e. not (is_ref d e.1)) es))) isnt) ∙ h))
+    (sym (ap (λ b. any_ref f (cond (not b) (e ∷ filter (λ e. not (is_ref d e.1)) es) (filter (λ e. not (is_ref d e.1)) es))) isnt) ∙ h))
 
 none_filtered : (d : Dbref) (es : Kept) → any_ref d es ≡ false → filter (λ e. not (is_ref d e.1)) es ≡ es
 none_filtered d [] h = refl
@@ -198,11 +198,11 @@ found_left d q (x ∷ es) sorted =
     let more = found_left d q es parts.1 in
     whether (is_ref d x.1) (IsForgotten d (find path_cmp q (x ∷ es)) (find path_cmp q (cond (not (is_ref d x.1)) (x ∷ filter (λ e. not (is_ref d e.1)) es) (filter (λ e. not (is_ref d e.1)) es))))
     (λ is. subst (λ b. IsForgotten d (find path_cmp q (x ∷ es)) (find path_cmp q (cond (not b) (x ∷ filter (λ e. not (is_ref d e.1)) es) (filter (λ e. not (is_ref d e.1)) es)))) (sym is)
-      (whether (eq_by_cmp path_cmp q x.0) (IsForgotten d (find path_cmp q (x ∷ es)) (find path_cmp q (filter (λ e. not (is_ref d e.1)) es)))
-      (λ t. inr (none_left more (past_none q x.0 es t parts.0), (x.1, (ap (λ b. cond b (Some x.1) (find path_cmp q es)) t, is))))
-      (λ f. subst (λ o. IsForgotten d o (find path_cmp q (filter (λ e. not (is_ref d e.1)) es))) (sym (ap (λ b. cond b (Some x.1) (find path_cmp q es)) f)) more)))
+    (whether (eq_by_cmp path_cmp q x.0) (IsForgotten d (find path_cmp q (x ∷ es)) (find path_cmp q (filter (λ e. not (is_ref d e.1)) es)))
+    (λ t. inr (none_left more (past_none q x.0 es t parts.0), (x.1, (ap (λ b. cond b (Some x.1) (find path_cmp q es)) t, is))))
+    (λ f. subst (λ o. IsForgotten d o (find path_cmp q (filter (λ e. not (is_ref d e.1)) es))) (sym (ap (λ b. cond b (Some x.1) (find path_cmp q es)) f)) more)))
     (λ isnt. subst (λ b. IsForgotten d (find path_cmp q (x ∷ es)) (find path_cmp q (cond (not b) (x ∷ filter (λ e. not (is_ref d e.1)) es) (filter (λ e. not (is_ref d e.1)) es)))) (sym isnt)
-      (elim (eq_by_cmp path_cmp q x.0) as (λ b. IsForgotten d (cond b (Some x.1) (find path_cmp q es)) (cond b (Some x.1) (find path_cmp q (filter (λ e. not (is_ref d e.1)) es)))) [ true ↦ inl refl | false ↦ more ]))
+    (elim (eq_by_cmp path_cmp q x.0) as (λ b. IsForgotten d (cond b (Some x.1) (find path_cmp q es)) (cond b (Some x.1) (find path_cmp q (filter (λ e. not (is_ref d e.1)) es)))) [ true ↦ inl refl | false ↦ more ]))
   where
     none_left : {old new : Option PropValue} → IsForgotten d old new → old ≡ None → new ≡ None
     none_left (inl e) none = e ∙ none

@@ -1,24 +1,32 @@
 // What a property holds.
 ghost use Rattle.std.specs.Prelude.{◌≡◌, ◌↔◌, IfOk, true};
 ghost use Rattle.std.specs.Option.{option_copied};
+ghost use Rattle.muck_prop.specs.declared.value.PropValue.TheVariants.{Key};
 ghost use Rattle.muck_prop.specs.Store.{is_nothing, kept_text, kept_number, kept_ref, kept_key, is_ref};
 
-use muck_model::{Dbref, Line, Lock, NoMemory};
+use muck_model::{Boxed, Dbref, Line, Lock, NoMemory};
 use std::alloc::Global;
 use std::marker::Model;
 
 const NOTHING: Dbref = Dbref(-1);
 
-/// What a property holds: a text, an integer, the number of an object, or a lock.
+/// What a property holds: a text, an integer, the number of an object, or a lock. A lock stands in a box, so that a value isn't larger than a text wants; contracts see it as the lock itself.
 #[derive(Drop)]
 pub enum PropValue {
     Text(Line),
     Number(i32),
     Ref(Dbref),
-    Key(Lock),
+    Key(Boxed<Lock>),
 }
 
 impl PropValue {
+    /// A lock as a value.
+    pub fn of_lock(alloc: Global, lock: Lock) -> Result<PropValue, NoMemory>
+        ensures { IfOk result (λ value. value ≡ Key lock) }
+    {
+        Ok(PropValue::Key(Boxed::new(alloc, lock)?))
+    }
+
     // Whether it is an empty text, 0, `#-1` or the free lock, which no property holds.
     pub(crate) fn is_nothing(&self) -> bool
         ensures { result ≡ is_nothing self.now }
@@ -27,7 +35,7 @@ impl PropValue {
             PropValue::Text(text) => text.as_slice().is_empty(),
             PropValue::Number(number) => *number == 0,
             PropValue::Ref(d) => *d == NOTHING,
-            PropValue::Key(lock) => lock.is_free(),
+            PropValue::Key(lock) => lock.get().is_free(),
         }
     }
 
@@ -66,7 +74,7 @@ impl PropValue {
         ensures { option_copied result ≡ kept_key self.now }
     {
         match self {
-            PropValue::Key(lock) => Some(lock),
+            PropValue::Key(lock) => Some(lock.get()),
             PropValue::Text(_) | PropValue::Number(_) | PropValue::Ref(_) => None,
         }
     }
@@ -89,7 +97,7 @@ impl PropValue {
             (PropValue::Text(a), PropValue::Text(b)) => a == b,
             (PropValue::Number(a), PropValue::Number(b)) => a == b,
             (PropValue::Ref(a), PropValue::Ref(b)) => a == b,
-            (PropValue::Key(a), PropValue::Key(b)) => a.is_same(b),
+            (PropValue::Key(a), PropValue::Key(b)) => a.get().is_same(b.get()),
             _ => false,
         }
     }
@@ -102,7 +110,7 @@ impl PropValue {
             PropValue::Text(text) => Ok(PropValue::Text(text.copy(alloc)?)),
             PropValue::Number(number) => Ok(PropValue::Number(*number)),
             PropValue::Ref(d) => Ok(PropValue::Ref(*d)),
-            PropValue::Key(lock) => Ok(PropValue::Key(lock.copy(alloc)?)),
+            PropValue::Key(lock) => PropValue::of_lock(alloc, lock.get().copy(alloc)?),
         }
     }
 }

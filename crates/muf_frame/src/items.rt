@@ -2,11 +2,11 @@
 ghost use Rattle.std.specs.Prelude.{◌≡◌, option_map, option_copied};
 ghost use Rattle.muf_model.specs.inner.View.{view};
 ghost use Rattle.muf_frame.specs.inner.Shown.{Shown, flat};
-ghost use Rattle.muf_frame.specs.inner.Answers.{as_int, as_object, as_text, int_at, object_at, text_at};
+ghost use Rattle.muf_frame.specs.inner.Answers.{as_int, as_lock, as_object, as_text, int_at, lock_at, object_at, text_at};
 
 use crate::Frame;
 use muck_model::Dbref;
-use muf_model::{Text, Value};
+use muf_model::{SharedLock, Text, Value};
 
 // The integer that a value is.
 #[inline(always)]
@@ -35,6 +35,16 @@ fn as_text(value: &Value) -> Option<&Text>
 {
     match value {
         Value::Str(text) => Some(text),
+        _ => None,
+    }
+}
+
+// The lock that a value is.
+fn as_lock(value: &Value) -> Option<&SharedLock>
+    ensures { option_copied result ≡ as_lock (view value.now) }
+{
+    match value {
+        Value::Key(lock) => Some(lock),
         _ => None,
     }
 }
@@ -69,6 +79,17 @@ impl Frame {
     {
         match self.peek(depth) {
             Some(value) => as_text(value),
+            None => None,
+        }
+    }
+
+    /// The lock at this depth below the top; `None` exactly where another item or none is there.
+    #[tactic(auto, using(crate::proofs::Data::list_steps))]
+    pub fn lock_at(&self, depth: usize) -> Option<&SharedLock>
+        ensures { option_copied result ≡ lock_at depth (flat self.now).stack }
+    {
+        match self.peek(depth) {
+            Some(value) => as_lock(value),
             None => None,
         }
     }

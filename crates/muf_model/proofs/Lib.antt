@@ -1,5 +1,6 @@
 mod Entries
 pub mod Decoded
+pub mod Locks
 pub mod FaultTexts
 pub mod Standing
 pub mod Nesting

@@ -1,5 +1,6 @@
 pub mod inner
 pub mod Needs
+pub mod Locks
 pub mod Prims
 pub mod Faults
 pub mod Tree

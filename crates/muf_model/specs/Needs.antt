@@ -1,7 +1,7 @@
 -- What primitives need on the stack.
 use Rattle.std.specs.Prelude.{ℕ, true, false, List, Option, Some, None, option_map}
 use Rattle.muf_model.specs.declared.needs.Want.{Want}
-use Rattle.muf_model.specs.declared.needs.Want.TheVariants.{Anything, Int, Text, Object, Variable, Address, Lock, List as ListKind, Collection, Key, IntOrObject, Numbered}
+use Rattle.muf_model.specs.declared.needs.Want.TheVariants.{Anything, Int, Text, Object, Variable, Address, Lock, List as ListKind, Collection, Key, Storable, IntOrObject, Numbered}
 use Rattle.muf_model.specs.declared.needs.Need.{Need}
 use Rattle.muf_model.specs.declared.needs.Many.{Many as ManyKept}
 use Rattle.muf_model.specs.declared.needs.Needs.{Needs as NeedsKept}
@@ -61,6 +61,10 @@ a_collection = of_kind Collection
 -- an integer or a text
 abbrev pub a_key : Need
 a_key = of_kind Key
+
+-- what a property holds: an integer, a text, an object or a lock
+abbrev pub a_storable : Need
+a_storable = of_kind Storable
 
 abbrev pub int_or_object : Need
 int_or_object = of_kind IntOrObject

@@ -5,7 +5,7 @@ use Rattle.muf_model.specs.declared.prims.Primitive.{Primitive}
 use Rattle.muf_model.specs.declared.prims.Primitive.TheVariants.{Pop, Dup, DupTrue, Swap, Over, Rot, Rotate, Pick, Put, Nip, Tuck, DupN, LDup, PopN, Reverse, Depth, OpenMark, CloseMark, Fetch, Store, IsInt, IsString, IsDbref, IsArray, IsDictionary, IsAddress, IsLock, Execute, Abort, Add, Subtract, Multiply, Divide, Modulo, Increment, Decrement, Abs, Sign, BitOr, BitAnd, BitXor, BitShift, Equal, Unequal, Less, Greater, LessEqual, GreaterEqual, Not, And, Or, Xor, ToInt, ToDbref, DbCmp, StrCat, StrCmp, StringCmp, StrNCmp, StrLen, StrCut, MidStr, InStr, RInStr, InString, RInString, Explode, Split, RSplit, Subst, ToUpper, ToLower, StripLead, StripTail, AToI, IntToStr, CharToInt, IntToChar, ArrayMake, ArrayMakeDict, ArrayCount, ArrayGetItem, ArraySetItem, ArrayInsertItem, ArrayAppendItem, ArrayDelItem, ArrayFirst, ArrayNext, ArrayKeys, ArrayVals, ArrayExplode, ArrayJoin, Name, Owner, Location, Contents, Exits, Next, IsOk, IsPlayer, IsThing, IsRoom, IsExit, IsProgram, Match, PMatch, MoveTo, SetName, Set, HasFlag, MLevel, GetLink, SetLink, NewRoom, NewObject, NewExit, Recycle, SetOwn, Controls, GetLockStr, SetLockStr, ParseLock, UnparseLock, TestLock, UnparseObj, DbTop, GetProp, GetPropStr, GetPropVal, SetProp, AddProp, RemoveProp, NextProp, IsPropDir, EnvProp, EnvPropStr, ParseMpi, Notify, NotifyExclude, IsAwake, Online, ConCount, ConDbref, Descriptors, Descr, ConBoot, Call, Fork, Sleep, Read, Kill, Pid, IsPid, Queue, Mode, SetMode, Preempt, Foreground, Background, SysTime, Random, EventSend, EventWait, EventCount, Prog, Trig, Caller, Cmd}
 use Rattle.muf_model.specs.declared.prims.Family.{Family}
 use Rattle.muf_model.specs.declared.prims.Row.{Row as Kept}
-use Rattle.muf_model.specs.Needs.{Needs, takes_items, counts, counts_at, anything, an_int, a_text, an_object, a_variable, an_address, a_lock, a_list, a_collection, a_key, a_near_one, one_there, int_or_object, a_number, shown_needs}
+use Rattle.muf_model.specs.Needs.{Needs, takes_items, counts, counts_at, anything, an_int, a_text, an_object, a_variable, an_address, a_lock, a_list, a_collection, a_key, a_storable, a_near_one, one_there, int_or_object, a_number, shown_needs}
 use Rattle.muf_model.specs.declared.prims.Family.TheVariants as kind
 
 -- What is so of a primitive: its name in capitals, the level that a program needs to use it, what it works on, and what it
@@ -150,7 +150,7 @@ row_of_primitive DbTop = primitive_row (codes "DBTOP") 1 kind.Object (takes_item
 row_of_primitive GetProp = primitive_row (codes "GETPROP") 1 kind.Property (takes_items (a_text ∷ a_near_one ∷ []))
 row_of_primitive GetPropStr = primitive_row (codes "GETPROPSTR") 1 kind.Property (takes_items (a_text ∷ a_near_one ∷ []))
 row_of_primitive GetPropVal = primitive_row (codes "GETPROPVAL") 1 kind.Property (takes_items (a_text ∷ a_near_one ∷ []))
-row_of_primitive SetProp = primitive_row (codes "SETPROP") 1 kind.Property (takes_items (a_key ∷ a_text ∷ a_near_one ∷ []))
+row_of_primitive SetProp = primitive_row (codes "SETPROP") 1 kind.Property (takes_items (a_storable ∷ a_text ∷ a_near_one ∷ []))
 row_of_primitive AddProp = primitive_row (codes "ADDPROP") 1 kind.Property (takes_items (an_int ∷ a_text ∷ a_text ∷ a_near_one ∷ []))
 row_of_primitive RemoveProp = primitive_row (codes "REMOVE_PROP") 1 kind.Property (takes_items (a_text ∷ a_near_one ∷ []))
 row_of_primitive NextProp = primitive_row (codes "NEXTPROP") 1 kind.Property (takes_items (a_text ∷ a_near_one ∷ []))

@@ -20,6 +20,8 @@ pub enum Want {
     Collection,
     /// An integer or a text.
     Key,
+    /// What a property holds: an integer, a text, an object or a lock.
+    Storable,
     /// An integer or an object.
     IntOrObject,
     /// What is or has a number: an integer, an object or a variable.
@@ -42,6 +44,10 @@ impl Want {
             Want::List => kind == ItemKind::List,
             Want::Collection => kind == ItemKind::List || kind == ItemKind::Dictionary,
             Want::Key => kind == ItemKind::Int || kind == ItemKind::Text,
+            Want::Storable => matches!(
+                kind,
+                ItemKind::Int | ItemKind::Text | ItemKind::Object | ItemKind::Lock
+            ),
             Want::IntOrObject => kind == ItemKind::Int || kind == ItemKind::Object,
             Want::Numbered => matches!(kind, ItemKind::Int | ItemKind::Object | ItemKind::Variable),
         }
@@ -111,6 +117,8 @@ const LIST: Need = need!(List);
 const COLLECTION: Need = need!(Collection);
 
 const KEY: Need = need!(Key);
+
+const STORABLE: Need = need!(Storable);
 
 const EITHER: Need = need!(IntOrObject);
 
@@ -190,7 +198,7 @@ pub(crate) static TEXT_FOR_ONE_NEAR: Option<Needs> = takes!(TEXT, NEAR);
 
 pub(crate) static TEXT_BUT_FOR_COUNTED: Option<Needs> = takes!(1: TEXT, INT; THERE; NEAR);
 
-pub(crate) static KEY_AND_TEXT_FOR_ONE_NEAR: Option<Needs> = takes!(KEY, TEXT, NEAR);
+pub(crate) static STORABLE_AND_TEXT_FOR_ONE_NEAR: Option<Needs> = takes!(STORABLE, TEXT, NEAR);
 
 pub(crate) static INT_AND_TEXTS_FOR_ONE_NEAR: Option<Needs> = takes!(INT, TEXT, TEXT, NEAR);
 

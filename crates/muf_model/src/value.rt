@@ -4,7 +4,7 @@ ghost use Rattle.muf_model.specs.inner.View.{view};
 ghost use Rattle.muf_model.specs.Measures.{is_true_item, key_below};
 ghost use Rattle.muf_model.specs.StackRows.{truth_item};
 
-use crate::{Shared, Size, Text, VarId};
+use crate::{SharedLock, Size, Text, VarId};
 use muck_model::{Dbref, Lock, NoMemory};
 use std::marker::Model;
 use std::sync::Arc;
@@ -18,7 +18,7 @@ pub enum Value {
     Ref(Dbref),
     Var(VarId),
     Addr { program: Dbref, word: u32 },
-    Key(Shared<Lock>),
+    Key(SharedLock),
     Items(Arc<ValueList>),
     Dict(Arc<ValueMap>),
     Mark,

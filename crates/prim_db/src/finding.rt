@@ -19,7 +19,7 @@ use muck_match::Found;
 use muck_model::{Dbref, Kind, Lock};
 use muck_perm::{Guard, controls_as, flag_at, level_at, owner_at};
 use muf_frame::{Frame, PrimFault};
-use muf_model::{MufFault, Prim, Shared, Text, Value};
+use muf_model::{MufFault, Prim, SharedLock, Text, Value};
 
 const NOTHING: Dbref = Dbref(-1);
 
@@ -153,7 +153,7 @@ fn parsed(guard: &Guard, frame: &Frame) -> Result<Value, PrimFault>
         return Err(PrimFault::Fault(MufFault::BadType));
     };
     match read_key(guard, text.as_line()) {
-        Ok(lock) => Ok(Value::Key(Shared::new(guard.alloc(), lock)?)),
+        Ok(lock) => Ok(Value::Key(SharedLock::new(guard.alloc(), lock)?)),
         Err(LockFault::BadLock { .. }) => Err(PrimFault::Fault(MufFault::BadArgument)),
         Err(LockFault::NoMemory) => Err(PrimFault::NoMemory),
     }

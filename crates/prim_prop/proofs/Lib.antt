@@ -1,4 +1,5 @@
 pub mod Taken
+pub mod Locks
 pub mod Steps
 pub mod Missing
 pub mod Behind

@@ -18,6 +18,7 @@ use Rattle.spec_rights.specs.declared.act.Act.TheVariants.{Read, Write}
 use Rattle.spec_rights.specs.Verdict.{verdict}
 use Rattle.spec_rights.specs.Changing.{property_stored, unstored}
 use Rattle.muf_model.specs.declared.fault.MufFault.{MufFault}
+use Rattle.muf_model.specs.declared.fault.MufFault.TheVariants.{TextTooLong}
 use Rattle.muf_model.specs.Datum.{Datum, text}
 use Rattle.muf_frame.specs.declared.fault.PrimFault.{PrimFault}
 use Rattle.muf_frame.specs.declared.fault.PrimFault.TheVariants.{Fault, NoMemory}
@@ -31,7 +32,7 @@ use Rattle.prim_common.specs.declared.made.Made.{Made}
 use Rattle.prim_common.specs.declared.made.Made.TheVariants.{Nothing}
 use Rattle.prim_common.specs.inner.Applied.{Makes, items_of}
 use Rattle.prim_common.proofs.Applying.{wants}
-use Rattle.prim_prop.specs.inner.Asked.{IsWritten, named_in}
+use Rattle.prim_prop.specs.inner.Asked.{IsWritten, named_in, long_put_at}
 use Rattle.prim_prop.specs.declared.walking.Start.{Start}
 use Rattle.prim_prop.specs.inner.Walks.{Starts, begun}
 use Rattle.prim_prop.proofs.Taken.{looked_at, sought_at, walked_at, removed_at}
@@ -75,6 +76,12 @@ pub put_row : (a : Actor) (w : Live) (d : ℤ) (t : List ℕ) (v : PropValue) (p
     property_put_at a t d v w ≡ row_unless (fault_of_denial (verdict w.objects a (Write (object_numbered d) path))) (gives [] (property_stored (object_numbered d) path v w))
 put_row a w d t v path fine is =
     past_path t _ fine ∙ ap (λ (p : List (List ℕ)). row_unless (fault_of_denial (verdict w.objects a (Write (object_numbered d) p))) (gives [] (property_stored (object_numbered d) p v w))) (sym is)
+
+-- a lock of which what is written is longer than a text
+pub long_row : (a : Actor) (w : Live) (d : ℤ) (t : List ℕ) (path : List (List ℕ)) → path_fault t ≡ None → path ≡ segments_of t →
+    long_put_at a t d w ≡ row_unless (fault_of_denial (verdict w.objects a (Write (object_numbered d) path))) (refuses TextTooLong)
+long_row a w d t path fine is =
+    past_path t _ fine ∙ ap (λ (p : List (List ℕ)). row_unless (fault_of_denial (verdict w.objects a (Write (object_numbered d) p))) (refuses TextTooLong)) (sym is)
 
 pub remove_row : (a : Actor) (stack : List Datum) (w : Live) (d : ℤ) (t : List ℕ) (path : List (List ℕ)) → named_in stack ≡ Some (d, t) → path_fault t ≡ None → path ≡ segments_of t →
     removed a (take 2 stack) w ≡ row_unless (fault_of_denial (verdict w.objects a (Write (object_numbered d) path))) (gives [] (unstored (object_numbered d) path w))

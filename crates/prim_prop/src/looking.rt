@@ -1,8 +1,9 @@
 // GETPROP, GETPROPSTR, GETPROPVAL and PROPDIR?: what an object has at a path.
-ghost use Rattle.std.specs.Prelude.{◌≡◌, IfOk, take, false};
+ghost use Rattle.std.specs.Prelude.{◌≡◌, IfOk, IfSome, Some, take, false};
 ghost use Rattle.std.specs.Option.{option_copied, option_map_or};
-ghost use Rattle.muck_prop.specs.Store.{is_dir};
-ghost use Rattle.muf_model.specs.Datum.{text};
+ghost use Rattle.muck_model.specs.locks.Kept.{IsStorable};
+ghost use Rattle.muck_prop.specs.Store.{is_dir, IsSpellable};
+ghost use Rattle.muf_model.specs.Datum.{text, lock};
 ghost use Rattle.muf_model.specs.inner.View.{view};
 ghost use Rattle.muf_frame.specs.inner.Shown.{Shown, flat};
 ghost use Rattle.muck_perm.specs.inner.Guards.{world_of};
@@ -11,11 +12,11 @@ ghost use Rattle.prim_common.specs.inner.Applied.{Makes};
 ghost use Rattle.prim_prop.specs.inner.Looks.{form_of, look_of};
 
 use crate::asked::{named, path_of, permit_reading};
-use muck_model::{Line, NoMemory};
+use muck_model::{Line, Lock, NoMemory};
 use muck_perm::Guard;
 use muck_prop::{Path, PropValue};
 use muf_frame::{Frame, PrimFault};
-use muf_model::{MufFault, Shared, Text, Value};
+use muf_model::{MufFault, SharedLock, Text, Value};
 use prim_common::Made;
 use spec_live::Object;
 use std::alloc::Global;
@@ -43,14 +44,35 @@ pub(crate) fn text_item(alloc: Global, line: Line) -> Result<Value, NoMemory>
     Ok(Value::Str(line))
 }
 
+// A lock that a property holds, as an item.
+fn lock_item(alloc: Global, kept: &Lock) -> Result<Value, NoMemory>
+    requires { IsStorable kept.now }
+    ensures { IfOk result (λ v. view v ≡ lock kept.now) }
+{
+    let copy = kept.copy(alloc)?;
+    let shared = SharedLock::new(alloc, copy)?;
+    Ok(Value::Key(shared))
+}
+
+// What a property holds, as an item.
+fn held_item(alloc: Global, value: &PropValue) -> Result<Value, NoMemory>
+    requires { IsSpellable value.now }
+    ensures { IfOk result (λ v. view v ≡ as_item (Some value.now)) }
+{
+    match value {
+        PropValue::Text(line) => text_item(alloc, line.copy(alloc)?),
+        PropValue::Number(number) => Ok(Value::Int(*number)),
+        PropValue::Ref(d) => Ok(Value::Ref(*d)),
+        PropValue::Key(lock) => lock_item(alloc, lock.get()),
+    }
+}
+
 fn as_item(alloc: Global, value: Option<&PropValue>) -> Result<Value, NoMemory>
+    requires { IfSome value (λ value. IsSpellable value.now) }
     ensures { IfOk result (λ v. view v ≡ as_item (option_copied value.entry)) }
 {
     match value {
-        Some(PropValue::Text(line)) => text_item(alloc, line.copy(alloc)?),
-        Some(PropValue::Number(number)) => Ok(Value::Int(*number)),
-        Some(PropValue::Ref(d)) => Ok(Value::Ref(*d)),
-        Some(PropValue::Key(lock)) => Ok(Value::Key(Shared::new(alloc, lock.copy(alloc)?)?)),
+        Some(value) => held_item(alloc, value),
         None => Ok(Value::Int(0)),
     }
 }
@@ -83,6 +105,7 @@ fn as_number(value: Option<&PropValue>) -> Value
 
 /// A value as its form shows it; 0 or no text where there is none of this kind.
 pub(crate) fn shown(alloc: Global, form: Form, value: Option<&PropValue>) -> Result<Value, NoMemory>
+    requires { IfSome value (λ value. IsSpellable value.now) }
     ensures { IfOk result (λ v. view v ≡ form_of form (option_copied value.entry)) }
 {
     match form {
@@ -94,7 +117,8 @@ pub(crate) fn shown(alloc: Global, form: Form, value: Option<&PropValue>) -> Res
 
 /// The value that an object has at a path, if it is there.
 pub(crate) fn value_of<'a>(object: Option<&'a Object>, path: &Path) -> Option<&'a PropValue>
-    ensures { option_copied result ≡ value_of (option_copied object.entry) path.now }
+    ensures value { option_copied result ≡ value_of (option_copied object.entry) path.now }
+    ensures spelled { IfSome result (λ value. IsSpellable value.now) }
 {
     match object {
         Some(object) => object.props().get(path),

@@ -1,14 +1,17 @@
 -- What the rows of properties and of talk ask for.
-use Rattle.std.proofs.Common.{◌≡◌, ℕ, ℤ, pos, Bool, true, false, cond, List, [], ◌∷◌, take, drop, map, Option, Some, None, refl, subst, inl, inr}
+use Rattle.std.proofs.Common.{◌≡◌, ℕ, ℤ, pos, Bool, true, false, cond, ltb, List, [], ◌∷◌, length, take, drop, map, Option, Some, None, refl, subst, inl, inr}
 use Rattle.std.specs.Option.{option_map_or, option_and_then}
 use Rattle.std.specs.Prelude.{is_some, ◌&&◌}
 use Rattle.std.specs.List.{filter}
 use Rattle.std.specs.FinMap.{keys}
 use Rattle.muck_laws.proofs.Options.{none_of, some_is}
+use Rattle.muck_model.specs.Bytes.{text_most}
 use Rattle.muck_model.specs.declared.dbref.Dbref.{Dbref}
+use Rattle.muck_model.specs.declared.lock.Lock.{Lock}
+use Rattle.muck_model.specs.locks.Printed.{lock_printed}
 use Rattle.muck_prop.specs.declared.path.PropFault.{PropFault}
 use Rattle.muck_prop.specs.declared.value.PropValue.{PropValue}
-use Rattle.muck_prop.specs.declared.value.PropValue.TheVariants.{Text, Number, Ref}
+use Rattle.muck_prop.specs.declared.value.PropValue.TheVariants.{Text, Number, Ref, Key}
 use Rattle.muck_prop.specs.Paths.{path_fault, path_text, segments_of}
 use Rattle.muck_prop.specs.Order.{child, is_below}
 use Rattle.muck_prop.specs.Store.{is_after, next_among}
@@ -22,11 +25,11 @@ use Rattle.spec_rights.specs.declared.act.Act.TheVariants.{Read, Write, Shared}
 use Rattle.spec_rights.specs.Verdict.{verdict}
 use Rattle.spec_rights.specs.Changing.{property_stored, unstored}
 use Rattle.muf_model.specs.declared.fault.MufFault.{MufFault}
-use Rattle.muf_model.specs.declared.fault.MufFault.TheVariants.{BadArgument, StackFull}
-use Rattle.muf_model.specs.Datum.{Datum, int, text, object}
+use Rattle.muf_model.specs.declared.fault.MufFault.TheVariants.{BadArgument, StackFull, TextTooLong}
+use Rattle.muf_model.specs.Datum.{Datum, int, text, object, lock}
 use Rattle.spec_prims.specs.Asking.{object_numbered, fault_of_denial}
 use Rattle.spec_prims.specs.Row.{WorldAnswer, gives, refuses, breaks, row_unless, given_upon}
-use Rattle.spec_prims.specs.PropRows.{row_at_path, value_of, property_looked_at, first_holder, property_sought, directory_fault, listing_begins, may_read, next_read, properties_walked, property_put_at, property_put, text_or, property_added, removed}
+use Rattle.spec_prims.specs.PropRows.{row_at_path, value_of, property_looked_at, first_holder, property_sought, directory_fault, listing_begins, may_read, next_read, properties_walked, property_put_at, lock_put_at, property_put, text_or, property_added, removed}
 use Rattle.spec_prims.specs.Talk.{notified, told_but, notified_but, booted_seat, connection_booted, seat_at, is_place, place_outside, connections_awake, connected_at, player_given, player_at, descriptors}
 use Rattle.spec_denials.specs.Acts.{looks, up_to_holder, looks_up, puts, adds, removes}
 use Rattle.spec_denials.specs.Asked.{first_denied, RowNames, IsListed, NameListed, RowLists}
@@ -68,10 +71,20 @@ module _ (B : MufFault → Live → Type 0) (a : Actor) (w : Live) where
   names_put_at : (t : List ℕ) (d : ℤ) (value : PropValue) → RowNames B (first_denied w.objects a (Write (object_numbered d) (segments_of t) ∷ [])) (property_put_at a t d value w)
   names_put_at t d value = names_path (path_fault t) _ _ (rows_leave B w.objects a (Write (object_numbered d) (segments_of t)) (gives [] (property_stored (object_numbered d) (segments_of t) value w)) refl)
 
+  names_or_long : (b : Bool) (row : WorldAnswer) → RowNames B None row → RowNames B None (cond b (refuses TextTooLong) row)
+  names_or_long true row h = tt
+  names_or_long false row h = h
+
+  names_put_lock : (t : List ℕ) (d : ℤ) (l : Lock) → RowNames B (first_denied w.objects a (Write (object_numbered d) (segments_of t) ∷ [])) (lock_put_at a t d l w)
+  names_put_lock t d l =
+      let row : WorldAnswer = gives [] (property_stored (object_numbered d) (segments_of t) (Key l) w) in
+      names_path (path_fault t) _ _ (rows_leave B w.objects a (Write (object_numbered d) (segments_of t)) (cond (ltb text_most (length (lock_printed l))) (refuses TextTooLong) row) (names_or_long (ltb text_most (length (lock_printed l))) row refl))
+
   pub names_put : (items : List Datum) → RowNames B (first_denied w.objects a (puts items)) (property_put a items w)
   names_put (int n ∷ text t ∷ object d ∷ []) = names_put_at t d (Number n)
   names_put (text u ∷ text t ∷ object d ∷ []) = names_put_at t d (Text u)
   names_put (object r ∷ text t ∷ object d ∷ []) = names_put_at t d (Ref (object_numbered r))
+  names_put (lock l ∷ text t ∷ object d ∷ []) = names_put_lock t d l
   names_put _ = tt
 
   pub names_added : (items : List Datum) → RowNames B (first_denied w.objects a (adds items)) (property_added a items w)

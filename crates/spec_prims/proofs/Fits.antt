@@ -1,18 +1,21 @@
 -- A row that changes the world gives no more items than it takes, so that there is room for them.
 pub use Rattle.spec_prims.proofs.Fit.{Fits, IsFit}
-use Rattle.std.proofs.Common.{◌≡◌, inl, inr, ℕ, List, [], ◌∷◌, length, Option, Some, None, refl, arith}
+use Rattle.std.proofs.Common.{◌≡◌, inl, inr, ℕ, Bool, true, false, cond, ltb, List, [], ◌∷◌, length, Option, Some, None, refl, arith}
 use Rattle.spec_live.specs.Lives.{Live, Change}
 use Rattle.spec_rights.specs.declared.act.Actor.{Actor}
 use Rattle.muf_model.specs.declared.prims.Primitive.{Primitive}
 use Rattle.muf_model.specs.declared.prims.Primitive.TheVariants.{Notify, NotifyExclude, IsAwake, Online, ConCount, ConDbref, Descriptors, Descr, ConBoot, GetProp, GetPropStr, GetPropVal, SetProp, AddProp, RemoveProp, NextProp, IsPropDir, EnvProp, EnvPropStr, ParseMpi}
 use Rattle.muck_model.specs.declared.dbref.Dbref.{Dbref}
-use Rattle.muf_model.specs.Datum.{Datum, int, text, object}
+use Rattle.muck_model.specs.Bytes.{text_most}
+use Rattle.muck_model.specs.declared.lock.Lock.{Lock}
+use Rattle.muck_model.specs.locks.Printed.{lock_printed}
+use Rattle.muf_model.specs.Datum.{Datum, int, text, object, lock}
 use Rattle.std.specs.Prelude.{ℤ, pos, take, drop}
 use Rattle.std.specs.List.{filter_map}
 use Rattle.std.specs.Option.{option_or, option_map_or}
 use Rattle.muck_prop.specs.declared.path.PropFault.{PropFault}
 use Rattle.muck_prop.specs.declared.value.PropValue.{PropValue}
-use Rattle.muck_prop.specs.declared.value.PropValue.TheVariants.{Text, Number, Ref}
+use Rattle.muck_prop.specs.declared.value.PropValue.TheVariants.{Text, Number, Ref, Key}
 use Rattle.muck_prop.specs.Paths.{path_fault, path_text, segments_of}
 use Rattle.spec_live.specs.declared.object.Object.{Object}
 use Rattle.spec_live.specs.Objects.{object_at}
@@ -21,9 +24,10 @@ use Rattle.spec_rights.specs.declared.act.Act.TheVariants.{Read, Write, Shared}
 use Rattle.spec_rights.specs.Verdict.{verdict}
 use Rattle.spec_rights.specs.Changing.{property_stored, unstored}
 use Rattle.muf_model.specs.declared.fault.MufFault.{MufFault}
+use Rattle.muf_model.specs.declared.fault.MufFault.TheVariants.{TextTooLong}
 use Rattle.spec_prims.specs.Asking.{object_numbered, fault_of_denial}
-use Rattle.spec_prims.specs.Row.{WorldAnswer, gives, WorldDoing}
-use Rattle.spec_prims.specs.PropRows.{row_at_path, value_of, as_item, value_as_text, as_number, has_below, property_seen_at, property_looked_at, first_holder, property_sought, directory_fault, listing_begins, next_read, properties_walked, written_at, property_put_at, property_put, text_or, property_added, removed, property_row}
+use Rattle.spec_prims.specs.Row.{WorldAnswer, gives, refuses, WorldDoing}
+use Rattle.spec_prims.specs.PropRows.{row_at_path, value_of, as_item, value_as_text, as_number, has_below, property_seen_at, property_looked_at, first_holder, property_sought, directory_fault, listing_begins, next_read, properties_walked, written_at, property_put_at, lock_put_at, property_put, text_or, property_added, removed, property_row}
 use Rattle.spec_commands.specs.Finding.{actor_of}
 use Rattle.spec_mpi.specs.Telling.{MpiAnswer}
 use Rattle.spec_mpi.specs.Messages.{formula_heard, variables_of}
@@ -141,10 +145,21 @@ fits_written a t d change items w =
 fits_put_at : (a : Actor) (t : List ℕ) (d : ℤ) (value : PropValue) (items : List Datum) (w : Live) → Fits items w (property_put_at a t d value w)
 fits_put_at a t d value items w = fits_written a t (object_numbered d) (property_stored (object_numbered d) (segments_of t) value) items w
 
+fits_or_long : (b : Bool) (items : List Datum) (w : Live) (row : WorldAnswer) → Fits items w row → Fits items w (cond b (refuses TextTooLong) row)
+fits_or_long true items w row h = tt
+fits_or_long false items w row h = h
+
+fits_put_lock : (a : Actor) (t : List ℕ) (d : ℤ) (l : Lock) (items : List Datum) (w : Live) → Fits items w (lock_put_at a t d l w)
+fits_put_lock a t d l items w =
+    fits_at_path (path_fault t) items w _
+    (fits_unless (fault_of_denial (verdict w.objects a (Write (object_numbered d) (segments_of t)))) items w _
+    (fits_or_long (ltb text_most (length (lock_printed l))) items w (gives [] (property_stored (object_numbered d) (segments_of t) (Key l) w)) (inl (omega arith))))
+
 fits_put : (a : Actor) (items : List Datum) (w : Live) → Fits items w (property_put a items w)
 fits_put a (int n ∷ text t ∷ object d ∷ []) w = fits_put_at a t d (Number n) (int n ∷ text t ∷ object d ∷ []) w
 fits_put a (text u ∷ text t ∷ object d ∷ []) w = fits_put_at a t d (Text u) (text u ∷ text t ∷ object d ∷ []) w
 fits_put a (object r ∷ text t ∷ object d ∷ []) w = fits_put_at a t d (Ref (object_numbered r)) (object r ∷ text t ∷ object d ∷ []) w
+fits_put a (lock l ∷ text t ∷ object d ∷ []) w = fits_put_lock a t d l (lock l ∷ text t ∷ object d ∷ []) w
 fits_put a _ w = tt
 
 fits_added : (a : Actor) (items : List Datum) (w : Live) → Fits items w (property_added a items w)

@@ -1,6 +1,6 @@
 -- What each row changes is open to who acts, and so is what is to be told of it.
 pub use Rattle.spec_prims.proofs.Open.{RowOpen, IsOpen, IsOpenTo, ended_open, same_open, shows_open}
-use Rattle.std.proofs.Common.{◌≡◌, ℕ, Bool, true, false, cond, List, [], ◌∷◌, take, drop, Option, Some, None, refl, sym, subst}
+use Rattle.std.proofs.Common.{◌≡◌, ℕ, Bool, true, false, cond, ltb, List, [], ◌∷◌, length, take, drop, Option, Some, None, refl, sym, subst}
 use Rattle.std.specs.Option.{option_or, option_map_or}
 use Rattle.std.specs.Prelude.{option_map, Result, Ok, Err}
 use Rattle.spec_live.specs.Lives.{Live}
@@ -16,6 +16,7 @@ use Rattle.spec_rights.proofs.Shown.{quiet_tell_player, quiet_tell_but}
 use Rattle.spec_live.specs.Lives.{Change, leave}
 use Rattle.spec_rights.proofs.Leaving.{stays_left}
 use Rattle.muf_model.specs.declared.fault.MufFault.{MufFault}
+use Rattle.muf_model.specs.declared.fault.MufFault.TheVariants.{TextTooLong}
 use Rattle.muf_model.specs.declared.prims.Family.{Family}
 use Rattle.muf_model.specs.declared.prims.Family.TheVariants as kind
 use Rattle.muf_model.specs.declared.prims.Primitive.{Primitive}
@@ -24,20 +25,23 @@ use Rattle.std.specs.Prelude.{ℤ, pos}
 use Rattle.std.specs.List.{filter_map}
 use Rattle.muck_model.specs.declared.dbref.Dbref.{Dbref}
 use Rattle.muck_model.specs.declared.dbref.Denial.{Denial}
+use Rattle.muck_model.specs.Bytes.{text_most}
+use Rattle.muck_model.specs.declared.lock.Lock.{Lock}
+use Rattle.muck_model.specs.locks.Printed.{lock_printed}
 use Rattle.muck_prop.specs.declared.path.PropFault.{PropFault}
 use Rattle.muck_prop.specs.declared.value.PropValue.{PropValue}
-use Rattle.muck_prop.specs.declared.value.PropValue.TheVariants.{Text, Number, Ref}
+use Rattle.muck_prop.specs.declared.value.PropValue.TheVariants.{Text, Number, Ref, Key}
 use Rattle.muck_prop.specs.Paths.{path_fault, segments_of}
 use Rattle.spec_live.specs.declared.object.Object.{Object}
 use Rattle.spec_live.specs.Objects.{Entry, object_at}
 use Rattle.spec_live.specs.Seen.{places_of}
-use Rattle.muf_model.specs.Datum.{Datum, int, text, object}
+use Rattle.muf_model.specs.Datum.{Datum, int, text, object, lock}
 use Rattle.muf_model.specs.Ladder.{too_short}
 use Rattle.muf_model.specs.Needs.{Needs}
 use Rattle.muf_model.specs.Prims.{family_of, primitive_level, needs_of}
 use Rattle.spec_prims.specs.Asking.{object_numbered, fault_of_denial, level_fault}
 use Rattle.spec_prims.specs.Row.{WorldAnswer, gives, refuses, breaks, WorldDoing, row_unless, given_upon}
-use Rattle.spec_prims.specs.PropRows.{row_at_path, row_by_leave, value_of, as_item, value_as_text, as_number, has_below, property_looked_at, first_holder, property_sought, directory_fault, properties_walked, property_put_at, property_put, text_or, property_added, removed, property_row}
+use Rattle.spec_prims.specs.PropRows.{row_at_path, row_by_leave, value_of, as_item, value_as_text, as_number, has_below, property_looked_at, first_holder, property_sought, directory_fault, properties_walked, property_put_at, lock_put_at, property_put, text_or, property_added, removed, property_row}
 use Rattle.spec_commands.specs.Finding.{actor_of}
 use Rattle.mpi.specs.Variables.{Variables}
 use Rattle.spec_mpi.specs.Telling.{MpiAnswer}
@@ -164,10 +168,23 @@ opens_put_at a t d value w =
     (opens_by_leave a (Write (object_numbered d) (segments_of t)) w (gives [] (property_stored (object_numbered d) (segments_of t) value w))
     (stays_open a (Write (object_numbered d) (segments_of t)) (property_stored (object_numbered d) (segments_of t) value) w (stays_stored a nobody (object_numbered d) (segments_of t) value)))
 
+opens_or_long : (b : Bool) (a : Actor) (w : Live) (row : WorldAnswer) → RowOpen a w row → RowOpen a w (cond b (refuses TextTooLong) row)
+opens_or_long true a w row h = tt
+opens_or_long false a w row h = h
+
+opens_put_lock : (a : Actor) (t : List ℕ) (d : ℤ) (l : Lock) (w : Live) → RowOpen a w (lock_put_at a t d l w)
+opens_put_lock a t d l w =
+    let row : WorldAnswer = gives [] (property_stored (object_numbered d) (segments_of t) (Key l) w) in
+    opens_at_path (path_fault t) a w _
+    (opens_by_leave a (Write (object_numbered d) (segments_of t)) w (cond (ltb text_most (length (lock_printed l))) (refuses TextTooLong) row)
+    (λ e. opens_or_long (ltb text_most (length (lock_printed l))) a w row
+    (stays_open a (Write (object_numbered d) (segments_of t)) (property_stored (object_numbered d) (segments_of t) (Key l)) w (stays_stored a nobody (object_numbered d) (segments_of t) (Key l)) e)))
+
 opens_put : (a : Actor) (items : List Datum) (w : Live) → RowOpen a w (property_put a items w)
 opens_put a (int n ∷ text t ∷ object d ∷ []) w = opens_put_at a t d (Number n) w
 opens_put a (text u ∷ text t ∷ object d ∷ []) w = opens_put_at a t d (Text u) w
 opens_put a (object r ∷ text t ∷ object d ∷ []) w = opens_put_at a t d (Ref (object_numbered r)) w
+opens_put a (lock l ∷ text t ∷ object d ∷ []) w = opens_put_lock a t d l w
 opens_put a _ w = tt
 
 opens_added : (a : Actor) (items : List Datum) (w : Live) → RowOpen a w (property_added a items w)

@@ -1,9 +1,12 @@
 -- The rows of the primitives of properties. Each but that of formulas asks first that its text writes a path, and then for leave.
-use Rattle.std.specs.Prelude.{ℕ, ℤ, pos, negsuc, Bool, true, false, not, is_none, ◌-◌, ◌==◌, if◌then◌else◌, List, [], ◌∷◌, length, take, Option, Some, None}
+use Rattle.std.specs.Prelude.{ℕ, ℤ, pos, negsuc, Bool, true, false, not, is_none, nat_lt, ◌-◌, ◌==◌, if◌then◌else◌, List, [], ◌∷◌, length, take, Option, Some, None}
 use Rattle.std.specs.Option.{option_map_or, option_and_then}
 use Rattle.std.specs.List.{filter, list_all, suffix_len}
 use Rattle.std.specs.FinMap.{get, keys}
+use Rattle.muck_model.specs.Bytes.{text_most}
 use Rattle.muck_model.specs.declared.dbref.Dbref.{Dbref}
+use Rattle.muck_model.specs.declared.lock.Lock.{Lock}
+use Rattle.muck_model.specs.locks.Printed.{lock_printed}
 use Rattle.muck_prop.specs.declared.path.PropFault.{PropFault}
 use Rattle.muck_prop.specs.declared.value.PropValue.{PropValue}
 use Rattle.muck_prop.specs.declared.value.PropValue.TheVariants.{Text, Number, Ref, Key}
@@ -19,7 +22,7 @@ use Rattle.spec_rights.specs.declared.act.Act.{Act}
 use Rattle.spec_rights.specs.declared.act.Act.TheVariants.{Read, Write}
 use Rattle.spec_rights.specs.Verdict.{verdict}
 use Rattle.spec_rights.specs.Changing.{property_stored, unstored}
-use Rattle.muf_model.specs.declared.fault.MufFault.TheVariants.{BadType, BadArgument}
+use Rattle.muf_model.specs.declared.fault.MufFault.TheVariants.{BadType, BadArgument, TextTooLong}
 use Rattle.muf_model.specs.declared.prims.Primitive.{Primitive}
 use Rattle.muf_model.specs.declared.prims.Family.{Family}
 use Rattle.muf_model.specs.declared.prims.Family.TheVariants as kind
@@ -122,10 +125,17 @@ written_at a path d change w = row_by_leave a (Write d path) w (gives [] (change
 abbrev pub property_put_at : Actor → List ℕ → ℤ → PropValue → Live → WorldAnswer
 property_put_at a t d value w = row_at_path (path_fault t) (written_at a (segments_of t) (object_numbered d) (property_stored (object_numbered d) (segments_of t) value) w)
 
+-- the same of a lock, of which what is written may be longer than a text
+abbrev pub lock_put_at : Actor → List ℕ → ℤ → Lock → Live → WorldAnswer
+lock_put_at a t d l w =
+    row_at_path (path_fault t) (row_by_leave a (Write (object_numbered d) (segments_of t)) w
+    (if nat_lt text_most (length (lock_printed l)) then refuses TextTooLong else gives [] (property_stored (object_numbered d) (segments_of t) (Key l) w)))
+
 abbrev pub property_put : Actor → List Datum → Live → WorldAnswer
 property_put a (int n ∷ text t ∷ object d ∷ []) w = property_put_at a t d (Number n) w
 property_put a (text u ∷ text t ∷ object d ∷ []) w = property_put_at a t d (Text u) w
 property_put a (object r ∷ text t ∷ object d ∷ []) w = property_put_at a t d (Ref (object_numbered r)) w
+property_put a (lock l ∷ text t ∷ object d ∷ []) w = lock_put_at a t d l w
 property_put a items w = refuses BadType
 
 -- the text, where it isn't empty, and else the integer

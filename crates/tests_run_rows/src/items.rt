@@ -1,11 +1,12 @@
 // Items that are written as words of a source.
-use muck_model::{Dbref, Lock, NoMemory};
-use muf_model::{MapKey, Shared, Text, Value, ValueFault, ValueList, ValueMap, VarId};
+use muck_lock::{LockFault, NoNames, read};
+use muck_model::{Dbref, NoMemory};
+use muf_model::{MapKey, SharedLock, Text, Value, ValueFault, ValueList, ValueMap, VarId};
 use muf_token::{MemIncludes, TokenFault, TokenKind, TokenList, tokens};
 use std::alloc::Global;
 use std::mem::replace;
 use std::sync::Arc;
-use tests_rows::{lines_of, part};
+use tests_rows::{line, lines_of, part};
 
 /// The number of the program that runs.
 pub const PROGRAM: Dbref = Dbref(5);
@@ -22,6 +23,16 @@ pub fn words_of(alloc: Global, source: &[u8]) -> Result<Option<TokenList>, NoMem
         Ok(words) => Ok(Some(words)),
         Err(TokenFault::Refused(_)) => Ok(None),
         Err(TokenFault::NoMemory) => Err(NoMemory),
+    }
+}
+
+// The lock that a text is read as, or a mark where it is read as none.
+fn lock_item(alloc: Global, text: &[u8]) -> Result<Value, NoMemory> {
+    let text = line(alloc, text)?;
+    match read(alloc, &text, &NoNames) {
+        Ok(lock) => Ok(Value::Key(SharedLock::new(alloc, lock)?)),
+        Err(LockFault::BadLock { .. }) => Ok(Value::Mark),
+        Err(LockFault::NoMemory) => Err(NoMemory),
     }
 }
 
@@ -45,8 +56,8 @@ fn item_of(alloc: Global, items: &mut Vec<Value>, kind: TokenKind) -> Result<Val
             program: Dbref(8),
             word: 0,
         }),
-        b"free" => Ok(Value::Key(Shared::new(alloc, Lock::Free)?)),
-        b"lock" => Ok(Value::Key(Shared::new(alloc, Lock::Object(Dbref(1)))?)),
+        b"free" => lock_item(alloc, b""),
+        b"lock" => lock_item(alloc, b"#1"),
         b"dict" => {
             let mut dict = ValueMap::new(alloc)?;
             if let Some(value) = items.pop() {

@@ -2,7 +2,8 @@
 use Rattle.std.specs.Prelude.{◌≡◌, ℕ, List, ℤ, Option, Some, None, slice_get, Result, Ok, Err}
 use Rattle.std.specs.Option.{option_and_then}
 use Rattle.muf_model.specs.declared.fault.MufFault.{MufFault}
-use Rattle.muf_model.specs.Datum.{Datum, int, text, object}
+use Rattle.muck_model.specs.declared.lock.Lock.{Lock}
+use Rattle.muf_model.specs.Datum.{Datum, int, text, object, lock}
 use Rattle.muf_model.specs.Answer.{Answer, gives, stores, calls, refuses, Made, plain}
 use Rattle.muf_model.specs.declared.prims.Primitive.{Primitive}
 use Rattle.muf_model.specs.Needs.{Needs}
@@ -68,7 +69,12 @@ abbrev pub as_text : Datum → Option (List ℕ)
 as_text (text t) = Some t
 as_text _ = None
 
--- the item at a depth, as an integer, as the number of an object, and as the bytes of a text
+-- the lock that a value is
+abbrev pub as_lock : Datum → Option Lock
+as_lock (lock l) = Some l
+as_lock _ = None
+
+-- the item at a depth, as an integer, as the number of an object, as the bytes of a text, and as a lock
 abbrev pub int_at : ℕ → List Datum → Option ℤ
 int_at n stack = option_and_then as_int (slice_get stack n)
 
@@ -77,3 +83,6 @@ object_at n stack = option_and_then as_object (slice_get stack n)
 
 abbrev pub text_at : ℕ → List Datum → Option (List ℕ)
 text_at n stack = option_and_then as_text (slice_get stack n)
+
+abbrev pub lock_at : ℕ → List Datum → Option Lock
+lock_at n stack = option_and_then as_lock (slice_get stack n)

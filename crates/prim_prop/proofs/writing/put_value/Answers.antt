@@ -4,7 +4,7 @@ use Rattle.muck_perm.specs.inner.Guards.{world_of}
 use Rattle.prim_common.specs.inner.Applied.{Makes}
 use Rattle.prim_prop.specs.inner.Asked.{named_in, stored_by}
 use Rattle.prim_prop.proofs.Taken.{put_so}
-use Rattle.prim_prop.proofs.writing.put.Goals as goal
+use Rattle.prim_prop.proofs.writing.put_value.Goals as goal
 
 pub returns : goal.returns
 returns c =
