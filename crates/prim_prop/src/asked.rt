@@ -2,7 +2,7 @@
 ghost use Rattle.std.specs.Prelude.{◌≡◌, ◌≤◌, drop};
 ghost use Rattle.std.specs.Option.{option_map};
 ghost use Rattle.spec_rights.specs.Verdict.{verdict};
-ghost use Rattle.spec_rights.specs.declared.act.Act.TheVariants.{Read, Write};
+ghost use Rattle.spec_rights.specs.declared.act.Act.TheVariants.{Read};
 ghost use Rattle.muf_frame.specs.inner.Shown.{Shown, flat};
 ghost use Rattle.muck_perm.specs.inner.Guards.{objects_of};
 ghost use Rattle.spec_prims.specs.Asking.{fault_of_denial};
@@ -44,17 +44,6 @@ pub(crate) fn permit_reading(guard: &Guard, object: Dbref, path: &Path) -> Resul
 {
     let path = path.copy(guard.alloc())?;
     match verdict(guard.db(), &guard.actor(), &Act::Read { object, path }) {
-        Ok(_) => Ok(()),
-        Err(denial) => Err(PrimFault::Fault(MufFault::Denied(denial.rule))),
-    }
-}
-
-/// Leave to write a property.
-pub(crate) fn permit_writing(guard: &Guard, object: Dbref, path: &Path) -> Result<(), PrimFault>
-    ensures { MayPass (fault_of_denial (verdict (objects_of guard.now) guard.now.actor (Write object path.now))) result }
-{
-    let path = path.copy(guard.alloc())?;
-    match verdict(guard.db(), &guard.actor(), &Act::Write { object, path }) {
         Ok(_) => Ok(()),
         Err(denial) => Err(PrimFault::Fault(MufFault::Denied(denial.rule))),
     }

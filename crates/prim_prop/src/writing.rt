@@ -6,16 +6,19 @@ ghost use Rattle.muck_prop.specs.Store.{IsSpellable};
 ghost use Rattle.muf_model.specs.Locks.{WasRead};
 ghost use Rattle.muf_frame.specs.inner.Answers.{lock_at};
 ghost use Rattle.muf_frame.specs.inner.Shown.{Shown, flat};
-ghost use Rattle.muck_perm.specs.inner.Guards.{world_of};
+ghost use Rattle.muck_perm.specs.inner.Guards.{objects_of, world_of};
+ghost use Rattle.spec_rights.specs.Verdict.{verdict};
+ghost use Rattle.spec_rights.specs.declared.act.Act.TheVariants.{Write};
+ghost use Rattle.spec_prims.specs.Asking.{fault_of_denial};
 ghost use Rattle.spec_prims.specs.PropRows.{property_added, property_put, property_put_at, lock_put_at, removed, text_or};
 ghost use Rattle.prim_common.specs.inner.Applied.{Makes};
-ghost use Rattle.prim_prop.specs.inner.Asked.{IsWritten, added_by, stored_by, lock_kept, long_put_at};
+ghost use Rattle.prim_prop.specs.inner.Asked.{IsWritten, MayPass, added_by, stored_by, lock_kept, long_put_at};
 
-use crate::asked::{named, path_of, permit_writing};
+use crate::asked::{named, path_of};
 use muck_lock::{LockFault, print};
 use muck_model::{Dbref, Line, Lock, NoMemory};
 use muck_perm::{Guard, verdict};
-use muck_prop::PropValue;
+use muck_prop::{Path, PropValue};
 use muf_frame::{Frame, PrimFault};
 use muf_model::{MufFault, SharedLock, Text};
 use prim_common::Made;
@@ -76,6 +79,17 @@ fn kept(alloc: Global, lock: &Lock) -> Result<Option<PropValue>, NoMemory>
         }
         Err(LockFault::BadLock { .. }) => Ok(None),
         Err(LockFault::NoMemory) => Err(NoMemory),
+    }
+}
+
+// Leave to write a property.
+fn permit_writing(guard: &Guard, object: Dbref, path: &Path) -> Result<(), PrimFault>
+    ensures { MayPass (fault_of_denial (verdict (objects_of guard.now) guard.now.actor (Write object path.now))) result }
+{
+    let path = path.copy(guard.alloc())?;
+    match verdict(guard.db(), &guard.actor(), &Act::Write { object, path }) {
+        Ok(_) => Ok(()),
+        Err(denial) => Err(PrimFault::Fault(MufFault::Denied(denial.rule))),
     }
 }
 
