@@ -118,7 +118,7 @@ def nothing_is_lent(folder):
 def long_values(folder):
     """ex shows the beginning of what is too long to be shown with its path, numbers as they are set, and directories below each other."""
     made(folder)
-    lines = ("@program fill", "i", ': main pop "x" begin dup strlen 4096 < while dup strcat repeat me @ "long/text" rot setprop me @ "long/number" -7 setprop me @ "a/b/c/d/e/f" "deep" setprop ;', ".", "c", "q", "@run fill=", "ex me=long", "ex me=a/b/", "ex me=A")
+    lines = ("@program fill", "i", ': main pop "x" begin dup strlen 16384 < while dup strcat repeat me @ "long/text" rot setprop me @ "long/number" -7 setprop me @ "a/b/c/d/e/f" "deep" setprop ;', ".", "c", "q", "@run fill=", "ex me=long", "ex me=a/b/", "ex me=A")
     said = shown(script(folder, FIRST + "".join(f"send 1 {line}\n" for line in lines)))
     same("long ones", said[said.index("Editor exited.") + 1:], ["One(#1PW) (player) of One", "Properties:", "  long/number:^-7", "  long/text:" + "x" * 3900 + " ..", *["One(#1PW) (player) of One", "Properties:", "  a/b/c/d/e/f:deep"] * 2])
 
