@@ -58,7 +58,7 @@ tied_by d k slots h = by_cases (object_at slots k) h
     by_cases : (q : Option Object) → option_map_or (is_tied_to_number d) q false ≡ true
         → ((option_and_then (λ (o : Object). index_of o.home) q ≡ Some d) ⊎ (option_and_then (λ (o : Object). index_of o.link) q ≡ Some d)) ⊎ (option_map_or (λ (o : Object). has_ref (dbref_of d) o.props) q false ≡ true)
     by_cases None e = absurd (false≢true e)
-    by_cases (Some o) e = either_so (leads_to_number d o) (has_ref (dbref_of d) o.props) _ (λ q. inl (led o q)) (λ q. inr q) e
+    by_cases (Some o) e = either_so (leads_to_number d o) (has_ref (dbref_of d) o.props) (((index_of o.home ≡ Some d) ⊎ (index_of o.link ≡ Some d)) ⊎ (has_ref (dbref_of d) o.props ≡ true)) (λ q. inl (led o q)) (λ q. inr q) e
 
 holds_tied : (d k : ℕ) (slots : List Slot) → holds_at d slots k ≡ true → is_tied_at d slots k ≡ true
 unfolding is_tied_at holds_at
@@ -460,7 +460,7 @@ ties_stored k f old new ties after New is home link props long others noted stil
     one : (d : ℕ) (q : Option Object) → is_tied_to_number d (option_map_or (λ (o : Object). o) (option_map f q) garbage) ≡ true → New d ⊎ (is_tied_to_number d (option_map_or (λ (o : Object). o) q garbage) ≡ true)
     one d None e = inr e
     one d (Some o) e =
-        either_so (leads_to_number d (f o)) (has_ref (dbref_of d) (f o).props) _
+        either_so (leads_to_number d (f o)) (has_ref (dbref_of d) (f o).props) (New d ⊎ (is_tied_to_number d o ≡ true))
         (λ q. inr (or_left (leads_to_number d o) (has_ref (dbref_of d) o.props) (sym (ap (λ z. same z (dbref_of d) || same (f o).link (dbref_of d)) (home o) ∙ ap (λ z. same o.home (dbref_of d) || same z (dbref_of d)) (link o)) ∙ q)))
         (λ q. elim (props d o q) [ inl n ↦ inl n | inr r ↦ inr (or_right (leads_to_number d o) _ r) ]) e
 

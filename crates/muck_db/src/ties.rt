@@ -246,7 +246,10 @@ impl Ties {
         let Some(d) = from else {
             return;
         };
-        if d >= OBJECTS_MOST || is_still_tied(slots, k, d) {
+        if d >= OBJECTS_MOST {
+            return;
+        }
+        if is_still_tied(slots, k, d) {
             return;
         }
         if (d as usize) < self.of.len() {

@@ -29,12 +29,12 @@ any_ref d es = list_any (λ e. is_ref d e.1) es
 -- Lists of entries.
 
 any_put : (d : Dbref) (k : List (List ℕ)) (v : PropValue) (es : Kept) → any_ref d (put path_cmp k v es) ≡ true → (is_ref d v ≡ true) ⊎ (any_ref d es ≡ true)
-any_put d k v [] h = either_so (is_ref d v) false _ (λ q. inl q) (λ q. absurd (false≢true q)) h
+any_put d k v [] h = either_so (is_ref d v) false ((is_ref d v ≡ true) ⊎ (any_ref d [] ≡ true)) (λ q. inl q) (λ q. absurd (false≢true q)) h
 any_put d k v (e ∷ es) h =
     elim (path_cmp k e.0) as (λ r. any_ref d (by_order r ((k, v) ∷ e ∷ es) ((e.0, v) ∷ es) (e ∷ put path_cmp k v es)) ≡ true → (is_ref d v ≡ true) ⊎ (any_ref d (e ∷ es) ≡ true)) [
-      | Less ↦ λ h. either_so (is_ref d v) (any_ref d (e ∷ es)) _ (λ q. inl q) (λ q. inr q) h
-      | Equal ↦ λ h. either_so (is_ref d v) (any_ref d es) _ (λ q. inl q) (λ q. inr (or_right (is_ref d e.1) _ q)) h
-      | Greater ↦ λ h. either_so (is_ref d e.1) (any_ref d (put path_cmp k v es)) _ (λ q. inr (or_left _ (any_ref d es) q)) (λ q. later (any_put d k v es q)) h
+      | Less ↦ λ h. either_so (is_ref d v) (any_ref d (e ∷ es)) ((is_ref d v ≡ true) ⊎ (any_ref d (e ∷ es) ≡ true)) (λ q. inl q) (λ q. inr q) h
+      | Equal ↦ λ h. either_so (is_ref d v) (any_ref d es) ((is_ref d v ≡ true) ⊎ (any_ref d (e ∷ es) ≡ true)) (λ q. inl q) (λ q. inr (or_right (is_ref d e.1) _ q)) h
+      | Greater ↦ λ h. either_so (is_ref d e.1) (any_ref d (put path_cmp k v es)) ((is_ref d v ≡ true) ⊎ (any_ref d (e ∷ es) ≡ true)) (λ q. inr (or_left _ (any_ref d es) q)) (λ q. later (any_put d k v es q)) h
     ] h
   where
     later : (is_ref d v ≡ true) ⊎ (any_ref d es ≡ true) → (is_ref d v ≡ true) ⊎ (any_ref d (e ∷ es) ≡ true)
@@ -45,7 +45,7 @@ any_filtered : (d : Dbref) (test : List (List ℕ) × PropValue → Bool) (es : 
 any_filtered d test [] h = h
 any_filtered d test (e ∷ es) h =
     elim (test e) as (λ b. any_ref d (cond b (e ∷ filter test es) (filter test es)) ≡ true → any_ref d (e ∷ es) ≡ true) [
-      | true ↦ λ h. either_so (is_ref d e.1) (any_ref d (filter test es)) _ (λ q. or_left _ (any_ref d es) q) (λ q. or_right (is_ref d e.1) _ (any_filtered d test es q)) h
+      | true ↦ λ h. either_so (is_ref d e.1) (any_ref d (filter test es)) (any_ref d (e ∷ es) ≡ true) (λ q. or_left _ (any_ref d es) q) (λ q. or_right (is_ref d e.1) _ (any_filtered d test es q)) h
       | false ↦ λ h. or_right (is_ref d e.1) _ (any_filtered d test es h)
     ] h
 
@@ -82,7 +82,7 @@ first_value es = option_map (λ e. e.1) (slice_get es 0)
 
 pub any_later : (d : Dbref) (es rest : Kept) (v : PropValue) → first_value es ≡ Some v → rest ≡ drop 1 es → any_ref d es ≡ true → (is_ref d v ≡ true) ⊎ (any_ref d rest ≡ true)
 any_later d [] rest v first left h = absurd (false≢true h)
-any_later d (e ∷ es) rest v first left h = either_so (is_ref d e.1) (any_ref d es) _ (λ q. inl (subst (λ w. is_ref d w ≡ true) (some_is e.1 v first) q)) (λ q. inr (ap (any_ref d) left ∙ q)) h
+any_later d (e ∷ es) rest v first left h = either_so (is_ref d e.1) (any_ref d es) ((is_ref d v ≡ true) ⊎ (any_ref d rest ≡ true)) (λ q. inl (subst (λ w. is_ref d w ≡ true) (some_is e.1 v first) q)) (λ q. inr (ap (any_ref d) left ∙ q)) h
 
 pub shorter : (es rest : Kept) (v : PropValue) → first_value es ≡ Some v → rest ≡ drop 1 es → length rest < length es
 shorter [] rest v first left = absurd (cc first)
