@@ -1,5 +1,5 @@
 -- What is lent of a process, and what is taken over of one that ran outside of its world.
-use Rattle.std.proofs.Common.{◌≡◌, ℕ, suc, ◌+◌, ◌<◌, ℤ, Bool, true, false, ◌&&◌, ◌==◌, cond, refl, sym, ◌∙◌, ap, arith, Option, Some, None}
+use Rattle.std.proofs.Common.{◌≡◌, ℕ, suc, ◌+◌, ◌<◌, ℤ, Bool, true, false, ◌&&◌, ◌==◌, cond, refl, sym, ◌∙◌, ap, arith, inl, inr, Option, Some, None}
 use Rattle.std.specs.Prelude.{nat_lt, length, is_some, IfSome, IfNone}
 use Rattle.std.specs.Option.{option_map, option_map_or, option_and_then}
 use Rattle.std.proofs.lemmas.Bool.{cond-true, cond-false}
@@ -77,7 +77,7 @@ sits_somewhere moment p own none = at p.running refl
     at None r = stands_somewhere p own r
     at (Some t) r =
         let seat : ◌≡◌ {A = Option (Agent × Source)} None (Some (agent_awake p, handed_event p.wait p.events t))
-            = sym none ∙ woken_seat_of moment p ∙ ap (λ (o : Option Source). option_map {U = Agent × Source} (λ s. (agent_awake p, s)) (option_map (handed_event p.wait p.events) o)) r
+        = sym none ∙ woken_seat_of moment p ∙ ap (λ (o : Option Source). option_map {U = Agent × Source} (λ s. (agent_awake p, s)) (option_map (handed_event p.wait p.events) o)) r
         in
         cc
 
@@ -114,8 +114,8 @@ some_lent party pid w b epoch most s o claim on turns is some = at (woken_seat p
         let state : s ≡ x.1 = ap (λ (q : Option (Source × ℕ)). option_map_or (λ t. t.0) q s) e in
         let few : most ≡ loan_most w x.0 x.1 = ap (λ (q : Option (Source × ℕ)). option_map_or (λ t. t.1) q most) e in
         let loan : ◌≡◌ {A = Loan} (record { party = party; pid = pid; epoch = epoch; most = most; phase = fresh s }) (loan_of party pid w (fresh x.1) x)
-            = ap {B = Loan} (λ (n : ℕ). record { party = party; pid = pid; epoch = n; most = most; phase = fresh s }) turns
-            ∙ ap {B = Loan} (λ (n : ℕ). record { party = party; pid = pid; epoch = w.live.board.turns; most = n; phase = fresh s }) few
-            ∙ ap {B = Loan} (λ (t : Source). record { party = party; pid = pid; epoch = w.live.board.turns; most = loan_most w x.0 x.1; phase = fresh t }) state
+        = ap {B = Loan} (λ (n : ℕ). record { party = party; pid = pid; epoch = n; most = most; phase = fresh s }) turns
+        ∙ ap {B = Loan} (λ (n : ℕ). record { party = party; pid = pid; epoch = w.live.board.turns; most = n; phase = fresh s }) few
+        ∙ ap {B = Loan} (λ (t : Source). record { party = party; pid = pid; epoch = w.live.board.turns; most = loan_most w x.0 x.1; phase = fresh t }) state
         in
         (sym claim ∙ on, (x, sits, loan))

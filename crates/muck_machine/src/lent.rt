@@ -78,7 +78,10 @@ impl Lent {
         ensures none { IfNone result ((stint : Stint) → self.phase ≡ ran stint → 0 < self.most → (self.epoch == turns && nat_lt turns turns_most) ≡ false) }
     {
         let Lent {
-            epoch, most, step, ..
+            epoch,
+            most,
+            step,
+            ..
         } = self;
         match step {
             Step::Ran(stint) if epoch == turns && turns < u64::MAX && most > 0 => Some(stint),
