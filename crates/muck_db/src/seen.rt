@@ -1,5 +1,5 @@
 // What matching and locks read of the objects.
-ghost use Rattle.std.specs.Prelude.{◌≡◌, ◌∷◌, None, IfOk, bytes_eq};
+ghost use Rattle.std.specs.Prelude.{◌≡◌, ◌++◌, None, IfOk, bytes_eq, codes};
 ghost use Rattle.std.specs.Fmt.{signed_decimal};
 ghost use Rattle.muck_model.specs.Bytes.{text_fault};
 ghost use Rattle.muck_model.specs.locks.Kept.{IsStorable};
@@ -33,14 +33,11 @@ fn number_line(alloc: Global, number: i32) -> Result<Line, NoMemory>
 }
 
 // The number of an object behind `#`, as a text.
-fn object_line(alloc: Global, d: Dbref) -> Result<Line, NoMemory>
-    ensures { IfOk result (λ text. text ≡ 35 ∷ signed_decimal d.0) }
+fn object_line(alloc: Global, number: i32) -> Result<Line, NoMemory>
+    ensures { IfOk result (λ text. text ≡ codes "#" ++ signed_decimal number) }
 {
-    let mut buffer = Buffer::new();
-    let mut text = Vec::new(alloc);
-    text.push(b'#')?;
-    text.extend_from_slice(number_text(d.0, &mut buffer))?;
-    Ok(Line::of_text_vec(text))
+    let text = format!(in alloc; "#{number}")?;
+    Ok(Line::of_text_vec(text.into_bytes()))
 }
 
 // A lock as it is written.
@@ -63,7 +60,7 @@ pub fn value_text(alloc: Global, value: &PropValue) -> Result<Line, NoMemory>
     match value {
         PropValue::Text(text) => text.copy(alloc),
         PropValue::Number(number) => number_line(alloc, *number),
-        PropValue::Ref(d) => object_line(alloc, *d),
+        PropValue::Ref(d) => object_line(alloc, d.0),
         PropValue::Key(lock) => lock_line(alloc, lock.get()),
     }
 }
