@@ -1,5 +1,5 @@
 // Whose locks open, and what messages and locks show.
-ghost use Rattle.std.specs.Prelude.{◌≡◌, false, IfOk, IfSome};
+ghost use Rattle.std.specs.Prelude.{◌≡◌, false, codes, IfOk, IfSome};
 ghost use Rattle.std.specs.Option.{option_copied, option_map_or};
 ghost use Rattle.muck_prop.specs.Store.{IsSpellable, kept_text};
 ghost use Rattle.muck_lock.specs.Answers.{text_opens};
@@ -58,18 +58,24 @@ pub fn opens_at(db: &Db, x: Dbref, d: Dbref) -> bool
     }
 }
 
+// What is shown where there is no lock.
+fn unlocked(alloc: Global) -> Result<Line, NoMemory>
+    ensures { IfOk result (λ text. text ≡ codes "*UNLOCKED*") }
+{
+    Line::of_text(alloc, b"*UNLOCKED*")
+}
+
 /// The lock of an object, as it is shown.
 #[tactic(auto, unfolding(spec_live::specs::Worth::lock_text))]
 pub fn lock_text(alloc: Global, db: &Db, d: Dbref) -> Result<Line, NoMemory>
     ensures { IfOk result (λ text. text ≡ lock_text d db.now) }
 {
-    let kept = match db.get(d) {
-        Some(object) => kept_lock(db.paths(), object),
-        None => None,
-    };
-    match kept {
-        Some(value) => value_text(alloc, value),
-        None => Line::of_text(alloc, b"*UNLOCKED*"),
+    match db.get(d) {
+        Some(object) => match kept_lock(db.paths(), object) {
+            Some(value) => value_text(alloc, value),
+            None => unlocked(alloc),
+        },
+        None => unlocked(alloc),
     }
 }
 
